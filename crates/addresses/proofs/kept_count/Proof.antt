@@ -1,0 +1,96 @@
+-- `addresses::kept_count` meets its contract. The loop's invariant: the count so far, with those kept of the addresses that are left,
+-- is the whole count. Assumes nothing.
+use borrow.Author.Tests.{not-true, not-false}
+use native.Mathlib.Omega.{arith}
+use mathlib.Core.Path.{_≡_, ap}
+use mathlib.Core.Bool.{true, false}
+use Prim.Native.Nat.{_+_, _-_, _≤_}
+use lib.ListN.{length, drop}
+use Rattle.addresses.specs.Addresses.{listOf, keptOf}
+use Rattle.addresses.specs.AddressesLaws.{wide-some, part-wide, part-tested, kept-drop, kept-keep, kept-end}
+use Rattle.addresses.proofs.kept_count.Statement.{statement}
+use Rattle.addresses.proofs.kept_count.Tie as tie
+
+abbrev Inv-loop : tie.InvT-loop
+Inv-loop w s n₀ at₀ n at = (at ≤ length s) × (n ≤ at) × (n + length (keptOf w (listOf w (drop at s))) ≡ length (keptOf w (listOf w s)))
+
+abbrev μ-loop : tie.MeasureT-loop
+μ-loop w s n₀ at₀ n at = length s - at
+
+loop-holds : tie.Need-loop-holds Inv-loop μ-loop
+loop-holds c = (omega arith, omega arith, omega arith)
+
+sub-loop : tie.Need-sub-loop Inv-loop μ-loop
+sub-loop c = omega arith
+
+add-next : tie.Need-add-next Inv-loop μ-loop
+add-next c = omega arith
+
+sub-dropped : tie.Need-sub-dropped Inv-loop μ-loop
+sub-dropped c = omega arith
+
+part-dropped-start : tie.Need-part-dropped-start Inv-loop μ-loop
+part-dropped-start c = omega arith
+
+part-dropped-end : tie.Need-part-dropped-end Inv-loop μ-loop
+part-dropped-end c = omega arith
+
+dropped-requires : tie.Need-dropped-requires Inv-loop μ-loop
+dropped-requires c κs =
+    let at-loop = c .before .before in
+    let wide = at-loop .before .before .pre in
+    (wide, part-wide _ _ (at-loop .loop .at) (wide-some wide) (c .before .loop-test .taken))
+
+add-n : tie.Need-add-n Inv-loop μ-loop
+add-n c = omega arith
+
+loop-less : tie.Need-loop-less Inv-loop μ-loop
+loop-less c = omega arith
+
+loop-again : tie.Need-loop-again Inv-loop μ-loop
+loop-again c =
+    let in-loop = c .before .before .before in
+    let at-loop = in-loop .before in
+    let some = wide-some (at-loop .before .before .pre) in
+    let h = in-loop .loop-test .taken in
+    let stays : c .before .dropped .result ≡ false = search not-true in
+    let kept = kept-keep _ _ (at-loop .loop .at) some h (part-tested _ _ (at-loop .loop .at) some h (c .before .dropped .ensures) stays) in
+    (omega arith, omega arith, omega (arith, ap length kept))
+
+loop-less-2 : tie.Need-loop-less-2 Inv-loop μ-loop
+loop-less-2 c = omega arith
+
+loop-again-2 : tie.Need-loop-again-2 Inv-loop μ-loop
+loop-again-2 c =
+    let in-loop = c .before .before .before in
+    let at-loop = in-loop .before in
+    let some = wide-some (at-loop .before .before .pre) in
+    let h = in-loop .loop-test .taken in
+    let goes : c .before .dropped .result ≡ true = search not-false in
+    let kept = kept-drop _ _ (at-loop .loop .at) some h (part-tested _ _ (at-loop .loop .at) some h (c .before .dropped .ensures) goes) in
+    (omega arith, omega arith, omega (arith, ap length kept))
+
+returns : tie.Need-returns Inv-loop μ-loop
+returns c =
+    let a = c .before .before .before .args in
+    (omega (arith, ap length (kept-end (a .w) (a .s .now) (c .before .loop .at) (c .loop-test .left))), omega arith)
+
+pub kept-count-spec : {M : Type 1} → statement M
+kept-count-spec =
+    tie.close
+    (tie.spec
+    Inv-loop
+    μ-loop
+    loop-holds
+    sub-loop
+    add-next
+    sub-dropped
+    part-dropped-start
+    part-dropped-end
+    dropped-requires
+    add-n
+    loop-less
+    loop-again
+    loop-less-2
+    loop-again-2
+    returns)

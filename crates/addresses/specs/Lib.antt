@@ -1,0 +1,5 @@
+pub mod Addresses
+pub mod AddressesLaws
+pub mod Ranges
+pub mod RangesLaws
+pub mod Examples

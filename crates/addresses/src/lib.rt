@@ -1,0 +1,101 @@
+// Address lists: which addresses are unusable, which are kept in order, how many those are, and whether any is to be dropped
+// (document 01, "Addresses"). Multicast and host loopback addresses are dropped when read and nowhere else: only reading calls
+// `put_kept`; the writer asks `any_unusable` and refuses. Everything is over the width of an address, 4 or 16 octets.
+ghost use mathlib.Core.Path.{_≡_};
+ghost use Prim.Native.Nat.{_+_, _≤_};
+ghost use lib.ListN.{length};
+ghost use Rattle.octets.specs.Over.{Wrote};
+ghost use Rattle.octets.specs.Lists.{flat};
+ghost use Rattle.addresses.specs.Addresses.{Width, unusable, unusable4, unusable16, listOf, keptOf, anyOf};
+
+// 224.0.0.0/4 (RFC 5771 §3) and 127.0.0.0/8 (RFC 1122 §3.2.1.3), by the first octet.
+fn unusable4(first: u8) -> bool
+    ensures { λ r. ⌜ r ≡ unusable4 first ⌝ }
+{
+    if first == 127 {
+        return true;
+    }
+    if first < 224 {
+        return false;
+    }
+    first < 240
+}
+
+// ff00::/8 and ::1 (RFC 4291 §2.4).
+fn unusable16(a: &[u8]) -> bool
+    requires { ⌜ length (now a) ≡ 16 ⌝ }
+    ensures { λ r. ⌜ r ≡ unusable16 (now (a .entry)) ⌝ }
+{
+    if a[0] == 255 {
+        return true;
+    }
+    if a[15] == 1 {
+        return octets::zeros(&a[..15]);
+    }
+    false
+}
+
+// Whether an address of `w` octets is dropped when read.
+fn dropped(w: usize, a: &[u8]) -> bool
+    requires { ⌜ Width w ⌝ }
+    requires { ⌜ length (now a) ≡ w ⌝ }
+    ensures { λ r. ⌜ r ≡ unusable w (now (a .entry)) ⌝ }
+{
+    if w == 4 {
+        return unusable4(a[0]);
+    }
+    unusable16(a)
+}
+
+// Whether the list holds an address that reading would drop.
+pub fn any_unusable(w: usize, s: &[u8]) -> bool
+    requires { ⌜ Width w ⌝ }
+    ensures { λ r. ⌜ r ≡ anyOf w (listOf w (now (s .entry))) ⌝ }
+{
+    let mut at: usize = 0;
+    while w <= s.len() - at {
+        let next = at + w;
+        if dropped(w, &s[at..next]) {
+            return true;
+        }
+        at = next;
+    }
+    false
+}
+
+// How many addresses are kept.
+pub fn kept_count(w: usize, s: &[u8]) -> usize
+    requires { ⌜ Width w ⌝ }
+    ensures { λ r. ⌜ r ≡ length (keptOf w (listOf w (now (s .entry)))) ⌝ }
+    ensures { λ r. ⌜ r ≤ length (now (s .entry)) ⌝ }
+{
+    let mut n: usize = 0;
+    let mut at: usize = 0;
+    while w <= s.len() - at {
+        let next = at + w;
+        if !dropped(w, &s[at..next]) {
+            n += 1;
+        }
+        at = next;
+    }
+    n
+}
+
+// Writes the addresses that are kept at `o`, in their order, and returns the index after them.
+pub fn put_kept(out: &mut [u8], o: usize, w: usize, s: &[u8]) -> usize
+    requires { ⌜ Width w ⌝ }
+    requires { ⌜ o + length (flat (keptOf w (listOf w (now s)))) ≤ length (now out) ⌝ }
+    ensures { λ r. ⌜ Wrote o (flat (keptOf w (listOf w (now (s .entry))))) (now (out .entry)) r (now (out .exit)) ⌝ }
+{
+    let mut next_out = o;
+    let mut at: usize = 0;
+    while w <= s.len() - at {
+        let next = at + w;
+        let a = &s[at..next];
+        if !dropped(w, a) {
+            next_out = octets::copy(out, next_out, a);
+        }
+        at = next;
+    }
+    next_out
+}

@@ -1,0 +1,2 @@
+pub mod Carriers
+pub mod CarriersLaws

@@ -1,0 +1,91 @@
+-- How an area is framed (01, Area walk), once over the carrier. Assumes nothing: these are definitions.
+use Prim.Native.Nat.{ℕ, zero, suc, _+_, _-_, _*_, _%_}
+use mathlib.Core.Bool.{Bool, true, false, cond}
+use mathlib.Core.List.{List, [], _∷_, _++_}
+use lib.ListN.{length, getD, take, drop}
+use lib.Dec.{ltb, leb, eqb}
+use Rattle.octets.specs.Numbers.{at16}
+use Rattle.octets.specs.Lists.{flat}
+use Rattle.carriers.specs.declared.Carrier.{Carrier}
+use Rattle.carriers.specs.declared.Carrier.the-variants.{Dhcp4, Dhcp6, Router, Ike4, Ike6}
+use Rattle.carriers.specs.Carriers.{codeOf, headerOf, octets}
+use Rattle.frames.specs.declared.Head.{Head}
+use Rattle.frames.specs.declared.Head.the-variants.{Bad, End, Option}
+
+-- ---- one header
+
+-- the code in the header that stands first; in IKEv2 without the reserved bit (RFC 7296 §3.15.1)
+abbrev pub codeIn : Carrier → List ℕ → ℕ
+codeIn Dhcp4 s = getD s 0 0
+codeIn Dhcp6 s = at16 s 0
+codeIn Router s = getD s 0 0
+codeIn Ike4 s = getD s 0 0 % 128 * 256 + getD s 1 0
+codeIn Ike6 s = getD s 0 0 % 128 * 256 + getD s 1 0
+
+-- how many octets the option that stands first says that it has, its header counted; in carrier 3 in units of eight, the header included
+abbrev pub sizeIn : Carrier → List ℕ → ℕ
+sizeIn Dhcp4 s = 2 + getD s 1 0
+sizeIn Dhcp6 s = 4 + at16 s 2
+sizeIn Router s = 8 * getD s 1 0
+sizeIn Ike4 s = 4 + at16 s 2
+sizeIn Ike6 s = 4 + at16 s 2
+
+-- a header that runs past the end is no header, and neither is one that says a length of 0 (carrier 3)
+abbrev pub headIn : Carrier → List ℕ → Head
+headIn c s =
+    cond (ltb (length s) (headerOf c)) Bad
+    (cond (eqb (sizeIn c s) 0) Bad
+    (Option (eqb (codeIn c s) (codeOf c)) (octets (sizeIn c s))))
+
+-- in carrier 1, code 0 is one octet of padding, and code 255 ends the area (RFC 2132 §3.1, §3.2)
+abbrev pub firstOf : Carrier → List ℕ → Head
+firstOf Dhcp4 s =
+    cond (eqb (getD s 0 0) 0) (Option false (octets 1))
+    (cond (eqb (getD s 0 0) 255) End (headIn Dhcp4 s))
+firstOf Dhcp6 s = headIn Dhcp6 s
+firstOf Router s = headIn Router s
+firstOf Ike4 s = headIn Ike4 s
+firstOf Ike6 s = headIn Ike6 s
+
+-- ---- an area
+
+-- the bodies of the carrier's own options, in order; or that the area cannot be framed
+pub data Framed : Type 0 where
+  fault : Framed
+  framed : List (List ℕ) → Framed
+
+-- an option's body in front of what follows, where the option is the carrier's own; others are skipped
+abbrev pub onto : Bool → List ℕ → Framed → Framed
+onto own b fault = fault
+onto true b (framed bs) = framed (b ∷ bs)
+onto false b (framed bs) = framed bs
+
+-- `s` begins with the header; `go k` frames what stands k octets past its first octet. What follows an end is ignored
+abbrev pub after : Carrier → List ℕ → Head → (ℕ → Framed) → Framed
+after c s Bad go = fault
+after c s End go = framed []
+after c s (Option own size) go = onto own (drop (headerOf c) (take (size .0) s)) (go (size .0 - 1))
+
+-- the area with its first k octets still to be skipped
+unfoldable pub frameFrom : Carrier → ℕ → List ℕ → Framed
+frameFrom c zero [] = framed []
+frameFrom c (suc k) [] = fault
+frameFrom c zero (x ∷ xs) = after c (x ∷ xs) (firstOf c (x ∷ xs)) (λ k. frameFrom c k xs)
+frameFrom c (suc k) (x ∷ xs) = frameFrom c k xs
+
+abbrev pub frame : Carrier → List ℕ → Framed
+frame c s = frameFrom c 0 s
+
+-- ---- blocks
+
+-- the blocks of a framed area: each own option is one; in carrier 1 the data of all of them, joined, are one (RFC 3396)
+abbrev pub joined : List (List ℕ) → List (List ℕ)
+joined [] = []
+joined (b ∷ bs) = flat (b ∷ bs) ∷ []
+
+abbrev pub blocksOf : Carrier → List (List ℕ) → List (List ℕ)
+blocksOf Dhcp4 bs = joined bs
+blocksOf Dhcp6 bs = bs
+blocksOf Router bs = bs
+blocksOf Ike4 bs = bs
+blocksOf Ike6 bs = bs

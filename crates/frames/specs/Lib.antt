@@ -1,0 +1,13 @@
+pub mod Frame
+pub mod Step
+pub mod Gather
+pub mod HeadLaws
+pub mod Laws
+pub mod Walk
+pub mod WalkLaws
+pub mod GatherLaws
+pub mod BodyLaws
+pub mod Emit
+pub mod EmitLaws
+pub mod Cutting
+pub mod Examples

@@ -1,0 +1,42 @@
+-- How a walk begins, goes on and ends: the invariant of a loop over `next_block`. Assumes nothing.
+use mathlib.Core.Path.{_≡_, refl, sym, ap, _∙_}
+use mathlib.Core.Bool.{Bool, true, false}
+use mathlib.Core.List.{List, [], _∷_, _++_, append-nil}
+use Prim.Native.Nat.{ℕ, _≤_}
+use native.Mathlib.Omega.{arith}
+use lib.ListN.{length, drop}
+use lib.Seq.{append-snoc}
+use Rattle.carriers.specs.declared.Carrier.{Carrier}
+use Rattle.frames.specs.declared.Step.{Step}
+use Rattle.frames.specs.Frame.{Framed, fault, framed, onto, frame}
+use Rattle.frames.specs.Step.{part, stepAt}
+use Rattle.frames.specs.Walk.{prepend, Walked}
+use Rattle.frames.specs.Laws.{step-end, step-fault, step-skipped, step-block}
+
+pub prepend-none : (f : Framed) → prepend [] f ≡ f
+prepend-none fault = refl
+prepend-none (framed cs) = refl
+
+-- an own option's body joins the bodies before it
+pub prepend-onto : (bs : List (List ℕ)) (b : List ℕ) (f : Framed) → prepend bs (onto true b f) ≡ prepend (bs ++ (b ∷ [])) f
+prepend-onto bs b fault = refl
+prepend-onto bs b (framed cs) = ap framed (sym (append-snoc bs b cs))
+
+module _ (c : Carrier) (area : List ℕ) where
+  pub walked-start : Walked c area 0 []
+  walked-start = record { within = omega arith; frames = sym (prepend-none (frame c area)) }
+
+  module _ {at : ℕ} {bs : List (List ℕ)} (w : Walked c area at bs) where
+    pub walked-block : {start end : ℕ} → stepAt c area at ≡ Step.Block start end → Walked c area end (bs ++ (part start end area ∷ []))
+    walked-block {start} {end} e =
+        let m = step-block c area at e in
+        record { within = m .2; frames = w .frames ∙ ap (prepend bs) (m .3) ∙ prepend-onto bs (part start end area) (frame c (drop end area)) }
+
+    pub walked-skipped : {end : ℕ} → stepAt c area at ≡ Step.Skipped end → Walked c area end bs
+    walked-skipped e = let m = step-skipped c area at e in record { within = m .1; frames = w .frames ∙ ap (prepend bs) (m .2) }
+
+    pub walked-end : stepAt c area at ≡ Step.End → frame c area ≡ framed bs
+    walked-end e = w .frames ∙ ap (prepend bs) (step-end c area at e) ∙ ap framed (append-nil bs)
+
+    pub walked-fault : stepAt c area at ≡ Step.Fault → frame c area ≡ fault
+    walked-fault e = w .frames ∙ ap (prepend bs) (step-fault c area at e (w .within))

@@ -1,0 +1,14 @@
+pub mod Names
+pub mod Wire
+pub mod Laws
+pub mod Outcomes
+pub mod Cases
+pub mod Sound
+pub mod Complete
+pub mod Place
+pub mod Unique
+pub mod Exact
+pub mod Right
+pub mod Labels
+pub mod Held
+pub mod Examples

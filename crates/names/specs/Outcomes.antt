@@ -1,0 +1,115 @@
+-- What the walk answers at a place of the first n octets of a buffer, one lemma for each way through a step, in the form in which the
+-- code's returns ask it. Assumes nothing.
+use mathlib.Core.Path.{_≡_, sym, ap, _∙_}
+use mathlib.Core.List.{List}
+use mathlib.Core.Bool.{Bool, true, false, not}
+use Prim.Native.Nat.{ℕ, _+_, _-_, _≤_, _<_}
+use native.Mathlib.Omega.{arith}
+use lib.Dec.{ltb, eqb}
+use lib.ListN.{length, getD, take, drop}
+use lib.Seq.{length-take-le, getD-take}
+use borrow.Author.Tests.{ltb-true}
+use Rattle.names.specs.Names.{alnum}
+use Rattle.names.specs.Wire.{State, letter, hyphen, first, stop, root, go, step, ended, hyphenFits, labelFits, past, placed, answerIn}
+use Rattle.names.specs.Cases.{by-both}
+use Rattle.names.specs.Laws.{walk-end, walk-stop, walk-go, walk-root, ended-good, ended-bad, inside-letter, inside-hyphen, inside-other, first-letter, first-other, in-label, at-length, length-empty, length-root, length-unfit, length-go}
+
+module _ (b : List ℕ) (n : ℕ) (fits : n ≤ length b) (at : ℕ) (st : State) where
+  held : length (take n b) ≡ n
+  held = length-take-le n b fits
+
+  pub cut-short : n ≤ at → at ≡ answerIn b n st at
+  unfolding answerIn
+  cut-short h = let e = held in sym (ap placed (walk-end (take n b) at st (omega arith)))
+
+  module _ (h : at < n) where
+    in-held : at < length (take n b)
+    in-held = let e = held in omega arith
+
+    same : getD (take n b) at 0 ≡ getD b at 0
+    same = getD-take n b at 0 h
+
+    stops : step st at (getD b at 0) ≡ stop → at ≡ answerIn b n st at
+    unfolding answerIn
+    stops e = sym (ap placed (walk-stop (take n b) at st in-held (rw same e)))
+
+    goes : {st′ : State} → step st at (getD b at 0) ≡ go st′ → answerIn b n st at ≡ answerIn b n st′ (at + 1)
+    unfolding answerIn
+    goes e = ap placed (walk-go (take n b) at st in-held (rw same e))
+
+    roots : step st at (getD b at 0) ≡ root → answerIn b n st at ≡ placed (ended (at + 1) (drop (at + 1) (take n b)))
+    unfolding answerIn
+    roots e = ap placed (walk-root (take n b) at st in-held (rw same e))
+
+module _ (b : List ℕ) (n : ℕ) (fits : n ≤ length b) (at left : ℕ) (h : at < n) where
+  abbrev x : ℕ
+  x = getD b at 0
+
+  -- after a hyphen
+  pub hyphen-letter : {r : ℕ} → alnum x ≡ true → r ≡ answerIn b n (letter (left - 1)) (at + 1) → r ≡ answerIn b n (hyphen left) at
+  hyphen-letter e g = g ∙ sym (goes b n fits at (hyphen left) h (inside-letter left x e))
+
+  pub hyphen-hyphen : {r : ℕ} → alnum x ≡ false → hyphenFits left x ≡ true → r ≡ answerIn b n (hyphen (left - 1)) (at + 1) → r ≡ answerIn b n (hyphen left) at
+  hyphen-hyphen e q g = g ∙ sym (goes b n fits at (hyphen left) h (inside-hyphen left x e q))
+
+  pub hyphen-other : alnum x ≡ false → hyphenFits left x ≡ false → at ≡ answerIn b n (hyphen left) at
+  hyphen-other e q = stops b n fits at (hyphen left) h (inside-other left x e q)
+
+  -- after a letter or a digit, in a label
+  pub letter-letter : {r : ℕ} → (left ≡ 0 → ⊥) → alnum x ≡ true → r ≡ answerIn b n (letter (left - 1)) (at + 1) → r ≡ answerIn b n (letter left) at
+  letter-letter z e g = g ∙ sym (goes b n fits at (letter left) h (in-label left at x z ∙ inside-letter left x e))
+
+  pub letter-hyphen : {r : ℕ} → (left ≡ 0 → ⊥) → alnum x ≡ false → hyphenFits left x ≡ true → r ≡ answerIn b n (hyphen (left - 1)) (at + 1) → r ≡ answerIn b n (letter left) at
+  letter-hyphen z e q g = g ∙ sym (goes b n fits at (letter left) h (in-label left at x z ∙ inside-hyphen left x e q))
+
+  pub letter-other : (left ≡ 0 → ⊥) → alnum x ≡ false → hyphenFits left x ≡ false → at ≡ answerIn b n (letter left) at
+  letter-other z e q = stops b n fits at (letter left) h (in-label left at x z ∙ inside-other left x e q)
+
+  -- at the root octet
+  pub root-first : left ≡ 0 → x ≡ 0 → at ≡ 0 → at ≡ answerIn b n (letter left) at
+  root-first z e f = stops b n fits at (letter left) h (at-length left at x z ∙ length-empty at x e f)
+
+  rooted : left ≡ 0 → x ≡ 0 → (at ≡ 0 → ⊥) → answerIn b n (letter left) at ≡ placed (ended (at + 1) (drop (at + 1) (take n b)))
+  rooted z e f = roots b n fits at (letter left) h (at-length left at x z ∙ length-root at x e f)
+
+  pub root-more : left ≡ 0 → x ≡ 0 → (at ≡ 0 → ⊥) → at + 1 < n → at + 1 ≡ answerIn b n (letter left) at
+  root-more z e f m = let l = length-take-le n b fits in sym (rooted z e f ∙ ap placed (ended-bad (take n b) (at + 1) (omega arith)))
+
+  pub root-last : left ≡ 0 → x ≡ 0 → (at ≡ 0 → ⊥) → n ≤ at + 1 → past ≡ answerIn b n (letter left) at
+  root-last z e f m = let l = length-take-le n b fits in sym (rooted z e f ∙ ap placed (ended-good (take n b) (at + 1) (omega arith)))
+
+  -- at a length octet, which the code holds as the number `size`
+  module _ (size : ℕ) (w : size ≡ x) (z : left ≡ 0) (e : x ≡ 0 → ⊥) where
+    pub label-unfit : labelFits at size ≡ false → at ≡ answerIn b n (letter left) at
+    label-unfit f = stops b n fits at (letter left) h (at-length left at x z ∙ length-unfit at x e (rw w at f))
+
+    -- past it, at a label's first octet
+    module _ (f : labelFits at size ≡ true) where
+      opens : answerIn b n (letter left) at ≡ answerIn b n (first (size - 1)) (at + 1)
+      opens = goes b n fits at (letter left) h (at-length left at x z ∙ length-go at x e (rw w at f) ∙ rw w)
+
+      pub cut-at-first : n ≤ at + 1 → at + 1 ≡ answerIn b n (letter left) at
+      cut-at-first m = cut-short b n fits (at + 1) (first (size - 1)) m ∙ sym opens
+
+      pub label-opens : {r : ℕ} → at + 1 < n → alnum (getD b (at + 1) 0) ≡ true → r ≡ answerIn b n (letter (size - 1)) (at + 1 + 1) → r ≡ answerIn b n (letter left) at
+      label-opens m a g = g ∙ sym (opens ∙ goes b n fits (at + 1) (first (size - 1)) m (first-letter (size - 1) (at + 1) (getD b (at + 1) 0) a))
+
+      pub bad-first-octet : at + 1 < n → alnum (getD b (at + 1) 0) ≡ false → at + 1 ≡ answerIn b n (letter left) at
+      bad-first-octet m a = stops b n fits (at + 1) (first (size - 1)) m (first-other (size - 1) (at + 1) (getD b (at + 1) 0) a) ∙ sym opens
+
+-- what a call told of a flag, and what a test told of the same flag
+pub told : {a b v : Bool} → a ≡ b → a ≡ v → b ≡ v
+told e f = sym e ∙ f
+
+pub told-not : {a b : Bool} → a ≡ b → not a ≡ true → b ≡ false
+told-not {a = true} e f = sym e ∙ ap not f
+told-not {a = false} e f = sym e
+
+pub told-not-not : {a b : Bool} → a ≡ b → not a ≡ false → b ≡ true
+told-not-not {a = true} e f = sym e
+told-not-not {a = false} e f = sym e ∙ ap not f
+
+-- a hyphen that fits is not the last octet of its label
+pub hyphen-more : {b : Bool} (left x : ℕ) → b ≡ hyphenFits left x → b ≡ true → 1 ≤ left - 1
+hyphen-more left x e f =
+    by-both (eqb x 45) (ltb 1 left) (λ c. c ≡ true → 1 ≤ left - 1) (λ _ l _. let h = ltb-true 1 left l in omega arith) (λ z. let n : _≡_ {A = ℕ} 0 1 = cc in absurd (omega arith)) (told e f)

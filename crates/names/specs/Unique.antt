@@ -1,0 +1,23 @@
+-- There is one first bad place, whatever is acceptable. Assumes nothing.
+use mathlib.Core.Path.{_≡_, sym, ap, _∙_}
+use mathlib.Core.List.{List, _++_, append-assoc}
+use Prim.Native.Nat.{ℕ, _+_, _<_}
+use native.Mathlib.Omega.{arith}
+use lib.ListN.{take, drop, take-append-drop}
+use lib.Seq.{take-take}
+use Rattle.names.specs.Names.{FirstBad}
+
+-- no first bad place lies before another
+not-before : {Acceptable : List ℕ → Type 0} (s : List ℕ) (p q : ℕ) → FirstBad Acceptable s p → FirstBad Acceptable s q → p < q → ⊥
+not-before s p q a b h =
+    let w = b .within in
+    let t = b .goes-on .0 in
+    let k : take (p + 1) s ++ drop (p + 1) (take q s) ≡ take q s = (ap (λ (l : List ℕ). l ++ drop (p + 1) (take q s)) (sym (take-take (p + 1) q s (omega arith)))) ∙ take-append-drop (p + 1) (take q s) in
+    let j : take (p + 1) s ++ (drop (p + 1) (take q s) ++ t) ≡ take q s ++ t = sym (append-assoc (take (p + 1) s) (drop (p + 1) (take q s)) t) ∙ ap (λ (l : List ℕ). l ++ t) k in
+    a .halts (omega arith) (drop (p + 1) (take q s) ++ t) (rw j (b .goes-on .1))
+
+pub one-place : {Acceptable : List ℕ → Type 0} (s : List ℕ) (p q : ℕ) → FirstBad Acceptable s p → FirstBad Acceptable s q → p ≡ q
+one-place s p q a b =
+    let f : p < q → ⊥ = not-before s p q a b in
+    let g : q < p → ⊥ = not-before s q p b a in
+    omega arith

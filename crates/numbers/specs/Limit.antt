@@ -1,0 +1,22 @@
+-- The limits of document 01 ("The record sheet", house rules). Assumes nothing: these are definitions.
+use Prim.Native.Nat.{ℕ}
+
+-- octets of input
+abbrev pub input : ℕ
+input = 40960
+
+-- records of a sheet
+abbrev pub records : ℕ
+records = 16
+
+-- addresses of a record
+abbrev pub addresses : ℕ
+addresses = 63
+
+-- octets of a record's parameters
+abbrev pub parameters : ℕ
+parameters = 1024
+
+-- octets of a carrier 3 record when rounded: 255 units of 8
+abbrev pub option : ℕ
+option = 2040

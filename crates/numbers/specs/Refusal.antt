@@ -1,0 +1,42 @@
+-- What a call answers instead of a result (01, "Numbers given back"): the same names as in src/. Assumes nothing: these are definitions.
+use Prim.Native.Nat.{ℕ}
+
+-- reading: the carrier number is not 1 to 5
+abbrev pub carrier : ℕ
+carrier = 1
+
+-- the input is longer than 40,960 octets
+abbrev pub input : ℕ
+input = 2
+
+-- area framing
+abbrev pub framing : ℕ
+framing = 3
+
+-- more than 16 records
+abbrev pub records : ℕ
+records = 4
+
+-- the output is shorter than the result
+abbrev pub room : ℕ
+room = 5
+
+-- a sheet shorter than 7 octets, or not RSV
+abbrev pub sheet : ℕ
+sheet = 40
+
+-- a sheet's version is not 1
+abbrev pub version : ℕ
+version = 41
+
+-- a sheet's carrier is not 1 to 5
+abbrev pub sheetCarrier : ℕ
+sheetCarrier = 42
+
+-- a sheet does not tile, and what goes with it
+abbrev pub tiling : ℕ
+tiling = 43
+
+-- a carrier 3 record above 2,040 octets
+abbrev pub large : ℕ
+large = 44

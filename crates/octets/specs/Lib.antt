@@ -1,0 +1,10 @@
+pub mod Lists
+pub mod ListsLaws
+pub mod Numbers
+pub mod NumbersLaws
+pub mod Over
+pub mod OverLaws
+pub mod Answer
+pub mod AnswerLaws
+pub mod Fields
+pub mod FieldsLaws

@@ -1,0 +1,12 @@
+-- Lists that several layers speak of. Assumes nothing: these are definitions.
+use mathlib.Core.List.{List, [], _∷_, _++_}
+
+-- P holds of each element
+abbrev pub All : {A : Type 0} → (A → Type 0) → List A → Type 0
+All P [] = Unit {0}
+All P (x ∷ xs) = P x × All P xs
+
+-- the lists one after another
+abbrev pub flat : {A : Type 0} → List (List A) → List A
+flat [] = []
+flat (l ∷ ls) = l ++ flat ls

@@ -1,0 +1,17 @@
+-- The laws of `All` and `flat`. Assumes nothing.
+use mathlib.Core.Path.{_≡_, refl, sym, ap, _∙_}
+use mathlib.Core.List.{List, [], _∷_, _++_, append-assoc}
+use Rattle.octets.specs.Lists.{All, flat}
+
+module _ {A : Type 0} where
+  pub flat-append : (ls ms : List (List A)) → flat (ls ++ ms) ≡ flat ls ++ flat ms
+  flat-append [] ms = refl
+  flat-append (l ∷ ls) ms = ap (λ (m : List A). l ++ m) (flat-append ls ms) ∙ sym (append-assoc l (flat ls) (flat ms))
+
+  pub all-append : (P : A → Type 0) (l m : List A) → All P l → All P m → All P (l ++ m)
+  all-append P [] m h k = k
+  all-append P (x ∷ xs) m h k = (h .0, all-append P xs m (h .1) k)
+
+  pub all-map : (P Q : A → Type 0) (l : List A) → ((x : A) → P x → Q x) → All P l → All Q l
+  all-map P Q [] f h = tt
+  all-map P Q (x ∷ xs) f h = (f x (h .0), all-map P Q xs f (h .1))

@@ -1,0 +1,145 @@
+-- The laws of numbers as octets, over the width: what is written is read, and what is read is written. Assumes nothing.
+use mathlib.Core.Path.{_≡_, refl, sym, ap, _∙_}
+use mathlib.Core.Bool.{Bool, true, false, _&&_, false≢true}
+use mathlib.Core.List.{List, [], _∷_, _++_, append-assoc, append-nil}
+use Prim.Native.Nat.{ℕ, zero, suc, _+_, _*_, _/_, _%_, _^_, _≤_, _<_}
+use native.Mathlib.Nat.{div-one, div-div-eq-div-mul, mul-comm, mul-assoc, pow-suc, add-zero, zero-add, one-mul, add-suc, suc-add}
+use native.Mathlib.Numerals.{add-one}
+use native.Mathlib.Omega.{arith}
+use borrow.Author.Tests.{eqb-true, ne-eqb}
+use lib.Dec.{eqb}
+use lib.ListN.{length, getD, take, drop, length-append, drop-of-length-le}
+use lib.Seq.{append-snoc, drop-cons}
+use Rattle.octets.specs.Numbers.{be, val, valFrom, at16, at32, Bytes, zeros, allZero}
+
+pub bytes-at : (l : List ℕ) → ((i : ℕ) → getD l i 0 < 256) → Bytes l
+bytes-at [] h = tt
+bytes-at (x ∷ xs) h = (h 0, bytes-at xs (λ i. h (suc i)))
+
+pub length-be : (w v : ℕ) → length (be w v) ≡ w
+length-be zero v = refl
+length-be (suc w) v = length-append (be w (v / 256)) (v % 256 ∷ []) ∙ ap (λ (n : ℕ). n + 1) (length-be w (v / 256)) ∙ add-one w
+
+pub bytes-append : (a b : List ℕ) → Bytes a → Bytes b → Bytes (a ++ b)
+bytes-append [] b h k = k
+bytes-append (x ∷ xs) b h k = (h .0, bytes-append xs b (h .1) k)
+
+pub bytes-be : (w v : ℕ) → Bytes (be w v)
+bytes-be zero v = tt
+bytes-be (suc w) v = bytes-append (be w (v / 256)) (v % 256 ∷ []) (bytes-be w (v / 256)) (omega arith, tt)
+
+val-snoc : (a x : ℕ) (l : List ℕ) → valFrom a (l ++ (x ∷ [])) ≡ valFrom a l * 256 + x
+val-snoc a x [] = refl
+val-snoc a x (y ∷ ys) = val-snoc (a * 256 + y) x ys
+
+-- what was written is read
+pub val-be : (w v : ℕ) → v < 256 ^ w → val (be w v) ≡ v
+val-be zero v h = omega arith
+val-be (suc w) v h =
+    let e : 256 ^ suc w ≡ 256 ^ w * 256 = pow-suc 256 w in
+    let k : v / 256 < 256 ^ w = omega arith in
+    val-snoc 0 (v % 256) (be w (v / 256)) ∙ rw (val-be w (v / 256) k) (omega arith)
+
+be-from : (w a : ℕ) (l : List ℕ) → Bytes l → be (w + length l) (valFrom a l) ≡ be w a ++ l
+be-from w a [] h = rw (add-zero, append-nil)
+be-from w a (x ∷ xs) h =
+    let q : (a * 256 + x) / 256 ≡ a = omega (arith, h .0) in
+    let r : (a * 256 + x) % 256 ≡ x = omega (arith, h .0) in
+    let e : w + suc (length xs) ≡ suc w + length xs = add-suc w (length xs) ∙ sym (suc-add w (length xs)) in
+    rw e (be-from (suc w) (a * 256 + x) xs (h .1) ∙ rw (q, r) (append-snoc (be w a) x xs))
+
+-- what was read is written
+pub be-val : (l : List ℕ) → Bytes l → be (length l) (val l) ≡ l
+be-val l h = rw zero-add at (be-from 0 0 l h)
+
+-- the octets of a number's last n, after those of the rest
+pub be-add : (m n v : ℕ) → be (m + n) v ≡ be m (v / 256 ^ n) ++ be n v
+be-add m zero v = rw (add-zero, div-one, append-nil)
+be-add m (suc n) v =
+    let e : v / 256 / 256 ^ n ≡ v / 256 ^ suc n = div-div-eq-div-mul v 256 (256 ^ n) ∙ rw (pow-suc, mul-comm 256 (256 ^ n)) in
+    rw add-suc (rw (be-add m n (v / 256)) (append-assoc (be m (v / 256 / 256 ^ n)) (be n (v / 256)) (v % 256 ∷ []) ∙ rw e))
+
+-- four octets are two and two
+pub halves : (v : ℕ) → be 4 v ≡ be 2 (v / 65536) ++ be 2 (v % 65536)
+halves v =
+    let a : v / 256 / 256 / 256 ≡ v / 65536 / 256 = omega arith in
+    let b : v / 256 / 256 ≡ v / 65536 = omega arith in
+    let d : v / 256 % 256 ≡ v % 65536 / 256 % 256 = omega arith in
+    let e : v % 256 ≡ v % 65536 % 256 = omega arith in
+    cc
+
+-- ---- octets of a part
+
+pub bytes-take : (n : ℕ) (l : List ℕ) → Bytes l → Bytes (take n l)
+bytes-take zero l h = tt
+bytes-take (suc n) [] h = tt
+bytes-take (suc n) (x ∷ xs) h = (h .0, bytes-take n xs (h .1))
+
+pub bytes-drop : (n : ℕ) (l : List ℕ) → Bytes l → Bytes (drop n l)
+bytes-drop zero l h = h
+bytes-drop (suc n) [] h = tt
+bytes-drop (suc n) (x ∷ xs) h = bytes-drop n xs (h .1)
+
+pub bytes-getD : (l : List ℕ) (i : ℕ) → Bytes l → getD l i 0 < 256
+bytes-getD [] i h = omega arith
+bytes-getD (x ∷ xs) zero h = h .0
+bytes-getD (x ∷ xs) (suc i) h = bytes-getD xs i (h .1)
+
+val-small-from : (a m : ℕ) (l : List ℕ) → Bytes l → a < m → valFrom a l < m * 256 ^ length l
+val-small-from a m [] h k = omega arith
+val-small-from a m (x ∷ xs) h k =
+    let i = val-small-from (a * 256 + x) (m * 256) xs (h .1) (omega (arith, h .0)) in
+    rw (pow-suc 256 (length xs), mul-comm (256 ^ length xs) 256, ← (mul-assoc m 256 (256 ^ length xs))) i
+
+-- w octets make a number below 256 to the w
+pub val-small : (l : List ℕ) → Bytes l → val l < 256 ^ length l
+val-small l h = rw one-mul at (val-small-from 0 1 l h (omega arith))
+
+-- ---- numbers at an index
+
+-- the two octets at an index are the number of the part there
+pub at16-val : (s : List ℕ) (i : ℕ) → i + 1 < length s → at16 s i ≡ val (take 2 (drop i s))
+at16-val s i h =
+    let e : drop i s ≡ getD s i 0 ∷ drop (suc i) s = drop-cons s i 0 (omega arith) in
+    let f : drop (suc i) s ≡ getD s (suc i) 0 ∷ drop (suc (suc i)) s = drop-cons s (suc i) 0 (omega arith) in
+    rw (e, f, add-one) (omega arith)
+
+pub at32-val : (s : List ℕ) (i : ℕ) → i + 3 < length s → at32 s i ≡ val (take 4 (drop i s))
+at32-val s i h =
+    let e : drop i s ≡ getD s i 0 ∷ drop (suc i) s = drop-cons s i 0 (omega arith) in
+    let f : drop (suc i) s ≡ getD s (suc i) 0 ∷ drop (suc (suc i)) s = drop-cons s (suc i) 0 (omega arith) in
+    let g : drop (suc (suc i)) s ≡ getD s (suc (suc i)) 0 ∷ drop (suc (suc (suc i))) s = drop-cons s (suc (suc i)) 0 (omega arith) in
+    let k : drop (suc (suc (suc i))) s ≡ getD s (suc (suc (suc i))) 0 ∷ drop (suc (suc (suc (suc i)))) s = drop-cons s (suc (suc (suc i))) 0 (omega arith) in
+    let p : i + 1 ≡ suc i = omega arith in
+    let q : i + 2 ≡ suc (suc i) = omega arith in
+    let r : i + 2 + 1 ≡ suc (suc (suc i)) = omega arith in
+    rw (e, f, g, k, p, r, q) (omega arith)
+
+-- ---- zeros
+
+-- one octet more, a nonzero octet, and none left: the turns of a loop over the octets
+pub zero-turn : (l : List ℕ) (i : ℕ) → i < length l → getD l i 0 ≡ 0 → allZero (drop (i + 1) l) ≡ allZero (drop i l)
+unfolding allZero
+zero-turn l i h e = rw (add-one, drop-cons l i 0, e)
+
+pub zero-not : (l : List ℕ) (i : ℕ) → i < length l → (getD l i 0 ≡ 0 → ⊥) → false ≡ allZero (drop i l)
+unfolding allZero
+zero-not l i h n = rw (drop-cons l i 0, ne-eqb (getD l i 0) 0 n)
+
+pub zero-end : (l : List ℕ) (i : ℕ) → length l ≤ i → true ≡ allZero (drop i l)
+unfolding allZero
+zero-end l i h = rw (drop-of-length-le l h)
+
+pub zeros-zero : (n : ℕ) → allZero (zeros n) ≡ true
+unfolding allZero
+zeros-zero zero = refl
+zeros-zero (suc n) = zeros-zero n
+
+pub zero-zeros : (l : List ℕ) → allZero l ≡ true → l ≡ zeros (length l)
+unfolding allZero
+zero-zeros [] h = refl
+zero-zeros (x ∷ xs) h = go (eqb x 0) refl h (λ e. zero-zeros xs e)
+  where
+    go : (b : Bool) → eqb x 0 ≡ b → b && allZero xs ≡ true → (allZero xs ≡ true → xs ≡ zeros (length xs)) → x ∷ xs ≡ 0 ∷ zeros (length xs)
+    go true t e ih = let q : x ≡ 0 = eqb-true _ _ t in let r = ih e in cc
+    go false t e ih = absurd (false≢true e)

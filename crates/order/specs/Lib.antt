@@ -1,0 +1,7 @@
+pub mod Order
+pub mod Listed
+pub mod Examples
+pub mod OrderLaws
+pub mod ExchangeLaws
+pub mod MergeLaws
+pub mod MapLaws

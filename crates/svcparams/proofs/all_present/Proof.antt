@@ -1,0 +1,103 @@
+-- `svcparams::all_present` meets its contract: what is left of the mandatory list decides in the outer loop, what is left of the field in
+-- the inner one, and no absent key was met before. Assumes nothing.
+use borrow.Author.Needs.{needs}
+use native.Mathlib.Omega.{arith}
+use Prim.Native.Nat.{_-_}
+use mathlib.Core.Path.{_≡_, refl, _∙_}
+use mathlib.Core.Bool.{true}
+use lib.ListN.{length}
+use Rattle.svcparams.specs.Entries.{keysIn}
+use Rattle.svcparams.specs.TilingLaws.{size-head}
+use Rattle.svcparams.specs.WalkLaws.{Seeking, seek-start, seek-end, seek-found, seek-next}
+use Rattle.svcparams.specs.ValueLaws.{Finding, find-start, find-end, find-absent, find-next}
+use Rattle.svcparams.proofs.all_present.Statement.{statement}
+use Rattle.svcparams.proofs.all_present.Tie as tie
+
+abbrev Inv-params : tie.InvT-params
+Inv-params m p i present₀ key at₀ present at = Seeking key p at × (present ≡ true)
+
+abbrev μ-params : tie.MeasureT-params
+μ-params m p i present₀ key at₀ present at = length p - at
+
+abbrev Inv-listed : tie.InvT-listed
+Inv-listed m p i₀ present₀ i present = Finding (keysIn p) m i × (present ≡ true)
+
+abbrev μ-listed : tie.MeasureT-listed
+μ-listed m p i₀ present₀ i present = length m - i
+
+listed-holds : tie.Need-listed-holds Inv-params μ-params Inv-listed μ-listed
+listed-holds c = (find-start _ _, refl)
+
+add-listed : tie.Need-add-listed Inv-params μ-params Inv-listed μ-listed
+add-listed c = search needs
+
+get16-requires : tie.Need-get16-requires Inv-params μ-params Inv-listed μ-listed
+get16-requires c κs = search needs
+
+params-holds : tie.Need-params-holds Inv-params μ-params Inv-listed μ-listed
+params-holds c = (seek-start _ _, search needs)
+
+sub-s : tie.Need-sub-s Inv-params μ-params Inv-listed μ-listed
+sub-s c = search needs
+
+part-s-start : tie.Need-part-s-start Inv-params μ-params Inv-listed μ-listed
+part-s-start c = search needs
+
+part-s-end : tie.Need-part-s-end Inv-params μ-params Inv-listed μ-listed
+part-s-end c = search needs
+
+size-requires : tie.Need-size-requires Inv-params μ-params Inv-listed μ-listed
+size-requires c κs = search needs
+
+get16-requires-2 : tie.Need-get16-requires-2 Inv-params μ-params Inv-listed μ-listed
+get16-requires-2 c κs = omega (arith, size-head _ (c .before .size .ensures .0) (c .if1 .left))
+
+add-at : tie.Need-add-at Inv-params μ-params Inv-listed μ-listed
+add-at c = search needs
+
+params-less : tie.Need-params-less Inv-params μ-params Inv-listed μ-listed
+params-less c = search needs
+
+params-again : tie.Need-params-again Inv-params μ-params Inv-listed μ-listed
+params-again c = (search (needs, seek-next), search needs)
+
+add-i : tie.Need-add-i Inv-params μ-params Inv-listed μ-listed
+add-i c = search needs
+
+listed-less : tie.Need-listed-less Inv-params μ-params Inv-listed μ-listed
+listed-less c = search needs
+
+listed-again : tie.Need-listed-again Inv-params μ-params Inv-listed μ-listed
+listed-again c = (search (needs, find-next, seek-found), search needs)
+
+returns : tie.Need-returns Inv-params μ-params Inv-listed μ-listed
+returns c = c .before .listed .inv .1 ∙ find-end _ _ _ (c .before .listed .inv .0) (c .listed-test .left)
+
+returns-2 : tie.Need-returns-2 Inv-params μ-params Inv-listed μ-listed
+returns-2 c = search (needs, find-absent, seek-end)
+
+pub all-present-spec : {M : Type 1} → statement M
+all-present-spec =
+    tie.close
+    (tie.spec
+    Inv-params
+    μ-params
+    Inv-listed
+    μ-listed
+    listed-holds
+    add-listed
+    get16-requires
+    params-holds
+    sub-s
+    part-s-start
+    part-s-end
+    size-requires
+    get16-requires-2
+    add-at
+    params-less
+    params-again
+    add-i
+    listed-less
+    listed-again
+    returns
+    returns-2)

@@ -1,0 +1,70 @@
+-- `svcparams::has_hint` meets its contract. The loop's invariant: what is left of the field decides. Assumes nothing.
+use borrow.Author.Needs.{needs}
+use native.Mathlib.Omega.{arith}
+use Prim.Native.Nat.{_-_}
+use lib.ListN.{length}
+use Rattle.svcparams.specs.TilingLaws.{size-head}
+use Rattle.svcparams.specs.WalkLaws.{Hints, hint-start, hint-end, hint-ipv4, hint-ipv6, hint-next}
+use Rattle.svcparams.proofs.has_hint.Statement.{statement}
+use Rattle.svcparams.proofs.has_hint.Tie as tie
+
+abbrev Inv-loop : tie.InvT-loop
+Inv-loop p at₀ at = Hints p at
+
+abbrev μ-loop : tie.MeasureT-loop
+μ-loop p at₀ at = length p - at
+
+loop-holds : tie.Need-loop-holds Inv-loop μ-loop
+loop-holds c = hint-start _
+
+sub-s : tie.Need-sub-s Inv-loop μ-loop
+sub-s c = search needs
+
+part-s-start : tie.Need-part-s-start Inv-loop μ-loop
+part-s-start c = search needs
+
+part-s-end : tie.Need-part-s-end Inv-loop μ-loop
+part-s-end c = search needs
+
+size-requires : tie.Need-size-requires Inv-loop μ-loop
+size-requires c κs = search needs
+
+returns : tie.Need-returns Inv-loop μ-loop
+returns c = search (needs, hint-end)
+
+get16-requires : tie.Need-get16-requires Inv-loop μ-loop
+get16-requires c κs = omega (arith, size-head _ (c .before .size .ensures .0) (c .if1 .left))
+
+returns-2 : tie.Need-returns-2 Inv-loop μ-loop
+returns-2 c = search (needs, hint-ipv4)
+
+returns-3 : tie.Need-returns-3 Inv-loop μ-loop
+returns-3 c = search (needs, hint-ipv6)
+
+add-at : tie.Need-add-at Inv-loop μ-loop
+add-at c = search needs
+
+loop-less : tie.Need-loop-less Inv-loop μ-loop
+loop-less c = search needs
+
+loop-again : tie.Need-loop-again Inv-loop μ-loop
+loop-again c = search (needs, hint-next)
+
+pub has-hint-spec : {M : Type 1} → statement M
+has-hint-spec =
+    tie.close
+    (tie.spec
+    Inv-loop
+    μ-loop
+    loop-holds
+    sub-s
+    part-s-start
+    part-s-end
+    size-requires
+    returns
+    get16-requires
+    returns-2
+    returns-3
+    add-at
+    loop-less
+    loop-again)

@@ -1,0 +1,24 @@
+-- `svcparams::size` meets its contract. Assumes nothing.
+use borrow.Author.Needs.{needs}
+use Rattle.svcparams.specs.TilingLaws.{size-short, size-over, size-fits}
+use borrow.Author.Needs.{needs}
+use Rattle.svcparams.proofs.size.Statement.{statement}
+use Rattle.svcparams.proofs.size.Tie as tie
+
+returns : tie.Need-returns
+returns c = search (needs, size-short)
+
+get16-requires : tie.Need-get16-requires
+get16-requires c κs = search needs
+
+add-n : tie.Need-add-n
+add-n c = search needs
+
+returns-2 : tie.Need-returns-2
+returns-2 c = search (needs, size-over)
+
+returns-3 : tie.Need-returns-3
+returns-3 c = search (needs, size-fits)
+
+pub size-spec : {M : Type 1} → statement M
+size-spec = tie.close (tie.spec returns get16-requires add-n returns-2 returns-3)

@@ -1,0 +1,32 @@
+-- `svcparams::value` meets its contract. Assumes nothing.
+use borrow.Author.Needs.{needs}
+use Rattle.svcparams.specs.ValueLaws.{value-mandatory, value-alpn, value-no-default-alpn, value-port, value-other}
+use borrow.Author.Needs.{needs}
+use Rattle.svcparams.proofs.value.Statement.{statement}
+use Rattle.svcparams.proofs.value.Tie as tie
+
+mandatory-requires : tie.Need-mandatory-requires
+mandatory-requires c κs = search needs
+
+returns : tie.Need-returns
+returns c = search (needs, value-mandatory)
+
+alpn-requires : tie.Need-alpn-requires
+alpn-requires c κs = search needs
+
+returns-2 : tie.Need-returns-2
+returns-2 c = search (needs, value-alpn)
+
+returns-3 : tie.Need-returns-3
+returns-3 c = search (needs, value-no-default-alpn)
+
+returns-4 : tie.Need-returns-4
+returns-4 c = search (needs, value-port)
+
+returns-5 : tie.Need-returns-5
+returns-5 c = search (needs, value-other)
+
+pub value-spec : {M : Type 1} → statement M
+value-spec =
+    tie.close
+    (tie.spec mandatory-requires returns alpn-requires returns-2 returns-3 returns-4 returns-5)

@@ -1,0 +1,82 @@
+-- `svcparams::values` meets its contract. The loop's invariant: what is left of the field decides. Assumes nothing.
+use borrow.Author.Needs.{needs}
+use native.Mathlib.Omega.{arith}
+use Prim.Native.Nat.{_-_}
+use lib.ListN.{length}
+use Rattle.svcparams.specs.TilingLaws.{size-head}
+use Rattle.svcparams.specs.WalkLaws.{Valued, values-start, values-end, values-bad, values-next}
+use Rattle.svcparams.proofs.values.Statement.{statement}
+use Rattle.svcparams.proofs.values.Tie as tie
+
+abbrev Inv-loop : tie.InvT-loop
+Inv-loop p at₀ at = Valued p at
+
+abbrev μ-loop : tie.MeasureT-loop
+μ-loop p at₀ at = length p - at
+
+loop-holds : tie.Need-loop-holds Inv-loop μ-loop
+loop-holds c = values-start _
+
+sub-s : tie.Need-sub-s Inv-loop μ-loop
+sub-s c = search needs
+
+part-s-start : tie.Need-part-s-start Inv-loop μ-loop
+part-s-start c = search needs
+
+part-s-end : tie.Need-part-s-end Inv-loop μ-loop
+part-s-end c = search needs
+
+size-requires : tie.Need-size-requires Inv-loop μ-loop
+size-requires c κs = search needs
+
+returns : tie.Need-returns Inv-loop μ-loop
+returns c = search (needs, values-end)
+
+get16-requires : tie.Need-get16-requires Inv-loop μ-loop
+get16-requires c κs = omega (arith, size-head _ (c .before .size .ensures .0) (c .if1 .left))
+
+sub-v : tie.Need-sub-v Inv-loop μ-loop
+sub-v c = omega (arith, size-head _ (c .before .before .size .ensures .0) (c .before .if1 .left))
+
+part-v-start : tie.Need-part-v-start Inv-loop μ-loop
+part-v-start c = omega (arith, size-head _ (c .before .before .size .ensures .0) (c .before .if1 .left))
+
+part-v-end : tie.Need-part-v-end Inv-loop μ-loop
+part-v-end c = search needs
+
+value-requires : tie.Need-value-requires Inv-loop μ-loop
+value-requires c κs = search needs
+
+returns-2 : tie.Need-returns-2 Inv-loop μ-loop
+returns-2 c = search (needs, values-bad)
+
+add-at : tie.Need-add-at Inv-loop μ-loop
+add-at c = search needs
+
+loop-less : tie.Need-loop-less Inv-loop μ-loop
+loop-less c = search needs
+
+loop-again : tie.Need-loop-again Inv-loop μ-loop
+loop-again c = search (needs, values-next)
+
+pub values-spec : {M : Type 1} → statement M
+values-spec =
+    tie.close
+    (tie.spec
+    Inv-loop
+    μ-loop
+    loop-holds
+    sub-s
+    part-s-start
+    part-s-end
+    size-requires
+    returns
+    get16-requires
+    sub-v
+    part-v-start
+    part-v-end
+    value-requires
+    returns-2
+    add-at
+    loop-less
+    loop-again)

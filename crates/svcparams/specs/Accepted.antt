@@ -1,0 +1,97 @@
+-- What a field of service parameters without a fault is, in terms of its layout alone: it is parameters one after another, and of these
+-- document 01 holds. Assumes nothing: these are definitions.
+use mathlib.Core.Path.{_≡_}
+use mathlib.Core.Logic.{_⊎_}
+use mathlib.Core.List.{List, [], _∷_, _++_}
+use Prim.Native.Nat.{ℕ, _<_}
+use lib.ListN.{length}
+use Rattle.octets.specs.Numbers.{be}
+use Rattle.octets.specs.Fields.{putCounted}
+use Rattle.svcparams.specs.Key as key
+use Rattle.svcparams.specs.Params.{Param, keys}
+
+-- ---- lists
+
+-- P holds of each element
+abbrev pub Each : {A : Type 0} → (A → Type 0) → List A → Type 0
+Each P [] = Unit
+Each P (x ∷ xs) = P x × Each P xs
+
+-- each number is less than every later one
+abbrev pub Ascending : List ℕ → Type 0
+Ascending [] = Unit
+Ascending (k ∷ ks) = Each (λ x. k < x) ks × Ascending ks
+
+-- a number is one of the list
+abbrev pub In : ℕ → List ℕ → Type 0
+In k [] = ⊥
+In k (x ∷ xs) = (x ≡ k) ⊎ In k xs
+
+-- ---- the field (RFC 9460 §2.2)
+
+-- a parameter's key, length and value, and then l
+abbrev pub put : Param → List ℕ → List ℕ
+put kv l = be 2 (kv .key) ++ putCounted 2 (kv .value) l
+
+-- parameters one after another
+abbrev pub fieldOf : List Param → List ℕ
+fieldOf [] = []
+fieldOf (kv ∷ kvs) = put kv (fieldOf kvs)
+
+-- a key and a length of 16 bits
+pub record Fits (kv : Param) : Type 0 where
+  pub key : kv .key < 65536
+  pub size : length (kv .value) < 65536
+
+-- p is the parameters kvs, whose keys rise strictly and are below the invalid one
+pub record Ordered (p : List ℕ) (kvs : List Param) : Type 0 where
+  pub laid : p ≡ fieldOf kvs
+  pub fits : Each Fits kvs
+  pub rise : Ascending (keys kvs)
+  pub valid : Each (λ k. k < key.invalid) (keys kvs)
+
+-- a parameter is an address hint
+abbrev pub Hinted : List Param → Type 0
+Hinted kvs = In key.ipv4hint (keys kvs) ⊎ In key.ipv6hint (keys kvs)
+
+-- ---- values
+
+-- numbers of 16 bits one after another
+abbrev pub numbersOf : List ℕ → List ℕ
+numbersOf [] = []
+numbersOf (w ∷ ws) = be 2 w ++ numbersOf ws
+
+-- v is the list of keys ws: not empty, of 16 bits, strictly rising, without 0, each one of the keys ks (RFC 9460 §8)
+pub record Mandatory (ks v ws : List ℕ) : Type 0 where
+  pub laid : v ≡ numbersOf ws
+  pub some : 0 < length ws
+  pub narrow : Each (λ w. w < 65536) ws
+  pub rise : Ascending ws
+  pub nonzero : Each (λ w. 0 < w) ws
+  pub present : Each (λ w. In w ks) ws
+
+-- strings one after another, each after its 8-bit length
+abbrev pub stringsOf : List (List ℕ) → List ℕ
+stringsOf [] = []
+stringsOf (s ∷ ss) = putCounted 1 s (stringsOf ss)
+
+-- v is one or more strings, each of 1 to 255 octets (RFC 9460 §7.1.1)
+pub record Alpn (v : List ℕ) (ss : List (List ℕ)) : Type 0 where
+  pub laid : v ≡ stringsOf ss
+  pub some : 0 < length ss
+  pub sizes : Each (λ s. (0 < length s) × (length s < 256)) ss
+
+-- the value is one that its key allows among the keys ks
+pub record Allowed (ks : List ℕ) (kv : Param) : Type 0 where
+  pub mandatory : kv .key ≡ key.mandatory → (ws : List ℕ) × Mandatory ks (kv .value) ws
+  pub alpn : kv .key ≡ key.alpn → (ss : List (List ℕ)) × Alpn (kv .value) ss
+  pub noDefaultAlpn : kv .key ≡ key.noDefaultAlpn → length (kv .value) ≡ 0
+  pub port : kv .key ≡ key.port → length (kv .value) ≡ 2
+
+-- ---- the whole field
+
+pub record Accepted (p : List ℕ) : Type 0 where
+  pub params : List Param
+  pub ordered : Ordered p params
+  pub unhinted : Hinted params → ⊥
+  pub values : Each (Allowed (keys params)) params

@@ -1,0 +1,90 @@
+-- The theorems of service parameters: a field of octets is its parameters one after another, in one way only; it has no fault exactly if
+-- it is accepted; and its fault is the first in the order tiling and keys, hints, values. Assumes nothing.
+use mathlib.Core.Path.{_≡_, refl, ap, _∙_}
+use mathlib.Core.Bool.{Bool, true, false, cond}
+use mathlib.Core.Logic.{_↔_, _⊎_, inl, inr}
+use mathlib.Core.List.{List}
+use Prim.Native.Nat.{ℕ}
+use native.Mathlib.Omega.{arith}
+use Rattle.octets.specs.Numbers.{Bytes}
+use Rattle.numbers.specs.Fault as fault
+use Rattle.svcparams.specs.Params.{Param, Tiled, bad, tiled, pairs, keys, ordered, hasHint, allGood, tiledFault, paramsFault}
+use Rattle.svcparams.specs.Accepted.{Each, fieldOf, Fits, Ordered, Hinted, Allowed, Accepted}
+use Rattle.svcparams.specs.FieldLaws.{tiled-field, field-tiled}
+use Rattle.svcparams.specs.VerdictLaws.{hinted-fault, forbidden-fault, allowed-fault, unordered-fault, Verdict, unordered, hinted, forbidden, accepted, verdict}
+
+-- ---- the layout
+
+-- parameters tile a field exactly if the field is these parameters one after another, their keys and lengths of 16 bits
+pub tiled-exactly : (p : List ℕ) (kvs : List Param) → Bytes p → (pairs p ≡ tiled kvs) ↔ ((p ≡ fieldOf kvs) × Each Fits kvs)
+tiled-exactly p kvs o = (tiled-field p kvs o, λ h. ap pairs (h .0) ∙ field-tiled kvs (h .1))
+
+-- a field is parameters one after another in one way only
+pub field-once : (kvs lws : List Param) → Each Fits kvs → Each Fits lws → fieldOf kvs ≡ fieldOf lws → kvs ≡ lws
+field-once kvs lws f g e =
+    let a = field-tiled kvs f in
+    let b = field-tiled lws g in
+    let d : pairs (fieldOf kvs) ≡ pairs (fieldOf lws) = ap pairs e in
+    cc
+
+-- ---- the fault
+
+-- no fault exactly if the field is accepted
+pub params-exactly : (p : List ℕ) → Bytes p → (paramsFault p ≡ 0) ↔ Accepted p
+params-exactly p o = (λ z. go (verdict p o) z, λ a. allowed-fault p (a .params) (a .ordered) (a .unhinted) (a .values))
+  where
+    go : Verdict p (paramsFault p) → paramsFault p ≡ 0 → Accepted p
+    go (unordered e n) z = absurd (omega arith)
+    go (hinted e kvs w h) z = absurd (omega arith)
+    go (forbidden e kvs w u v) z = absurd (omega arith)
+    go (accepted e a) z = a
+
+-- the fault of tiling and keys exactly if the field is no parameters in order, whatever their values
+pub parameters-exactly : (p : List ℕ) → Bytes p → (paramsFault p ≡ fault.parameters) ↔ ((kvs : List Param) → Ordered p kvs → ⊥)
+parameters-exactly p o = (λ z. go (verdict p o) z, unordered-fault p o)
+  where
+    go : Verdict p (paramsFault p) → paramsFault p ≡ fault.parameters → (kvs : List Param) → Ordered p kvs → ⊥
+    go (unordered e n) z = n
+    go (hinted e kvs w h) z = absurd (omega arith)
+    go (forbidden e kvs w u v) z = absurd (omega arith)
+    go (accepted e a) z = absurd (omega arith)
+
+-- the fault of hints exactly if it is parameters in order with a hint, whatever their values
+pub hint-exactly : (p : List ℕ) → Bytes p → (paramsFault p ≡ fault.hint) ↔ ((kvs : List Param) × Ordered p kvs × Hinted kvs)
+hint-exactly p o = (λ z. go (verdict p o) z, λ h. hinted-fault p (h .0) (h .1) (h .2))
+  where
+    go : Verdict p (paramsFault p) → paramsFault p ≡ fault.hint → (kvs : List Param) × Ordered p kvs × Hinted kvs
+    go (unordered e n) z = absurd (omega arith)
+    go (hinted e kvs w h) z = (kvs, w, h)
+    go (forbidden e kvs w u v) z = absurd (omega arith)
+    go (accepted e a) z = absurd (omega arith)
+
+-- the fault of values exactly if it is parameters in order, without a hint, and not every value is allowed
+pub value-exactly : (p : List ℕ) → Bytes p
+    → (paramsFault p ≡ fault.value) ↔ ((kvs : List Param) × Ordered p kvs × (Hinted kvs → ⊥) × (Each (Allowed (keys kvs)) kvs → ⊥))
+value-exactly p o = (λ z. go (verdict p o) z, λ h. forbidden-fault p (h .0) (h .1) (h .2) o (h .3))
+  where
+    go : Verdict p (paramsFault p) → paramsFault p ≡ fault.value
+        → (kvs : List Param) × Ordered p kvs × (Hinted kvs → ⊥) × (Each (Allowed (keys kvs)) kvs → ⊥)
+    go (unordered e n) z = absurd (omega arith)
+    go (hinted e kvs w h) z = absurd (omega arith)
+    go (forbidden e kvs w u v) z = (kvs, w, u, v)
+    go (accepted e a) z = absurd (omega arith)
+
+-- one of the four numbers, also where p is no octets
+abbrev pub FaultNumber : ℕ → Type 0
+FaultNumber n = (n ≡ 0) ⊎ ((n ≡ fault.parameters) ⊎ ((n ≡ fault.hint) ⊎ (n ≡ fault.value)))
+
+pub fault-number : (p : List ℕ) → FaultNumber (paramsFault p)
+unfolding paramsFault
+fault-number p = tile (pairs p)
+  where
+    judge : (a b d : Bool) → FaultNumber (cond a (cond b fault.hint (cond d 0 fault.value)) fault.parameters)
+    judge false b d = inr (inl refl)
+    judge true true d = inr (inr (inl refl))
+    judge true false false = inr (inr (inr refl))
+    judge true false true = inl refl
+
+    tile : (t : Tiled) → FaultNumber (tiledFault t)
+    tile bad = inr (inl refl)
+    tile (tiled kvs) = judge (ordered 0 (keys kvs)) (hasHint (keys kvs)) (allGood kvs (keys kvs))

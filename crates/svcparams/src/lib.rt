@@ -1,0 +1,231 @@
+// Service parameters (SvcParams, RFC 9460) as document 01 narrows them: the first fault of a field of them, as a number of 01.
+// A field is parameters one after another, each a 16-bit key, a 16-bit length and a value; it may be empty. Tiling and the order of keys
+// are decided over the whole field first, then address hints, then values. The values of keys without a rule are carried as they are.
+// Nothing here changes or writes parameters.
+ghost use mathlib.Core.Path.{_≡_};
+ghost use Prim.Native.Nat.{_≤_};
+ghost use lib.ListN.{length};
+ghost use Rattle.svcparams.specs.Params.{sizeOf, pairs, rising, hasHint, allIn, words, mandatoryGood, alpnGood, valueGood, allGood, paramsFault};
+ghost use Rattle.svcparams.specs.Entries.{entries, keysIn, orderly};
+use numbers::Fault;
+use octets::get16;
+use octets::wide;
+
+// The keys that have rules here (RFC 9460 §14.3.2).
+pub struct Key();
+
+impl Key {
+    // The keys that a client must understand.
+    pub const MANDATORY: usize = 0;
+
+    pub const ALPN: usize = 1;
+
+    pub const NO_DEFAULT_ALPN: usize = 2;
+
+    pub const PORT: usize = 3;
+
+    pub const IPV4HINT: usize = 4;
+
+    pub const IPV6HINT: usize = 6;
+
+    // Reserved as the invalid key.
+    pub const INVALID: usize = 65535;
+}
+
+// How many octets the parameter that stands first has, its key and length among them; 0 if none stands there whole.
+fn size(s: &[u8]) -> usize
+    ensures { λ r. ⌜ r ≡ sizeOf (now (s .entry)) ⌝ }
+    ensures { λ r. ⌜ r ≤ length (now (s .entry)) ⌝ }
+{
+    if s.len() < 4 {
+        return 0;
+    }
+    let n = 4 + get16(s, 2);
+    if s.len() < n {
+        return 0;
+    }
+    n
+}
+
+// Whether parameters tile the field, and their keys rise strictly without the invalid one.
+fn in_order(p: &[u8]) -> bool
+    ensures { λ r. ⌜ r ≡ orderly 0 (pairs (now (p .entry))) ⌝ }
+{
+    let mut at: usize = 0;
+    let mut least: usize = 0;
+    while at < p.len() {
+        let s = &p[at..];
+        let n = size(s);
+        if n == 0 {
+            return false;
+        }
+        let key = get16(s, 0);
+        if key < least {
+            return false;
+        }
+        if key == Key::INVALID {
+            return false;
+        }
+        least = key + 1;
+        at += n;
+    }
+    true
+}
+
+// Whether a parameter is an address hint.
+fn has_hint(p: &[u8]) -> bool
+    ensures { λ r. ⌜ r ≡ hasHint (keysIn (now (p .entry))) ⌝ }
+{
+    let mut at: usize = 0;
+    loop {
+        let s = &p[at..];
+        let n = size(s);
+        if n == 0 {
+            return false;
+        }
+        let key = get16(s, 0);
+        if key == Key::IPV4HINT {
+            return true;
+        }
+        if key == Key::IPV6HINT {
+            return true;
+        }
+        at += n;
+    }
+}
+
+// Whether the keys of a mandatory list rise strictly, without 0.
+fn rises(m: &[u8]) -> bool
+    ensures { λ r. ⌜ r ≡ rising 1 (words (now (m .entry))) ⌝ }
+{
+    let mut i: usize = 0;
+    let mut least: usize = 1;
+    while i + 1 < m.len() {
+        let key = get16(m, i);
+        if key < least {
+            return false;
+        }
+        least = key + 1;
+        i += 2;
+    }
+    true
+}
+
+// Whether each key of a mandatory list is a parameter's.
+fn all_present(m: &[u8], p: &[u8]) -> bool
+    ensures { λ r. ⌜ r ≡ allIn (words (now (m .entry))) (keysIn (now (p .entry))) ⌝ }
+{
+    let mut i: usize = 0;
+    let mut present = true;
+    'listed: while i + 1 < m.len() {
+        let key = get16(m, i);
+        let mut at: usize = 0;
+        'params: loop {
+            let s = &p[at..];
+            let n = size(s);
+            if n == 0 {
+                present = false;
+                break 'listed;
+            }
+            let k = get16(s, 0);
+            if k == key {
+                break 'params;
+            }
+            at += n;
+        }
+        i += 2;
+    }
+    present
+}
+
+// Whether a mandatory list is not empty and whole, its keys rise without 0, and each is a parameter's.
+fn mandatory(m: &[u8], p: &[u8]) -> bool
+    ensures { λ r. ⌜ r ≡ mandatoryGood (now (m .entry)) (keysIn (now (p .entry))) ⌝ }
+{
+    if m.len() == 0 {
+        return false;
+    }
+    if m.len() % 2 != 0 {
+        return false;
+    }
+    if !rises(m) {
+        return false;
+    }
+    all_present(m, p)
+}
+
+// Whether strings, none of them empty, tile the value, and there is one.
+fn alpn(v: &[u8]) -> bool
+    ensures { λ r. ⌜ r ≡ alpnGood (now (v .entry)) ⌝ }
+{
+    if v.len() == 0 {
+        return false;
+    }
+    let mut at: usize = 0;
+    while at < v.len() {
+        let long = wide(v[at]);
+        if long == 0 {
+            return false;
+        }
+        if v.len() - at <= long {
+            return false;
+        }
+        at += long + 1;
+    }
+    true
+}
+
+// Whether the value v is one that its key allows in the field p.
+fn value(key: usize, v: &[u8], p: &[u8]) -> bool
+    ensures { λ r. ⌜ r ≡ valueGood key (now (v .entry)) (keysIn (now (p .entry))) ⌝ }
+{
+    if key == Key::MANDATORY {
+        return mandatory(v, p);
+    }
+    if key == Key::ALPN {
+        return alpn(v);
+    }
+    if key == Key::NO_DEFAULT_ALPN {
+        return v.len() == 0;
+    }
+    if key == Key::PORT {
+        return v.len() == 2;
+    }
+    true
+}
+
+// Whether each parameter's value is one that its key allows.
+fn values(p: &[u8]) -> bool
+    ensures { λ r. ⌜ r ≡ allGood (entries (now (p .entry))) (keysIn (now (p .entry))) ⌝ }
+{
+    let mut at: usize = 0;
+    loop {
+        let s = &p[at..];
+        let n = size(s);
+        if n == 0 {
+            return true;
+        }
+        let key = get16(s, 0);
+        let v = &s[4..n];
+        if !value(key, v, p) {
+            return false;
+        }
+        at += n;
+    }
+}
+
+// The first fault of the field, or 0.
+pub fn params_fault(p: &[u8]) -> usize
+    ensures { λ r. ⌜ r ≡ paramsFault (now (p .entry)) ⌝ }
+{
+    if !in_order(p) {
+        return Fault::PARAMETERS;
+    }
+    if has_hint(p) {
+        return Fault::HINT;
+    }
+    if !values(p) {
+        return Fault::VALUE;
+    }
+    0
+}

@@ -1,0 +1,85 @@
+-- `texts::check_text` meets its contract: the first octet is looked at by itself, and the rest in a copy. Assumes nothing.
+use mathlib.Core.Path.{_≡_}
+use mathlib.Core.List.{List}
+use Prim.Native.Nat.{ℕ}
+use Rattle.texts.specs.Outcomes.{no-octet, first-other, by-copy, good-answer, bad-answer, told}
+use Rattle.texts.specs.Right.{right}
+use Rattle.texts.specs.TextCheck.{textCheck, placeOf}
+use native.Mathlib.Omega.{arith}
+use lib.ListN.{length-take}
+use borrow.Author.Tests.{not-true, not-false}
+use borrow.Author.Needs.{needs}
+use Rattle.texts.proofs.check_text.Statement.{statement}
+use Rattle.texts.proofs.check_text.Tie as tie
+
+returns : tie.Need-returns
+returns c = let e = no-octet (c .before .before .args .s .now) (c .if1 .taken) in (e, right _ _ e)
+
+shared-slice-read-is-alnum : tie.Need-shared-slice-read-is-alnum
+shared-slice-read-is-alnum c = search needs
+
+is-alnum-requires : tie.Need-is-alnum-requires
+is-alnum-requires c κs = search needs
+
+returns-2 : tie.Need-returns-2
+returns-2 c =
+    let s : List ℕ = c .before .before .before .before .before .args .s .now in
+    let e = first-other s (c .before .before .before .if1 .left) (told (c .before .is-alnum .ensures) (not-true _ (c .if2 .taken))) in
+    (e, right _ _ e)
+
+looked-at-requires : tie.Need-looked-at-requires
+looked-at-requires c κs = search needs
+
+slice-aggregate-copy : tie.Need-slice-aggregate-copy
+slice-aggregate-copy c = search needs
+
+slice-aggregate-copy-2 : tie.Need-slice-aggregate-copy-2
+slice-aggregate-copy-2 c = simp length-take (omega arith)
+
+copy-requires : tie.Need-copy-requires
+copy-requires c κs = simp length-take (omega arith)
+
+after-letter-requires : tie.Need-after-letter-requires
+after-letter-requires c κs = search needs
+
+-- the walk's number is the check's
+placed : (c : tie.After-after-letter) → c .after-letter .result ≡ placeOf (textCheck (c .before .before .before .before .before .before .before .before .before .before .before .before .args .s .now))
+placed c =
+    let copied = c .before .before .before in
+    let counted = copied .before .before .before in
+    let tested = counted .before in
+    let some = tested .before .before .before in
+    by-copy
+    (some .before .before .args .s .now)
+    _
+    _
+    (counted .looked-at .result)
+    _
+    (c .after-letter .result)
+    (some .if1 .left)
+    (told (tested .before .is-alnum .ensures) (not-false _ (tested .if2 .left)))
+    (counted .looked-at .ensures)
+    (copied .copy .ensures)
+    (c .after-letter .ensures)
+
+returns-3 : tie.Need-returns-3
+returns-3 c = let e = good-answer _ _ (placed (c .before)) (c .if3 .taken) in (e, right _ _ e)
+
+returns-4 : tie.Need-returns-4
+returns-4 c = let e = bad-answer _ _ (placed (c .before)) (c .if3 .left) in (e, right _ _ e)
+
+pub check-text-spec : {M : Type 1} → statement M
+check-text-spec =
+    tie.close
+    (tie.spec
+    returns
+    shared-slice-read-is-alnum
+    is-alnum-requires
+    returns-2
+    looked-at-requires
+    slice-aggregate-copy
+    slice-aggregate-copy-2
+    copy-requires
+    after-letter-requires
+    returns-3
+    returns-4)

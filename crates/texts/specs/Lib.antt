@@ -1,0 +1,13 @@
+pub mod Texts
+pub mod TextCheck
+pub mod Cases
+pub mod Laws
+pub mod Sound
+pub mod Complete
+pub mod Place
+pub mod Exact
+pub mod Right
+pub mod Outcomes
+pub mod Convert
+pub mod Turns
+pub mod Examples

@@ -1,0 +1,167 @@
+// Names as text, as carriers 4 and 5 have them (document 01, "Names": the labels joined by dots, no final dot, 1 to 253 octets), and
+// the two conversions between a name's text and its wire form, which the record sheet holds.
+// The check answers the place of the first octet at which no acceptable name can continue. The label rule itself is the crate `names`'s.
+// A conversion judges nothing: it takes any octets that fit, and its laws say what holds of acceptable ones.
+use names::Name;
+ghost use mathlib.Core.Path.{_≡_};
+ghost use Prim.Native.Nat.{_+_, _-_, _≤_, min};
+ghost use lib.ListN.{length, take, drop};
+ghost use Rattle.octets.specs.Over.{Wrote};
+ghost use Rattle.texts.specs.Texts.{wireOf, textOf};
+ghost use Rattle.texts.specs.TextCheck.{textCheck, walk, letter, hyphen, after, placeOf};
+ghost use Rattle.texts.specs.Right.{Right};
+
+// The walk's answer for a good text: past every place, which is 253 at most.
+const GOOD: usize = 256;
+
+// A label has at most 63 octets: so many after its first.
+const REST: usize = 62;
+
+// How many octets a label may have after its first at `at`, within the text's 253.
+fn left_after(at: usize) -> usize
+    requires { ⌜ at ≤ 252 ⌝ }
+    ensures { λ r. ⌜ r ≡ after at ⌝ }
+{
+    let left = 252 - at;
+    if left < REST {
+        return left;
+    }
+    REST
+}
+
+// The place where the n octets of a text stop, from `at` on: after a letter or a digit of a label that may have `left` octets more.
+fn after_letter(text: &[u8; 256], n: usize, at: usize, left: usize) -> usize
+    requires { ⌜ (n ≤ 254) × (n ≤ length (now text)) × (at + left ≤ 253) ⌝ }
+    ensures { λ r. ⌜ r ≡ placeOf (walk (letter left) at (drop at (take n (now (text .entry))))) ⌝ }
+{
+    if n <= at {
+        return GOOD;
+    }
+    let b = text[at];
+    if names::is_alnum(b) {
+        if left == 0 {
+            return at;
+        }
+        return after_letter(text, n, at + 1, left - 1);
+    }
+    if b == b'-' {
+        if left <= 1 {
+            return at;
+        }
+        return after_hyphen(text, n, at + 1, left - 1);
+    }
+    if b != b'.' {
+        return at;
+    }
+    if 251 < at {
+        return at;
+    }
+    let first = at + 1;
+    if n <= first {
+        return first;
+    }
+    if names::is_alnum(text[first]) {
+        return after_letter(text, n, first + 1, left_after(first));
+    }
+    first
+}
+
+// The same after a hyphen.
+fn after_hyphen(text: &[u8; 256], n: usize, at: usize, left: usize) -> usize
+    requires { ⌜ (n ≤ 254) × (n ≤ length (now text)) × (1 ≤ left) × (at + left ≤ 253) ⌝ }
+    ensures { λ r. ⌜ r ≡ placeOf (walk (hyphen left) at (drop at (take n (now (text .entry))))) ⌝ }
+{
+    if n <= at {
+        return at;
+    }
+    let b = text[at];
+    if names::is_alnum(b) {
+        return after_letter(text, n, at + 1, left - 1);
+    }
+    if b != b'-' {
+        return at;
+    }
+    if left <= 1 {
+        return at;
+    }
+    after_hyphen(text, n, at + 1, left - 1)
+}
+
+// How many octets of a text of n decide: 253 may be good, and the 254th is not.
+fn looked_at(n: usize) -> usize
+    ensures { λ r. ⌜ r ≡ min 254 n ⌝ }
+{
+    if n < 254 {
+        return n;
+    }
+    254
+}
+
+// Whether s is a name as text, and the first bad place if not.
+pub fn check_text(s: &[u8]) -> Name
+    ensures { λ r. ⌜ r ≡ textCheck (now (s .entry)) ⌝ }
+    ensures { λ r. ⌜ Right (now (s .entry)) r ⌝ }
+{
+    if s.len() == 0 {
+        return Name::Bad(0);
+    }
+    if !names::is_alnum(s[0]) {
+        return Name::Bad(0);
+    }
+    let n = looked_at(s.len());
+    let mut text = [0u8; 256];
+    octets::copy(&mut text, 0, &s[..n]);
+    let place = after_letter(&text, n, 1, REST);
+    if place == GOOD {
+        return Name::Good;
+    }
+    Name::Bad(place)
+}
+
+// Writes the wire form of a text at `at`, from its end to its front, and returns the index after it.
+pub fn to_wire(out: &mut [u8], at: usize, text: &[u8]) -> usize
+    requires { ⌜ (length (now text) ≤ 253) × (at + length (now text) + 2 ≤ length (now out)) ⌝ }
+    ensures { λ r. ⌜ Wrote at (wireOf (now (text .entry))) (now (out .entry)) r (now (out .exit)) ⌝ }
+{
+    let n = text.len();
+    let first = at + 1;
+    let mut i = n;
+    let mut label: u8 = 0;
+    out[first + n] = 0;
+    while 0 < i {
+        i -= 1;
+        let b = text[i];
+        if b == b'.' {
+            out[first + i] = label;
+            label = 0;
+        } else {
+            out[first + i] = b;
+            label += 1;
+        }
+    }
+    out[at] = label;
+    first + n + 1
+}
+
+// Writes the text of a wire form at `at`, and returns the index after it.
+pub fn to_text(out: &mut [u8], at: usize, wire: &[u8]) -> usize
+    requires { ⌜ (2 ≤ length (now wire)) × (at + (length (now wire) - 2) ≤ length (now out)) ⌝ }
+    ensures { λ r. ⌜ Wrote at (textOf (now (wire .entry))) (now (out .entry)) r (now (out .exit)) ⌝ }
+{
+    let n = wire.len() - 2;
+    let mut i = 0;
+    let mut left = wire[0];
+    while i < n {
+        let place = at + i;
+        i += 1;
+        let b = wire[i];
+        if left == 0 {
+            out[place] = b'.';
+            left = b;
+        } else {
+            out[place] = b;
+            left -= 1;
+        }
+    }
+    at + n
+}

@@ -1,0 +1,57 @@
+//! The faults 21 to 28 of a record (01 Numbers given back; points B12 to B20,
+//! S8, S9, S13).
+
+use crate::addresses::count_kept;
+use crate::carrier::Carrier;
+use crate::numbers::{ALIAS, NAME, NO_ADDRESS, OVER_LIMIT, UNUSABLE};
+use crate::params::params_fault;
+use crate::record::Record;
+use crate::{MAX_ADDRESSES, MAX_PARAMS};
+
+#[derive(Clone, Copy, PartialEq, Eq)]
+pub enum Call {
+    Reading,
+    Writing,
+}
+
+/// How many addresses the record keeps, or its first fault of 21 to 28.
+pub fn judge(call: Call, carrier: Carrier, record: &Record) -> Result<usize, u8> {
+    // AliasMode (RFC 9460 section 2.4.2) is not supported, RFC 9464 section 3.1.
+    if record.priority == 0 {
+        return Err(ALIAS);
+    }
+    if !record.name.is_acceptable() {
+        return Err(NAME);
+    }
+    // Name only skips 24 to 28, and in carriers 1 to 3 also 23.
+    let Some(full) = record.full else {
+        return if carrier.has_name_only() {
+            Ok(0)
+        } else {
+            Err(NO_ADDRESS)
+        };
+    };
+    let width = carrier.width();
+    if full.addresses.is_empty() || !full.addresses.len().is_multiple_of(width) {
+        return Err(NO_ADDRESS);
+    }
+    // As carried, before any is dropped (point B14).
+    let carried = full.addresses.len() / width;
+    if carried > MAX_ADDRESSES || full.params.len() > MAX_PARAMS {
+        return Err(OVER_LIMIT);
+    }
+    // Unusable addresses are dropped by the reader, and only there; the
+    // writer refuses them.
+    let kept = count_kept(width, full.addresses);
+    let unusable = match call {
+        Call::Reading => kept == 0,
+        Call::Writing => kept < carried,
+    };
+    if unusable {
+        return Err(UNUSABLE);
+    }
+    match params_fault(full.params) {
+        0 => Ok(kept),
+        fault => Err(fault),
+    }
+}

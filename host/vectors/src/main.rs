@@ -1,0 +1,88 @@
+//! Writes the files `stdin` and `stdout` of the vectors over names, addresses
+//! and parameters into a directory: cases, one a line, and for each the line
+//! that the reference answers. The same octets every time.
+
+mod addresses;
+mod cases;
+mod names;
+mod numbers;
+mod params;
+
+use cases::Cases;
+use numbers::Numbers;
+use std::path::Path;
+use std::{env, fs, io, process};
+
+/// The reader of the vectors holds them whole, in 65,536 octets.
+const MAX_STDIN: usize = 60_000;
+
+fn all_cases() -> Cases {
+    let mut numbers = Numbers::new(9463);
+    let mut cases = Cases::default();
+    names::add_wire(&mut cases, &mut numbers, 600);
+    names::add_text(&mut cases, &mut numbers, 600);
+    addresses::add_ipv4(&mut cases, &mut numbers, 150);
+    addresses::add_ipv6(&mut cases, &mut numbers, 150);
+    params::add(&mut cases, &mut numbers, 900);
+    cases
+}
+
+fn write_files(directory: &Path) -> io::Result<()> {
+    let cases = all_cases();
+    let stdin = cases.stdin();
+    assert!(stdin.len() < MAX_STDIN, "{} octets", stdin.len());
+    fs::write(directory.join("stdin"), stdin)?;
+    fs::write(directory.join("stdout"), cases.stdout())
+}
+
+fn main() {
+    let Some(directory) = env::args_os().nth(1) else {
+        eprintln!("usage: vectors DIRECTORY");
+        process::exit(2);
+    };
+    if let Err(error) = write_files(Path::new(&directory)) {
+        eprintln!("vectors: {error}");
+        process::exit(1);
+    }
+}
+
+#[cfg(test)]
+mod tests {
+    use super::*;
+    use cases::Kind;
+
+    #[test]
+    fn size_and_counts() {
+        let cases = all_cases();
+        let stdin = cases.stdin();
+        assert!(stdin.len() < MAX_STDIN, "{} octets", stdin.len());
+        assert_eq!(stdin.lines().count(), cases.stdout().lines().count());
+        let kinds = [Kind::Wire, Kind::Text, Kind::Ipv4, Kind::Ipv6, Kind::Params];
+        assert_eq!(
+            kinds.map(|kind| cases.count(kind)),
+            [600, 600, 150, 150, 900]
+        );
+        assert_eq!(all_cases().stdin(), stdin);
+    }
+
+    #[test]
+    fn every_answer_is_met_often() {
+        let stdout = all_cases().stdout();
+        let lines = |start: &str| {
+            stdout
+                .lines()
+                .filter(|line| line.starts_with(start))
+                .count()
+        };
+        for start in [
+            "w ok", "w bad", "t ok", "t bad", "p 0", "p 26", "p 27", "p 28",
+        ] {
+            assert!(lines(start) >= 50, "{start}: {}", lines(start));
+        }
+        for start in [
+            "a 0 1", "a 1 0", "a 1 1", "a 0 0", "b 0 1", "b 1 0", "b 1 1", "b 0 0",
+        ] {
+            assert!(lines(start) >= 1, "{start}");
+        }
+    }
+}

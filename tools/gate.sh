@@ -1,0 +1,69 @@
+#!/bin/sh
+# Runs every check of the repository and ends in 'N passed, M failed', each check counted; fails where one fails or did not run.
+# Checks: rt ci (each crate, must-fail edit and program run), the host tests (cargo), the vectors held against their generator.
+set -u
+cd "$(dirname "$0")/.."
+log=$(mktemp -d) || exit 2
+trap 'rm -rf "$log"' EXIT
+passed=0
+failed=0
+
+# count NAME FILE: adds a tool's closing 'N passed, M failed'; a tool that closes on no such line has failed.
+count() {
+    line=$(grep -E '^[0-9]+ passed, [0-9]+ failed' "$2" | tail -1)
+    if [ -z "$line" ]; then
+        echo "gate: $1 did not report its count"
+        failed=$((failed + 1))
+        return
+    fi
+    set -- $line
+    passed=$((passed + $1))
+    failed=$((failed + $3))
+}
+
+# step NAME COMMAND..: one check that passes when the command does.
+step() {
+    name=$1
+    shift
+    if "$@"; then
+        echo "gate: $name: ok"
+        passed=$((passed + 1))
+    else
+        echo "gate: $name: FAILED"
+        failed=$((failed + 1))
+    fi
+}
+
+rt_ci() {
+    rt ci 2>&1 | tee "$log/rt"
+    count "rt ci" "$log/rt"
+}
+
+# cargo prints 'test result: ok. N passed; M failed; ..' for each test program.
+host_tests() {
+    cargo test --quiet --offline --release --manifest-path host/Cargo.toml >"$log/cargo" 2>&1
+    status=$?
+    cat "$log/cargo"
+    sums=$(sed -n 's/^test result: [a-zA-Z]*\. \([0-9]*\) passed; \([0-9]*\) failed.*/\1 \2/p' "$log/cargo" |
+        awk '{p += $1; f += $2} END {print p + 0, f + 0}')
+    set -- $sums
+    if [ "$status" -ne 0 ] && [ "$2" -eq 0 ] || [ "$1" -eq 0 ]; then
+        echo "gate: host tests: FAILED to run"
+        failed=$((failed + 1))
+    fi
+    passed=$((passed + $1))
+    failed=$((failed + $2))
+}
+
+vectors_held() {
+    mkdir "$log/vectors" &&
+        cargo run --quiet --offline --release --manifest-path host/Cargo.toml -p vectors -- "$log/vectors" &&
+        cmp "$log/vectors/stdin" crates/vectors/stdin && cmp "$log/vectors/stdout" crates/vectors/stdout
+}
+
+step "layout of the sources" rt fmt --check
+rt_ci
+host_tests
+step "vectors are those of the reference" vectors_held
+echo "$passed passed, $failed failed"
+[ "$failed" -eq 0 ]
