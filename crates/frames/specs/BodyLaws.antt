@@ -1,8 +1,10 @@
--- What holds of every body of a framed area: its length, its units in carrier 3, and that it is octets. Assumes nothing.
-use mathlib.Core.Path.{_≡_, refl, sym, ap, _∙_, subst}
-use mathlib.Core.Bool.{Bool, true, false, false≢true}
-use mathlib.Core.List.{List, [], _∷_, _++_}
-use Prim.Native.Nat.{ℕ, zero, suc, _+_, _-_, _*_, _%_, _≤_, _<_}
+-- What holds of every body of a framed area: its length, its units in carrier 3, and that it is octets; and what the blocks are.
+-- Assumes nothing.
+use mathlib.Core.Path.{_≡_, refl, ap, _∙_, subst}
+use mathlib.Core.Bool.{Bool, true, false}
+use mathlib.Core.List.{List, [], _∷_, append-nil}
+use Prim.Native.Nat.{ℕ, zero, suc, _+_, _-_, _%_, _≤_, _<_}
+use native.Mathlib.Nat.{not-suc-le-zero}
 use native.Mathlib.Numerals.{add-one}
 use native.Mathlib.Omega.{arith}
 use lib.ListN.{length, take, drop, length-append, length-take, length-drop}
@@ -12,19 +14,20 @@ use borrow.Author.Tests.{ltb-true, ltb-false}
 use Rattle.octets.specs.Numbers.{Bytes}
 use Rattle.octets.specs.NumbersLaws.{bytes-take, bytes-drop}
 use Rattle.carriers.specs.declared.Carrier.{Carrier}
-use Rattle.carriers.specs.declared.Carrier.the-variants.{Router}
+use Rattle.carriers.specs.declared.Carrier.the-variants.{Dhcp4, Dhcp6, Router, Ike4, Ike6}
 use Rattle.carriers.specs.Carriers.{headerOf, octets}
 use Rattle.frames.specs.declared.Head.{Head}
 use Rattle.octets.specs.Lists.{flat}
-use Rattle.frames.specs.Frame.{firstOf, Framed, fault, framed, onto, after, frameFrom, frame}
-use Rattle.frames.specs.Walk.{Each}
-use Rattle.frames.specs.HeadLaws.{Read, first-pos, first-own}
+use Rattle.frames.specs.Frame.{firstOf, Framed, fault, framed, onto, after, frameFrom, frame, blocksOf}
+use Rattle.octets.specs.Lists.{All}
+use Rattle.frames.specs.Walk.{Plain}
+use Rattle.frames.specs.HeadLaws.{first-own}
 use Rattle.frames.specs.Laws.{past}
 
 -- P of each body, where the area is framed
 abbrev EachIn : (List ℕ → Type 0) → Framed → Type 0
 EachIn P fault = Unit {0}
-EachIn P (framed bs) = Each P bs
+EachIn P (framed bs) = All P bs
 
 each-onto : (P : List ℕ → Type 0) (own : Bool) (b : List ℕ) (f : Framed) → (own ≡ true → P b) → EachIn P f → EachIn P (onto own b f)
 each-onto P own b fault p h = tt
@@ -58,14 +61,14 @@ module _ (c : Carrier) (S P : List ℕ → Type 0)
   each-from zero (x ∷ xs) h = each-head x xs (firstOf c (x ∷ xs)) h refl (λ k. each-from k xs (rest x xs h))
   each-from (suc k) (x ∷ xs) h = each-from k xs (rest x xs h)
 
-  each-body : (area : List ℕ) (bs : List (List ℕ)) → S area → frame c area ≡ framed bs → Each P bs
+  each-body : (area : List ℕ) (bs : List (List ℕ)) → S area → frame c area ≡ framed bs → All P bs
   each-body area bs h e = subst (EachIn P) e (each-from 0 area h)
 
 body-length : (s : List ℕ) (h n : ℕ) → n ≤ length s → length (drop h (take n s)) ≡ n - h
 body-length s h n le = length-drop h (take n s) ∙ ap (λ (k : ℕ). k - h) (length-take-le n s le)
 
 -- a body and its header are no longer than the area
-pub bodies-within : (c : Carrier) (area : List ℕ) (bs : List (List ℕ)) → frame c area ≡ framed bs → Each (λ b. length b + headerOf c ≤ length area) bs
+pub bodies-within : (c : Carrier) (area : List ℕ) (bs : List (List ℕ)) → frame c area ≡ framed bs → All (λ b. length b + headerOf c ≤ length area) bs
 bodies-within c area bs e =
     each-body c (λ s. length s ≤ length area) (λ b. length b + headerOf c ≤ length area)
     (λ x xs h. omega arith)
@@ -73,7 +76,7 @@ bodies-within c area bs e =
     area bs (omega arith) e
 
 -- the bodies of octets are octets
-pub bodies-bytes : (c : Carrier) (area : List ℕ) (bs : List (List ℕ)) → Bytes area → frame c area ≡ framed bs → Each Bytes bs
+pub bodies-bytes : (c : Carrier) (area : List ℕ) (bs : List (List ℕ)) → Bytes area → frame c area ≡ framed bs → All Bytes bs
 bodies-bytes c area bs h e =
     each-body c Bytes Bytes
     (λ x xs h. h .1)
@@ -81,7 +84,7 @@ bodies-bytes c area bs h e =
     area bs h e
 
 -- in carrier 3 a body and the two octets of its header are whole units of eight
-pub bodies-units : (area : List ℕ) (bs : List (List ℕ)) → frame Router area ≡ framed bs → Each (λ b. (length b + 2) % 8 ≡ 0) bs
+pub bodies-units : (area : List ℕ) (bs : List (List ℕ)) → frame Router area ≡ framed bs → All (λ b. (length b + 2) % 8 ≡ 0) bs
 bodies-units area bs e =
     each-body Router (λ s. Unit {0}) (λ b. (length b + 2) % 8 ≡ 0)
     (λ x xs h. tt)
@@ -123,3 +126,21 @@ within-from c (suc k) (x ∷ xs) = within-suc k (length xs) (frameFrom c k xs) (
 -- all bodies together are no longer than the area
 pub flat-within : (c : Carrier) (area : List ℕ) (bs : List (List ℕ)) → frame c area ≡ framed bs → length (flat bs) ≤ length area
 flat-within c area bs e = let h = subst (Within 0 (length area)) e (within-from c 0 area) in omega arith
+
+-- ---- blocks
+
+-- in carriers 2 to 5 each body is a block
+pub blocks-plain : (c : Carrier) (bs : List (List ℕ)) → Plain c → blocksOf c bs ≡ bs
+blocks-plain Dhcp4 bs p = absurd p
+blocks-plain Dhcp6 bs p = refl
+blocks-plain Router bs p = refl
+blocks-plain Ike4 bs p = refl
+blocks-plain Ike6 bs p = refl
+
+-- in carrier 1 a body alone is the block, and several make one
+pub blocks-one : (b : List ℕ) → blocksOf Dhcp4 (b ∷ []) ≡ b ∷ []
+blocks-one b = ap (λ (l : List ℕ). l ∷ []) (append-nil b)
+
+pub blocks-some : (bs : List (List ℕ)) → 0 < length bs → blocksOf Dhcp4 bs ≡ flat bs ∷ []
+blocks-some [] h = absurd (not-suc-le-zero h)
+blocks-some (b ∷ bs) h = refl

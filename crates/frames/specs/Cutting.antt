@@ -14,9 +14,10 @@ use Rattle.carriers.specs.declared.Carrier.the-variants.{Dhcp4, Dhcp6, Router, 
 use Rattle.carriers.specs.Carriers.{headerOf, octets}
 use Rattle.frames.specs.declared.Head.{Head}
 use Rattle.frames.specs.Frame.{firstOf, Framed, fault, framed, onto, after, frameFrom, frame}
-use Rattle.frames.specs.Walk.{prepend, Each}
-use Rattle.frames.specs.Emit.{optionOf, Fits, optionsOf, Plain}
-use Rattle.frames.specs.HeadLaws.{header-pos, head-end, first-local, first-append, first-cut}
+use Rattle.octets.specs.Lists.{All}
+use Rattle.frames.specs.Walk.{prepend, Plain}
+use Rattle.frames.specs.Emit.{optionOf, Fits, optionsOf}
+use Rattle.frames.specs.HeadLaws.{head-end, first-local, first-append, first-cut}
 use Rattle.frames.specs.Laws.{fault-framed, frame-bad, frame-over}
 use Rattle.frames.specs.WalkLaws.{prepend-none}
 use Rattle.frames.specs.EmitLaws.{option-first, frame-own, frame-options, options-append}
@@ -80,7 +81,7 @@ frame-append c p a b bs e = append-from c p zero a b bs e
 -- ---- cutting own options, in every carrier
 
 -- at an option's end
-pub cut-at-end : (c : Carrier) (bs cs : List (List ℕ)) → Each (Fits c) bs → frame c (take (length (optionsOf c bs)) (optionsOf c (bs ++ cs))) ≡ framed bs
+pub cut-at-end : (c : Carrier) (bs cs : List (List ℕ)) → All (Fits c) bs → frame c (take (length (optionsOf c bs)) (optionsOf c (bs ++ cs))) ≡ framed bs
 cut-at-end c bs cs f =
     ap (λ (l : List ℕ). frame c (take (length (optionsOf c bs)) l)) (options-append c bs cs)
     ∙ ap (frame c) (take-at (optionsOf c bs) (optionsOf c cs) (length (optionsOf c bs)) refl)
@@ -106,7 +107,7 @@ cut-inside c b k f p h = go (ltb k (headerOf c)) refl
         frame-over c (take k (optionOf c b)) some same (omega (arith, len))
 
 -- anywhere else than at an option's end
-pub cut-elsewhere : (c : Carrier) (bs : List (List ℕ)) (k : ℕ) → Each (Fits c) bs → k ≤ length (optionsOf c bs)
+pub cut-elsewhere : (c : Carrier) (bs : List (List ℕ)) (k : ℕ) → All (Fits c) bs → k ≤ length (optionsOf c bs)
     → ((j : ℕ) → k ≡ length (optionsOf c (take j bs)) → ⊥) → frame c (take k (optionsOf c bs)) ≡ fault
 cut-elsewhere c [] k f h not-end = absurd (not-end 0 (omega arith))
 cut-elsewhere c (b ∷ bs) k f h not-end =

@@ -28,11 +28,3 @@ Fits Ike6 body = length body < 65536
 abbrev pub optionsOf : Carrier → List (List ℕ) → List ℕ
 optionsOf c [] = []
 optionsOf c (b ∷ bs) = optionOf c b ++ optionsOf c bs
-
--- carriers 2 to 5, whose areas end with their last octet and with no code
-abbrev pub Plain : Carrier → Type 0
-Plain Dhcp4 = ⊥
-Plain Dhcp6 = Unit {0}
-Plain Router = Unit {0}
-Plain Ike4 = Unit {0}
-Plain Ike6 = Unit {0}

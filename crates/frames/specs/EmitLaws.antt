@@ -1,19 +1,18 @@
 -- Own options that were written are framed to their bodies, in every carrier. Assumes nothing.
 use mathlib.Core.Path.{_≡_, refl, sym, ap, ap₂, _∙_}
-use mathlib.Core.Bool.{Bool, true, false}
+use mathlib.Core.Bool.{Bool, true}
 use mathlib.Core.List.{List, [], _∷_, _++_, append-assoc}
-use Prim.Native.Nat.{ℕ, _+_, _*_, _/_, _%_, _≤_, _<_}
+use Prim.Native.Nat.{ℕ, _+_, _<_}
 use native.Mathlib.Omega.{arith}
-use lib.ListN.{length, getD, take, drop, length-append}
+use lib.ListN.{length, take, drop, length-append}
 use lib.Seq.{take-at, drop-at}
-use lib.Dec.{eqb}
 use borrow.Author.Tests.{eq-eqb}
 use Rattle.carriers.specs.declared.Carrier.{Carrier}
 use Rattle.carriers.specs.declared.Carrier.the-variants.{Dhcp4, Dhcp6, Router, Ike4, Ike6}
 use Rattle.carriers.specs.Carriers.{codeOf, headerOf, octets}
 use Rattle.frames.specs.declared.Head.{Head}
-use Rattle.frames.specs.Frame.{codeIn, sizeIn, headIn, firstOf, Framed, framed, onto, frameFrom, frame}
-use Rattle.frames.specs.Walk.{Each}
+use Rattle.frames.specs.Frame.{codeIn, sizeIn, headIn, firstOf, framed, onto, frameFrom, frame}
+use Rattle.octets.specs.Lists.{All}
 use Rattle.frames.specs.Emit.{optionOf, Fits, optionsOf}
 use Rattle.frames.specs.HeadLaws.{header-pos, head-option, first-other, first-append}
 use Rattle.frames.specs.Laws.{frame-none, frame-option, onto-skipped}
@@ -80,7 +79,7 @@ frame-own c b rest f =
 -- ---- many
 
 -- own options are framed to their bodies
-pub frame-options : (c : Carrier) (bs : List (List ℕ)) → Each (Fits c) bs → frame c (optionsOf c bs) ≡ framed bs
+pub frame-options : (c : Carrier) (bs : List (List ℕ)) → All (Fits c) bs → frame c (optionsOf c bs) ≡ framed bs
 frame-options c [] f = frame-none c
 frame-options c (b ∷ bs) f = frame-own c b (optionsOf c bs) (f .0) ∙ ap (onto true b) (frame-options c bs (f .1))
 

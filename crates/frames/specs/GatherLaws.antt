@@ -1,9 +1,9 @@
 -- The walks of `gather` and `join` over an area of carrier 1, as they begin, go on and end. Assumes nothing.
 use mathlib.Core.Path.{_≡_, refl, sym, ap, _∙_, subst, subst⁻¹}
 use mathlib.Core.List.{List, [], _∷_, _++_, append-assoc, append-nil}
-use Prim.Native.Nat.{ℕ, _+_, _-_, _≤_, _<_}
+use Prim.Native.Nat.{ℕ, _+_, _-_, _≤_}
 use native.Mathlib.Omega.{arith}
-use lib.ListN.{length, take, drop, length-append, length-drop}
+use lib.ListN.{length, drop, length-append, length-drop}
 use lib.Seq.{length-take-le}
 use Rattle.octets.specs.Over.{Wrote}
 use Rattle.octets.specs.OverLaws.{over-length, wrote-none, then}
@@ -33,6 +33,32 @@ tells-more area bs (One a e) start end h k t =
 tells-more area bs Many start end h k t =
     let q : bs ≡ t .0 = cc in
     (bs ++ (part start end area ∷ []), refl, omega (arith, t .2, ap length q, length-append bs (part start end area ∷ [])))
+
+-- and the other way: what the frame is decides what is told
+module _ (area : List ℕ) {f : Framed} where
+  pub tells-broken : (r : Gathered) → Tells area f r → f ≡ fault → r ≡ Broken
+  tells-broken Broken t e = refl
+  tells-broken Absent t e = absurd (fault-framed (sym e ∙ t))
+  tells-broken (One start end) t e = absurd (fault-framed (sym e ∙ t .2))
+  tells-broken Many t e = absurd (fault-framed (sym e ∙ t .1))
+
+  pub tells-absent : (r : Gathered) → Tells area f r → f ≡ framed [] → r ≡ Absent
+  tells-absent Broken t e = absurd (fault-framed (sym t ∙ e))
+  tells-absent Absent t e = refl
+  tells-absent (One start end) t e = let q : part start end area ∷ [] ≡ [] = cc in absurd (omega (arith, ap length q))
+  tells-absent Many t e = let q : t .0 ≡ [] = cc in absurd (omega (arith, t .2, ap length q))
+
+  pub tells-one : (r : Gathered) {b : List ℕ} → Tells area f r → f ≡ framed (b ∷ []) → (start : ℕ) × (end : ℕ) × (r ≡ One start end)
+  tells-one Broken t e = absurd (fault-framed (sym t ∙ e))
+  tells-one Absent {b} t e = let q : b ∷ [] ≡ [] = cc in absurd (omega (arith, ap length q))
+  tells-one (One start end) t e = (start, end, refl)
+  tells-one Many {b} t e = let q : t .0 ≡ b ∷ [] = cc in absurd (omega (arith, t .2, ap length q))
+
+  pub tells-many : (r : Gathered) {bs : List (List ℕ)} → Tells area f r → f ≡ framed bs → 2 ≤ length bs → r ≡ Many
+  tells-many Broken t e h = absurd (fault-framed (sym t ∙ e))
+  tells-many Absent {bs} t e h = let q : bs ≡ [] = cc in absurd (omega (arith, ap length q))
+  tells-many (One start end) {bs} t e h = let q : bs ≡ part start end area ∷ [] = cc in absurd (omega (arith, ap length q))
+  tells-many Many t e h = refl
 
 -- the bodies met before an index, and what was found of them
 pub record Gathering (area : List ℕ) (at : ℕ) (found : Gathered) : Type 0 where
@@ -113,3 +139,7 @@ module _ {area out : List ℕ} {at n : ℕ} {out′ : List ℕ} (j : Joining are
 
   pub joining-fault : stepAt Dhcp4 area at ≡ Step.Fault → Joined (frame Dhcp4 area) out n out′
   joining-fault e = subst⁻¹ (λ (f : Framed). Joined f out n out′) (walked-fault Dhcp4 area (j .walked) e) tt
+
+-- what is written where the area is framed
+pub joined-wrote : {f : Framed} {bs : List (List ℕ)} {out out′ : List ℕ} {r : ℕ} → f ≡ framed bs → Joined f out r out′ → Wrote 0 (flat bs) out r out′
+joined-wrote {f} {bs} {out} {out′} {r} e j = subst (λ (f : Framed). Joined f out r out′) e j

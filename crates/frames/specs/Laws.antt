@@ -1,14 +1,13 @@
--- The laws of framing, once over the carrier: the equations of `frame`, what a step says of the walk from there, and what holds of
--- every body. Assumes nothing.
+-- The laws of framing, once over the carrier: the equations of `frame`, and what a step says of the walk from there. Assumes nothing.
 use mathlib.Core.Path.{_≡_, refl, sym, ap, ap₂, _∙_, subst, subst⁻¹}
 use mathlib.Core.Bool.{Bool, true, false, cond}
-use mathlib.Core.List.{List, [], _∷_, _++_}
-use Prim.Native.Nat.{ℕ, zero, suc, _+_, _-_, _*_, _%_, _≤_, _<_}
+use mathlib.Core.List.{List, [], _∷_}
+use Prim.Native.Nat.{ℕ, zero, suc, _+_, _-_, _%_, _≤_, _<_}
 use native.Mathlib.Nat.{le-of-suc-le-suc, not-suc-le-zero, zero-add, suc-add}
 use native.Mathlib.Omega.{arith}
 use lib.ListN.{length, take, drop, length-drop}
 use lib.Seq.{take-all, drop-length, take-nil, drop-drop}
-use lib.Dec.{ltb, leb, eqb}
+use lib.Dec.{ltb, leb}
 use borrow.Author.Tests.{lt-ltb, le-ltb, le-leb, lt-leb, eq-eqb, ne-eqb, ltb-true, ltb-false, leb-true, leb-false}
 use Rattle.carriers.specs.declared.Carrier.{Carrier}
 use Rattle.carriers.specs.declared.Carrier.the-variants.{Router}
@@ -17,7 +16,7 @@ use Rattle.frames.specs.declared.Head.{Head}
 use Rattle.frames.specs.declared.Step.{Step}
 use Rattle.frames.specs.Frame.{firstOf, Framed, fault, framed, onto, after, frameFrom, frame}
 use Rattle.frames.specs.Step.{part, optionAt, headAt, stepAt}
-use Rattle.frames.specs.HeadLaws.{Read, first-pos, first-own, header-pos}
+use Rattle.frames.specs.HeadLaws.{first-pos, first-own, header-pos}
 
 pub fault-framed : {bs : List (List ℕ)} → fault ≡ framed bs → ⊥
 fault-framed e = let z : _≡_ {A = ℕ} 0 1 = cc in omega arith
@@ -60,9 +59,6 @@ frame-option c (x ∷ xs) {own} {n = suc n} p e h =
     ap (λ (z : Head). after c (x ∷ xs) z (λ k. frameFrom c k xs)) e
     ∙ ap (λ (k : ℕ). onto own (drop (headerOf c) (take (suc n) (x ∷ xs))) (frameFrom c k xs)) (omega arith)
     ∙ ap (onto own (drop (headerOf c) (take (suc n) (x ∷ xs)))) (skip c n xs (le-of-suc-le-suc h))
-
-pub onto-fault : (own : Bool) (b : List ℕ) → onto own b fault ≡ fault
-onto-fault own b = refl
 
 pub frame-over : (c : Carrier) (s : List ℕ) {own : Bool} {n : ℕ} → 0 < length s → firstOf c s ≡ Head.Option own (octets n) → length s < n → frame c s ≡ fault
 unfolding frameFrom
@@ -133,7 +129,8 @@ body-part s at h n le =
     ∙ ap (take (n - h)) (drop-drop h at s)
     ∙ ap (λ (k : ℕ). take k (drop (at + h) s)) size
 
-abbrev pub Moves : Carrier → List ℕ → ℕ → Step → Type 0
+-- each kind of step, and the walk from its index
+abbrev Moves : Carrier → List ℕ → ℕ → Step → Type 0
 Moves c s at (Step.Block start end) =
     (start ≡ at + headerOf c) × (start ≤ end) × (end ≤ length s)
     × (frame c (drop at s) ≡ onto true (part start end s) (frame c (drop end s)))

@@ -1,9 +1,12 @@
--- A walk that has come to an index of an area, and what holds of each body. Assumes nothing: these are definitions.
+-- Words for laws of framing: bodies in front of others, a walk that has come to an index, each body, carriers without an end code.
+-- Assumes nothing: these are definitions.
 use mathlib.Core.Path.{_≡_}
 use mathlib.Core.List.{List, [], _∷_, _++_}
 use Prim.Native.Nat.{ℕ, _≤_}
+use Rattle.octets.specs.Lists.{All}
 use lib.ListN.{length, drop}
 use Rattle.carriers.specs.declared.Carrier.{Carrier}
+use Rattle.carriers.specs.declared.Carrier.the-variants.{Dhcp4, Dhcp6, Router, Ike4, Ike6}
 use Rattle.frames.specs.Frame.{Framed, fault, framed, frame}
 
 -- bodies in front of what follows
@@ -16,7 +19,10 @@ pub record Walked (c : Carrier) (area : List ℕ) (at : ℕ) (bs : List (List �
   pub within : at ≤ length area
   pub frames : frame c area ≡ prepend bs (frame c (drop at area))
 
--- P holds of each body
-abbrev pub Each : (List ℕ → Type 0) → List (List ℕ) → Type 0
-Each P [] = Unit {0}
-Each P (b ∷ bs) = P b × Each P bs
+-- carriers 2 to 5, whose areas end with their last octet and with no code
+abbrev pub Plain : Carrier → Type 0
+Plain Dhcp4 = ⊥
+Plain Dhcp6 = Unit {0}
+Plain Router = Unit {0}
+Plain Ike4 = Unit {0}
+Plain Ike6 = Unit {0}

@@ -1,10 +1,10 @@
 -- How a walk begins, goes on and ends: the invariant of a loop over `next_block`. Assumes nothing.
 use mathlib.Core.Path.{_≡_, refl, sym, ap, _∙_}
-use mathlib.Core.Bool.{Bool, true, false}
+use mathlib.Core.Bool.{true}
 use mathlib.Core.List.{List, [], _∷_, _++_, append-nil}
-use Prim.Native.Nat.{ℕ, _≤_}
+use Prim.Native.Nat.{ℕ}
 use native.Mathlib.Omega.{arith}
-use lib.ListN.{length, drop}
+use lib.ListN.{drop}
 use lib.Seq.{append-snoc}
 use Rattle.carriers.specs.declared.Carrier.{Carrier}
 use Rattle.frames.specs.declared.Step.{Step}

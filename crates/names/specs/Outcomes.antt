@@ -10,7 +10,7 @@ use lib.ListN.{length, getD, take, drop}
 use lib.Seq.{length-take-le, getD-take}
 use borrow.Author.Tests.{ltb-true}
 use Rattle.names.specs.Names.{alnum}
-use Rattle.names.specs.Wire.{State, letter, hyphen, first, stop, root, go, step, ended, hyphenFits, labelFits, past, placed, answerIn}
+use Rattle.names.specs.Wire.{State, letter, hyphen, first, stop, root, go, step, ended, inside, lengthOctet, hyphenFits, labelFits, past, placed, answerIn}
 use Rattle.names.specs.Cases.{by-both}
 use Rattle.names.specs.Laws.{walk-end, walk-stop, walk-go, walk-root, ended-good, ended-bad, inside-letter, inside-hyphen, inside-other, first-letter, first-other, in-label, at-length, length-empty, length-root, length-unfit, length-go}
 
@@ -41,61 +41,79 @@ module _ (b : List ℕ) (n : ℕ) (fits : n ≤ length b) (at : ℕ) (st : State
     unfolding answerIn
     roots e = ap placed (walk-root (take n b) at st in-held (rw same e))
 
-module _ (b : List ℕ) (n : ℕ) (fits : n ≤ length b) (at left : ℕ) (h : at < n) where
+-- in a label that ends before the place `end`
+module _ (b : List ℕ) (n : ℕ) (fits : n ≤ length b) (at end : ℕ) (h : at < n) where
   abbrev x : ℕ
   x = getD b at 0
 
-  -- after a hyphen
-  pub hyphen-letter : {r : ℕ} → alnum x ≡ true → r ≡ answerIn b n (letter (left - 1)) (at + 1) → r ≡ answerIn b n (hyphen left) at
-  hyphen-letter e g = g ∙ sym (goes b n fits at (hyphen left) h (inside-letter left x e))
+  abbrev left : ℕ
+  left = end - at
 
-  pub hyphen-hyphen : {r : ℕ} → alnum x ≡ false → hyphenFits left x ≡ true → r ≡ answerIn b n (hyphen (left - 1)) (at + 1) → r ≡ answerIn b n (hyphen left) at
-  hyphen-hyphen e q g = g ∙ sym (goes b n fits at (hyphen left) h (inside-hyphen left x e q))
+  one-less : end - (at + 1) ≡ left - 1
+  one-less = omega arith
+
+  -- after a hyphen
+  pub hyphen-letter : {r : ℕ} → alnum x ≡ true → r ≡ answerIn b n (letter (end - (at + 1))) (at + 1) → r ≡ answerIn b n (hyphen left) at
+  hyphen-letter e g = rw one-less at g ∙ sym (goes b n fits at (hyphen left) h (inside-letter left x e))
+
+  pub hyphen-hyphen : {r : ℕ} → alnum x ≡ false → hyphenFits left x ≡ true → r ≡ answerIn b n (hyphen (end - (at + 1))) (at + 1) → r ≡ answerIn b n (hyphen left) at
+  hyphen-hyphen e q g = rw one-less at g ∙ sym (goes b n fits at (hyphen left) h (inside-hyphen left x e q))
 
   pub hyphen-other : alnum x ≡ false → hyphenFits left x ≡ false → at ≡ answerIn b n (hyphen left) at
   hyphen-other e q = stops b n fits at (hyphen left) h (inside-other left x e q)
 
-  -- after a letter or a digit, in a label
-  pub letter-letter : {r : ℕ} → (left ≡ 0 → ⊥) → alnum x ≡ true → r ≡ answerIn b n (letter (left - 1)) (at + 1) → r ≡ answerIn b n (letter left) at
-  letter-letter z e g = g ∙ sym (goes b n fits at (letter left) h (in-label left at x z ∙ inside-letter left x e))
+  -- after a letter or a digit, in the label
+  module _ (i : at ≤ end) (z : at ≡ end → ⊥) where
+    here : step (letter left) at x ≡ inside left x
+    here = in-label left at x (λ e. z (omega arith))
 
-  pub letter-hyphen : {r : ℕ} → (left ≡ 0 → ⊥) → alnum x ≡ false → hyphenFits left x ≡ true → r ≡ answerIn b n (hyphen (left - 1)) (at + 1) → r ≡ answerIn b n (letter left) at
-  letter-hyphen z e q g = g ∙ sym (goes b n fits at (letter left) h (in-label left at x z ∙ inside-hyphen left x e q))
+    pub letter-letter : {r : ℕ} → alnum x ≡ true → r ≡ answerIn b n (letter (end - (at + 1))) (at + 1) → r ≡ answerIn b n (letter left) at
+    letter-letter e g = rw one-less at g ∙ sym (goes b n fits at (letter left) h (here ∙ inside-letter left x e))
 
-  pub letter-other : (left ≡ 0 → ⊥) → alnum x ≡ false → hyphenFits left x ≡ false → at ≡ answerIn b n (letter left) at
-  letter-other z e q = stops b n fits at (letter left) h (in-label left at x z ∙ inside-other left x e q)
+    pub letter-hyphen : {r : ℕ} → alnum x ≡ false → hyphenFits left x ≡ true → r ≡ answerIn b n (hyphen (end - (at + 1))) (at + 1) → r ≡ answerIn b n (letter left) at
+    letter-hyphen e q g = rw one-less at g ∙ sym (goes b n fits at (letter left) h (here ∙ inside-hyphen left x e q))
 
-  -- at the root octet
-  pub root-first : left ≡ 0 → x ≡ 0 → at ≡ 0 → at ≡ answerIn b n (letter left) at
-  root-first z e f = stops b n fits at (letter left) h (at-length left at x z ∙ length-empty at x e f)
+    pub letter-other : alnum x ≡ false → hyphenFits left x ≡ false → at ≡ answerIn b n (letter left) at
+    letter-other e q = stops b n fits at (letter left) h (here ∙ inside-other left x e q)
 
-  rooted : left ≡ 0 → x ≡ 0 → (at ≡ 0 → ⊥) → answerIn b n (letter left) at ≡ placed (ended (at + 1) (drop (at + 1) (take n b)))
-  rooted z e f = roots b n fits at (letter left) h (at-length left at x z ∙ length-root at x e f)
+  -- at the label's end
+  module _ (z : at ≡ end) where
+    there : step (letter left) at x ≡ lengthOctet at x
+    there = at-length left at x (omega arith)
 
-  pub root-more : left ≡ 0 → x ≡ 0 → (at ≡ 0 → ⊥) → at + 1 < n → at + 1 ≡ answerIn b n (letter left) at
-  root-more z e f m = let l = length-take-le n b fits in sym (rooted z e f ∙ ap placed (ended-bad (take n b) (at + 1) (omega arith)))
+    -- the root octet
+    pub root-first : x ≡ 0 → at ≡ 0 → at ≡ answerIn b n (letter left) at
+    root-first e f = stops b n fits at (letter left) h (there ∙ length-empty at x e f)
 
-  pub root-last : left ≡ 0 → x ≡ 0 → (at ≡ 0 → ⊥) → n ≤ at + 1 → past ≡ answerIn b n (letter left) at
-  root-last z e f m = let l = length-take-le n b fits in sym (rooted z e f ∙ ap placed (ended-good (take n b) (at + 1) (omega arith)))
+    rooted : x ≡ 0 → (at ≡ 0 → ⊥) → answerIn b n (letter left) at ≡ placed (ended (at + 1) (drop (at + 1) (take n b)))
+    rooted e f = roots b n fits at (letter left) h (there ∙ length-root at x e f)
 
-  -- at a length octet, which the code holds as the number `size`
-  module _ (size : ℕ) (w : size ≡ x) (z : left ≡ 0) (e : x ≡ 0 → ⊥) where
-    pub label-unfit : labelFits at size ≡ false → at ≡ answerIn b n (letter left) at
-    label-unfit f = stops b n fits at (letter left) h (at-length left at x z ∙ length-unfit at x e (rw w at f))
+    pub root-more : x ≡ 0 → (at ≡ 0 → ⊥) → at + 1 < n → at + 1 ≡ answerIn b n (letter left) at
+    root-more e f m = let l = length-take-le n b fits in sym (rooted e f ∙ ap placed (ended-bad (take n b) (at + 1) (omega arith)))
 
-    -- past it, at a label's first octet
-    module _ (f : labelFits at size ≡ true) where
-      opens : answerIn b n (letter left) at ≡ answerIn b n (first (size - 1)) (at + 1)
-      opens = goes b n fits at (letter left) h (at-length left at x z ∙ length-go at x e (rw w at f) ∙ rw w)
+    pub root-last : x ≡ 0 → (at ≡ 0 → ⊥) → n ≤ at + 1 → past ≡ answerIn b n (letter left) at
+    root-last e f m = let l = length-take-le n b fits in sym (rooted e f ∙ ap placed (ended-good (take n b) (at + 1) (omega arith)))
 
-      pub cut-at-first : n ≤ at + 1 → at + 1 ≡ answerIn b n (letter left) at
-      cut-at-first m = cut-short b n fits (at + 1) (first (size - 1)) m ∙ sym opens
+    -- a length octet, which the code holds as the number `size`
+    module _ (size : ℕ) (w : size ≡ x) (e : x ≡ 0 → ⊥) where
+      pub label-unfit : labelFits at size ≡ false → at ≡ answerIn b n (letter left) at
+      label-unfit f = stops b n fits at (letter left) h (there ∙ length-unfit at x e (rw w at f))
 
-      pub label-opens : {r : ℕ} → at + 1 < n → alnum (getD b (at + 1) 0) ≡ true → r ≡ answerIn b n (letter (size - 1)) (at + 1 + 1) → r ≡ answerIn b n (letter left) at
-      label-opens m a g = g ∙ sym (opens ∙ goes b n fits (at + 1) (first (size - 1)) m (first-letter (size - 1) (at + 1) (getD b (at + 1) 0) a))
+      -- past it, at a label's first octet
+      module _ (f : labelFits at size ≡ true) where
+        opens : answerIn b n (letter left) at ≡ answerIn b n (first (size - 1)) (at + 1)
+        opens = goes b n fits at (letter left) h (there ∙ length-go at x e (rw w at f) ∙ rw w)
 
-      pub bad-first-octet : at + 1 < n → alnum (getD b (at + 1) 0) ≡ false → at + 1 ≡ answerIn b n (letter left) at
-      bad-first-octet m a = stops b n fits (at + 1) (first (size - 1)) m (first-other (size - 1) (at + 1) (getD b (at + 1) 0) a) ∙ sym opens
+        pub cut-at-first : n ≤ at + 1 → at + 1 ≡ answerIn b n (letter left) at
+        cut-at-first m = cut-short b n fits (at + 1) (first (size - 1)) m ∙ sym opens
+
+        pub label-opens : {r : ℕ} → at + 1 < n → alnum (getD b (at + 1) 0) ≡ true → r ≡ answerIn b n (letter (at + 1 + size - (at + 1 + 1))) (at + 1 + 1) → r ≡ answerIn b n (letter left) at
+        label-opens m a g =
+            let d : at + 1 + size - (at + 1 + 1) ≡ size - 1 = omega arith in
+            rw d at g ∙ sym (opens ∙ goes b n fits (at + 1) (first (size - 1)) m (first-letter (size - 1) (at + 1) (getD b (at + 1) 0) a))
+
+        pub bad-first-octet : at + 1 < n → alnum (getD b (at + 1) 0) ≡ false → at + 1 ≡ answerIn b n (letter left) at
+        bad-first-octet m a = stops b n fits (at + 1) (first (size - 1)) m (first-other (size - 1) (at + 1) (getD b (at + 1) 0) a) ∙ sym opens
 
 -- what a call told of a flag, and what a test told of the same flag
 pub told : {a b v : Bool} → a ≡ b → a ≡ v → b ≡ v
@@ -110,6 +128,9 @@ told-not-not {a = true} e f = sym e
 told-not-not {a = false} e f = sym e ∙ ap not f
 
 -- a hyphen that fits is not the last octet of its label
-pub hyphen-more : {b : Bool} (left x : ℕ) → b ≡ hyphenFits left x → b ≡ true → 1 ≤ left - 1
-hyphen-more left x e f =
-    by-both (eqb x 45) (ltb 1 left) (λ c. c ≡ true → 1 ≤ left - 1) (λ _ l _. let h = ltb-true 1 left l in omega arith) (λ z. let n : _≡_ {A = ℕ} 0 1 = cc in absurd (omega arith)) (told e f)
+pub hyphen-more : {b : Bool} (at end x : ℕ) → b ≡ hyphenFits (end - at) x → b ≡ true → at + 1 < end
+hyphen-more at end x e f =
+    by-both (eqb x 45) (ltb 1 (end - at)) (λ c. c ≡ true → at + 1 < end)
+    (λ _ l _. let h = ltb-true 1 (end - at) l in omega arith)
+    (λ z. let n : _≡_ {A = ℕ} 0 1 = cc in absurd (omega arith))
+    (told e f)

@@ -4,7 +4,7 @@
 // jump. Nothing here changes a name, folds its case or follows a compression pointer.
 use octets::wide;
 ghost use mathlib.Core.Path.{_≡_};
-ghost use Prim.Native.Nat.{_≤_};
+ghost use Prim.Native.Nat.{_-_, _≤_, _<_};
 ghost use lib.ListN.{length};
 ghost use Rattle.names.specs.Names.{alnum, range};
 ghost use Rattle.names.specs.Right.{Right};
@@ -54,18 +54,18 @@ fn label_fits(at: usize, size: usize) -> bool
     size <= 63 && at + size <= 253
 }
 
-// In a label, after a letter or a digit, with `left` octets of the label to come. With none to come, a length octet is next.
+// At `at`, after a letter or a digit, in a label that ends before `end`; at `end` itself a length octet is next.
 // The name is the first n octets of s, which has so many: the logic does not tell the length of an array behind a reference.
-fn after_letter(s: &[u8; 256], n: usize, at: usize, left: usize) -> usize
-    requires { ⌜ (n ≤ 256) × (n ≤ length (now s)) ⌝ }
-    ensures { λ r. ⌜ r ≡ answerIn (now (s .entry)) n (letter left) at ⌝ }
+fn after_letter(s: &[u8; 256], n: usize, at: usize, end: usize) -> usize
+    requires { ⌜ (n ≤ 256) × (n ≤ length (now s)) × (at ≤ end) ⌝ }
+    ensures { λ r. ⌜ r ≡ answerIn (now (s .entry)) n (letter (end - at)) at ⌝ }
 {
     if n <= at {
         return at;
     }
     let b = s[at];
     let next = at + 1;
-    if left == 0 {
+    if at == end {
         if b == 0 {
             if at == 0 {
                 return at;
@@ -83,33 +83,34 @@ fn after_letter(s: &[u8; 256], n: usize, at: usize, left: usize) -> usize
             return next;
         }
         if is_alnum(s[next]) {
-            return after_letter(s, n, next + 1, size - 1);
+            return after_letter(s, n, next + 1, next + size);
         }
         return next;
     }
     if is_alnum(b) {
-        return after_letter(s, n, next, left - 1);
+        return after_letter(s, n, next, end);
     }
-    if hyphen_fits(b, left) {
-        return after_hyphen(s, n, next, left - 1);
+    if hyphen_fits(b, end - at) {
+        return after_hyphen(s, n, next, end);
     }
     at
 }
 
-// In a label, after a hyphen, with `left` octets of the label to come, one at least.
-fn after_hyphen(s: &[u8; 256], n: usize, at: usize, left: usize) -> usize
-    requires { ⌜ (n ≤ 256) × (n ≤ length (now s)) × (1 ≤ left) ⌝ }
-    ensures { λ r. ⌜ r ≡ answerIn (now (s .entry)) n (hyphen left) at ⌝ }
+// At `at`, after a hyphen, in a label that ends before `end`: an octet of it is to come.
+fn after_hyphen(s: &[u8; 256], n: usize, at: usize, end: usize) -> usize
+    requires { ⌜ (n ≤ 256) × (n ≤ length (now s)) × (at < end) ⌝ }
+    ensures { λ r. ⌜ r ≡ answerIn (now (s .entry)) n (hyphen (end - at)) at ⌝ }
 {
     if n <= at {
         return at;
     }
     let b = s[at];
+    let next = at + 1;
     if is_alnum(b) {
-        return after_letter(s, n, at + 1, left - 1);
+        return after_letter(s, n, next, end);
     }
-    if hyphen_fits(b, left) {
-        return after_hyphen(s, n, at + 1, left - 1);
+    if hyphen_fits(b, end - at) {
+        return after_hyphen(s, n, next, end);
     }
     at
 }

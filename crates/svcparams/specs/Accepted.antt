@@ -4,6 +4,7 @@ use mathlib.Core.Path.{_≡_}
 use mathlib.Core.Logic.{_⊎_}
 use mathlib.Core.List.{List, [], _∷_, _++_}
 use Prim.Native.Nat.{ℕ, _<_}
+use Rattle.octets.specs.Lists.{All}
 use lib.ListN.{length}
 use Rattle.octets.specs.Numbers.{be}
 use Rattle.octets.specs.Fields.{putCounted}
@@ -12,15 +13,10 @@ use Rattle.svcparams.specs.Params.{Param, keys}
 
 -- ---- lists
 
--- P holds of each element
-abbrev pub Each : {A : Type 0} → (A → Type 0) → List A → Type 0
-Each P [] = Unit
-Each P (x ∷ xs) = P x × Each P xs
-
 -- each number is less than every later one
 abbrev pub Ascending : List ℕ → Type 0
 Ascending [] = Unit
-Ascending (k ∷ ks) = Each (λ x. k < x) ks × Ascending ks
+Ascending (k ∷ ks) = All (λ x. k < x) ks × Ascending ks
 
 -- a number is one of the list
 abbrev pub In : ℕ → List ℕ → Type 0
@@ -46,9 +42,9 @@ pub record Fits (kv : Param) : Type 0 where
 -- p is the parameters kvs, whose keys rise strictly and are below the invalid one
 pub record Ordered (p : List ℕ) (kvs : List Param) : Type 0 where
   pub laid : p ≡ fieldOf kvs
-  pub fits : Each Fits kvs
+  pub fits : All Fits kvs
   pub rise : Ascending (keys kvs)
-  pub valid : Each (λ k. k < key.invalid) (keys kvs)
+  pub valid : All (λ k. k < key.invalid) (keys kvs)
 
 -- a parameter is an address hint
 abbrev pub Hinted : List Param → Type 0
@@ -65,10 +61,10 @@ numbersOf (w ∷ ws) = be 2 w ++ numbersOf ws
 pub record Mandatory (ks v ws : List ℕ) : Type 0 where
   pub laid : v ≡ numbersOf ws
   pub some : 0 < length ws
-  pub narrow : Each (λ w. w < 65536) ws
+  pub narrow : All (λ w. w < 65536) ws
   pub rise : Ascending ws
-  pub nonzero : Each (λ w. 0 < w) ws
-  pub present : Each (λ w. In w ks) ws
+  pub nonzero : All (λ w. 0 < w) ws
+  pub present : All (λ w. In w ks) ws
 
 -- strings one after another, each after its 8-bit length
 abbrev pub stringsOf : List (List ℕ) → List ℕ
@@ -79,7 +75,7 @@ stringsOf (s ∷ ss) = putCounted 1 s (stringsOf ss)
 pub record Alpn (v : List ℕ) (ss : List (List ℕ)) : Type 0 where
   pub laid : v ≡ stringsOf ss
   pub some : 0 < length ss
-  pub sizes : Each (λ s. (0 < length s) × (length s < 256)) ss
+  pub sizes : All (λ s. (0 < length s) × (length s < 256)) ss
 
 -- the value is one that its key allows among the keys ks
 pub record Allowed (ks : List ℕ) (kv : Param) : Type 0 where
@@ -94,4 +90,4 @@ pub record Accepted (p : List ℕ) : Type 0 where
   pub params : List Param
   pub ordered : Ordered p params
   pub unhinted : Hinted params → ⊥
-  pub values : Each (Allowed (keys params)) params
+  pub values : All (Allowed (keys params)) params

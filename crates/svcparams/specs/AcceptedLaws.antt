@@ -16,7 +16,8 @@ use Rattle.svcparams.specs.Key as key
 use Rattle.svcparams.specs.Params.{Param, keys, rising, has, isHint, hasHint, words, allIn, mandatoryGood, stringsFrom, alpnGood, valueGood, allGood}
 use Rattle.svcparams.specs.TilingLaws.{by-test}
 use Rattle.svcparams.specs.ValueLaws.{strings-skip, strings-past, value-mandatory, value-alpn, value-no-default-alpn, value-port, value-other}
-use Rattle.svcparams.specs.Accepted.{Each, Ascending, In, Fits, Hinted, numbersOf, Mandatory, stringsOf, Alpn, Allowed}
+use Rattle.octets.specs.Lists.{All}
+use Rattle.svcparams.specs.Accepted.{Ascending, In, Fits, Hinted, numbersOf, Mandatory, stringsOf, Alpn, Allowed}
 
 both : (a b : Bool) → a && b ≡ true → (a ≡ true) × (b ≡ true)
 both a b e = and-eq-true-iff a b .0 e
@@ -30,19 +31,19 @@ by-equal a b {X} f g = by-test (eqb a b) (λ _. X) (λ e. f (eqb-true _ _ e)) (�
 
 -- ---- keys that rise
 
-above-next : (k : ℕ) (ks : List ℕ) → Each (λ x. k < x) ks → Each (λ x. k + 1 ≤ x) ks
+above-next : (k : ℕ) (ks : List ℕ) → All (λ x. k < x) ks → All (λ x. k + 1 ≤ x) ks
 above-next k [] a = tt
 above-next k (x ∷ xs) a = (omega (arith, a .0), above-next k xs (a .1))
 
-next-above : (k : ℕ) (ks : List ℕ) → Each (λ x. k + 1 ≤ x) ks → Each (λ x. k < x) ks
+next-above : (k : ℕ) (ks : List ℕ) → All (λ x. k + 1 ≤ x) ks → All (λ x. k < x) ks
 next-above k [] a = tt
 next-above k (x ∷ xs) a = (omega (arith, a .0), next-above k xs (a .1))
 
-above-least : (k least : ℕ) (ks : List ℕ) → least ≤ k → Each (λ x. k < x) ks → Each (λ x. least ≤ x) ks
+above-least : (k least : ℕ) (ks : List ℕ) → least ≤ k → All (λ x. k < x) ks → All (λ x. least ≤ x) ks
 above-least k least [] h a = tt
 above-least k least (x ∷ xs) h a = (omega (arith, a .0), above-least k least xs h (a .1))
 
-pub rising-means : (least : ℕ) (ks : List ℕ) → rising least ks ≡ true → Each (λ k. least ≤ k) ks × Ascending ks
+pub rising-means : (least : ℕ) (ks : List ℕ) → rising least ks ≡ true → All (λ k. least ≤ k) ks × Ascending ks
 unfolding rising
 rising-means least [] e = (tt, tt)
 rising-means least (k ∷ ks) e =
@@ -52,12 +53,12 @@ rising-means least (k ∷ ks) e =
     let a = next-above k ks (r .0) in
     ((l, above-least k least ks l a), (a, r .1))
 
-pub means-rising : (least : ℕ) (ks : List ℕ) → Each (λ k. least ≤ k) ks → Ascending ks → rising least ks ≡ true
+pub means-rising : (least : ℕ) (ks : List ℕ) → All (λ k. least ≤ k) ks → Ascending ks → rising least ks ≡ true
 unfolding rising
 means-rising least [] l a = refl
 means-rising least (k ∷ ks) l a = simp (le-leb _ _ (l .0), means-rising (k + 1) ks (above-next k ks (a .0)) (a .1))
 
-pub least-zero : (ks : List ℕ) → Each (λ k. 0 ≤ k) ks
+pub least-zero : (ks : List ℕ) → All (λ k. 0 ≤ k) ks
 least-zero [] = tt
 least-zero (k ∷ ks) = (omega arith, least-zero ks)
 
@@ -78,18 +79,18 @@ in-has k [] i = absurd i
 in-has k (x ∷ xs) (inl e) = simp (eq-eqb _ _ e)
 in-has k (x ∷ xs) (inr i) = simp (in-has k xs i, or-true)
 
--- no key of 16 bits but the invalid one is above those below it
-pub valid-below : (kvs : List Param) → Each Fits kvs → has key.invalid (keys kvs) ≡ false → Each (λ k. k < key.invalid) (keys kvs)
+-- a key of 16 bits that is not the invalid one is below it
+pub valid-below : (kvs : List Param) → All Fits kvs → has key.invalid (keys kvs) ≡ false → All (λ k. k < key.invalid) (keys kvs)
 unfolding has keys
 valid-below [] f e = tt
 valid-below (kv ∷ kvs) f e = go (eqb (kv .key) key.invalid) refl e (λ q. valid-below kvs (f .1) q)
   where
     go : (b : Bool) → eqb (kv .key) key.invalid ≡ b → b || has key.invalid (keys kvs) ≡ false
-        → (has key.invalid (keys kvs) ≡ false → Each (λ k. k < key.invalid) (keys kvs)) → Each (λ k. k < key.invalid) (kv .key ∷ keys kvs)
+        → (has key.invalid (keys kvs) ≡ false → All (λ k. k < key.invalid) (keys kvs)) → All (λ k. k < key.invalid) (kv .key ∷ keys kvs)
     go true t e ih = absurd (false≢true (sym e))
     go false t e ih = let n : kv .key ≡ key.invalid → ⊥ = eqb-false _ _ t in (omega (arith, f .0 .key), ih e)
 
-pub below-valid : (ks : List ℕ) → Each (λ k. k < key.invalid) ks → has key.invalid ks ≡ false
+pub below-valid : (ks : List ℕ) → All (λ k. k < key.invalid) ks → has key.invalid ks ≡ false
 unfolding has
 below-valid [] h = refl
 below-valid (k ∷ ks) h = simp (ne-eqb k key.invalid (λ e. omega (arith, h .0)), below-valid ks (h .1))
@@ -133,24 +134,24 @@ means-hint kvs h = in-hint (keys kvs) h
 
 -- ---- a mandatory list
 
-all-each : (ws ks : List ℕ) → allIn ws ks ≡ true → Each (λ w. In w ks) ws
+all-each : (ws ks : List ℕ) → allIn ws ks ≡ true → All (λ w. In w ks) ws
 unfolding allIn
 all-each [] ks e = tt
 all-each (w ∷ ws) ks e = let q = both (has w ks) (allIn ws ks) e in (has-in w ks (q .0), all-each ws ks (q .1))
 
-each-all : (ws ks : List ℕ) → Each (λ w. In w ks) ws → allIn ws ks ≡ true
+each-all : (ws ks : List ℕ) → All (λ w. In w ks) ws → allIn ws ks ≡ true
 unfolding allIn
 each-all [] ks h = refl
 each-all (w ∷ ws) ks h = simp (in-has w ks (h .0), each-all ws ks (h .1))
 
-words-numbers : (ws : List ℕ) → Each (λ w. w < 65536) ws → words (numbersOf ws) ≡ ws
+words-numbers : (ws : List ℕ) → All (λ w. w < 65536) ws → words (numbersOf ws) ≡ ws
 unfolding words
 words-numbers [] h = refl
 words-numbers (w ∷ ws) h =
     let e : w / 256 % 256 * 256 + w % 256 ≡ w = omega (arith, h .0) in
     ap₂ (λ (x : ℕ) (l : List ℕ). x ∷ l) e (words-numbers ws (h .1))
 
-numbers-words : (v : List ℕ) → Bytes v → length v % 2 ≡ 0 → (v ≡ numbersOf (words v)) × Each (λ w. w < 65536) (words v)
+numbers-words : (v : List ℕ) → Bytes v → length v % 2 ≡ 0 → (v ≡ numbersOf (words v)) × All (λ w. w < 65536) (words v)
 unfolding words
 numbers-words [] o h = (refl, tt)
 numbers-words (a ∷ []) o h = absurd (omega arith)
@@ -200,7 +201,7 @@ good-mandatory ks v o e =
 abbrev StringSize : List ℕ → Type 0
 StringSize s = (0 < length s) × (length s < 256)
 
-strings-good : (ss : List (List ℕ)) → Each StringSize ss → stringsFrom 0 (stringsOf ss) ≡ true
+strings-good : (ss : List (List ℕ)) → All StringSize ss → stringsFrom 0 (stringsOf ss) ≡ true
 unfolding stringsFrom
 strings-good [] h = refl
 strings-good (s ∷ ss) h =
@@ -214,7 +215,7 @@ strings-good (s ∷ ss) h =
     ∙ strings-good ss (h .1)
 
 -- by a bound on the length
-good-strings : (f : ℕ) (v : List ℕ) → length v ≤ f → Bytes v → stringsFrom 0 v ≡ true → (ss : List (List ℕ)) × (v ≡ stringsOf ss) × Each StringSize ss
+good-strings : (f : ℕ) (v : List ℕ) → length v ≤ f → Bytes v → stringsFrom 0 v ≡ true → (ss : List (List ℕ)) × (v ≡ stringsOf ss) × All StringSize ss
 unfolding stringsFrom
 good-strings zero [] h o e = ([], refl, tt)
 good-strings zero (x ∷ xs) h o e = absurd (not-suc-le-zero h)
@@ -224,8 +225,8 @@ good-strings (suc f) (x ∷ xs) h o e =
     (λ q. good-strings f (drop x xs) (simp length-drop (omega arith)) (bytes-drop x xs (o .1)) q)
   where
     go : (not (eqb x 0) ≡ true) × (stringsFrom x xs ≡ true) → (b : Bool) → leb x (length xs) ≡ b
-        → (stringsFrom 0 (drop x xs) ≡ true → (ss : List (List ℕ)) × (drop x xs ≡ stringsOf ss) × Each StringSize ss)
-        → (ss : List (List ℕ)) × (x ∷ xs ≡ stringsOf ss) × Each StringSize ss
+        → (stringsFrom 0 (drop x xs) ≡ true → (ss : List (List ℕ)) × (drop x xs ≡ stringsOf ss) × All StringSize ss)
+        → (ss : List (List ℕ)) × (x ∷ xs ≡ stringsOf ss) × All StringSize ss
     go q false t ih = absurd (false≢true (sym (strings-past x xs (leb-false _ _ t)) ∙ q .1))
     go q true t ih =
         let z : x ≡ 0 → ⊥ = eqb-false _ _ (not-true _ (q .0)) in
@@ -278,14 +279,14 @@ good-allowed ks kv o e =
       port = λ q. eqb-true _ _ (ap (λ (x : ℕ). valueGood x v ks) (sym q) ∙ e);
     }
 
-pub values-means : (ks : List ℕ) (kvs : List Param) → Each (λ (kv : Param). Bytes (kv .value)) kvs → allGood kvs ks ≡ true → Each (Allowed ks) kvs
+pub values-means : (ks : List ℕ) (kvs : List Param) → All (λ (kv : Param). Bytes (kv .value)) kvs → allGood kvs ks ≡ true → All (Allowed ks) kvs
 unfolding allGood
 values-means ks [] o e = tt
 values-means ks (kv ∷ kvs) o e =
     let q = both (valueGood (kv .key) (kv .value) ks) (allGood kvs ks) e in
     (good-allowed ks kv (o .0) (q .0), values-means ks kvs (o .1) (q .1))
 
-pub means-values : (ks : List ℕ) (kvs : List Param) → Each (Allowed ks) kvs → allGood kvs ks ≡ true
+pub means-values : (ks : List ℕ) (kvs : List Param) → All (Allowed ks) kvs → allGood kvs ks ≡ true
 unfolding allGood
 means-values ks [] g = refl
 means-values ks (kv ∷ kvs) g = simp (allowed-good ks kv (g .0), means-values ks kvs (g .1))

@@ -9,18 +9,19 @@ use native.Mathlib.Omega.{arith}
 use Rattle.octets.specs.Numbers.{Bytes}
 use Rattle.numbers.specs.Fault as fault
 use Rattle.svcparams.specs.Params.{Param, Tiled, bad, tiled, pairs, keys, ordered, hasHint, allGood, tiledFault, paramsFault}
-use Rattle.svcparams.specs.Accepted.{Each, fieldOf, Fits, Ordered, Hinted, Allowed, Accepted}
+use Rattle.octets.specs.Lists.{All}
+use Rattle.svcparams.specs.Accepted.{fieldOf, Fits, Ordered, Hinted, Allowed, Accepted}
 use Rattle.svcparams.specs.FieldLaws.{tiled-field, field-tiled}
 use Rattle.svcparams.specs.VerdictLaws.{hinted-fault, forbidden-fault, allowed-fault, unordered-fault, Verdict, unordered, hinted, forbidden, accepted, verdict}
 
 -- ---- the layout
 
 -- parameters tile a field exactly if the field is these parameters one after another, their keys and lengths of 16 bits
-pub tiled-exactly : (p : List ℕ) (kvs : List Param) → Bytes p → (pairs p ≡ tiled kvs) ↔ ((p ≡ fieldOf kvs) × Each Fits kvs)
+pub tiled-exactly : (p : List ℕ) (kvs : List Param) → Bytes p → (pairs p ≡ tiled kvs) ↔ ((p ≡ fieldOf kvs) × All Fits kvs)
 tiled-exactly p kvs o = (tiled-field p kvs o, λ h. ap pairs (h .0) ∙ field-tiled kvs (h .1))
 
 -- a field is parameters one after another in one way only
-pub field-once : (kvs lws : List Param) → Each Fits kvs → Each Fits lws → fieldOf kvs ≡ fieldOf lws → kvs ≡ lws
+pub field-once : (kvs lws : List Param) → All Fits kvs → All Fits lws → fieldOf kvs ≡ fieldOf lws → kvs ≡ lws
 field-once kvs lws f g e =
     let a = field-tiled kvs f in
     let b = field-tiled lws g in
@@ -61,11 +62,11 @@ hint-exactly p o = (λ z. go (verdict p o) z, λ h. hinted-fault p (h .0) (h .1)
 
 -- the fault of values exactly if it is parameters in order, without a hint, and not every value is allowed
 pub value-exactly : (p : List ℕ) → Bytes p
-    → (paramsFault p ≡ fault.value) ↔ ((kvs : List Param) × Ordered p kvs × (Hinted kvs → ⊥) × (Each (Allowed (keys kvs)) kvs → ⊥))
+    → (paramsFault p ≡ fault.value) ↔ ((kvs : List Param) × Ordered p kvs × (Hinted kvs → ⊥) × (All (Allowed (keys kvs)) kvs → ⊥))
 value-exactly p o = (λ z. go (verdict p o) z, λ h. forbidden-fault p (h .0) (h .1) (h .2) o (h .3))
   where
     go : Verdict p (paramsFault p) → paramsFault p ≡ fault.value
-        → (kvs : List Param) × Ordered p kvs × (Hinted kvs → ⊥) × (Each (Allowed (keys kvs)) kvs → ⊥)
+        → (kvs : List Param) × Ordered p kvs × (Hinted kvs → ⊥) × (All (Allowed (keys kvs)) kvs → ⊥)
     go (unordered e n) z = absurd (omega arith)
     go (hinted e kvs w h) z = absurd (omega arith)
     go (forbidden e kvs w u v) z = (kvs, w, u, v)

@@ -1,10 +1,10 @@
--- Fields and their faults, by computation: document 01's P and the cases of RFC 9460, appendix D. Assumes nothing.
+-- Fields and their faults, by computation: document 01's P, and cases of RFC 9460, appendix D, in wire form. Assumes nothing.
 use mathlib.Core.Path.{_≡_, refl}
 use mathlib.Core.List.{List, [], _∷_}
 use Prim.Native.Nat.{ℕ}
 use Rattle.numbers.specs.Fault as fault
 use Rattle.svcparams.specs.Params.{paramsFault, pairsFrom, sizeOf, keys, rising, has, hasHint, words, allIn, mandatoryGood, stringsFrom, alpnGood, valueGood, allGood}
-use Rattle.svcparams.specs.Accepted.{Each}
+use Rattle.octets.specs.Lists.{All}
 
 -- a field and the number it gets
 abbrev Example : Type 0
@@ -56,10 +56,10 @@ refused =
     ∷ (0 ∷ 0 ∷ 0 ∷ 4 ∷ 0 ∷ 0x7b ∷ 0 ∷ 0x7b ∷ 0 ∷ 0x7b ∷ 0 ∷ 3 ∷ 0x61 ∷ 0x62 ∷ 0x63 ∷ [], fault.value)
     ∷ []
 
-pub taken-so : Each (λ (e : Example). paramsFault (e .0) ≡ e .1) taken
+pub taken-so : All (λ (e : Example). paramsFault (e .0) ≡ e .1) taken
 unfolding paramsFault pairsFrom sizeOf keys rising has hasHint words allIn mandatoryGood stringsFrom alpnGood valueGood allGood
 taken-so = (refl, (refl, (refl, (refl, (refl, (refl, tt))))))
 
-pub refused-so : Each (λ (e : Example). paramsFault (e .0) ≡ e .1) refused
+pub refused-so : All (λ (e : Example). paramsFault (e .0) ≡ e .1) refused
 unfolding paramsFault pairsFrom sizeOf keys rising has hasHint words allIn mandatoryGood stringsFrom alpnGood valueGood allGood
 refused-so = (refl, (refl, (refl, (refl, (refl, (refl, (refl, (refl, (refl, (refl, (refl, (refl, tt))))))))))))

@@ -1,7 +1,6 @@
 -- The laws of a field as parameters one after another: what is laid out is tiled by those parameters, and what is tiled is laid out so.
 -- Assumes nothing.
 use mathlib.Core.Path.{_≡_, refl, sym, ap, ap₂, _∙_, subst}
-use mathlib.Core.Bool.{Bool, true, false}
 use mathlib.Core.List.{List, [], _∷_, _++_}
 use Prim.Native.Nat.{ℕ, zero, suc, _+_, _-_, _*_, _/_, _%_, _≤_, _<_}
 use native.Mathlib.Nat.{not-suc-le-zero}
@@ -14,7 +13,8 @@ use Rattle.octets.specs.Numbers.{at16, Bytes}
 use Rattle.octets.specs.NumbersLaws.{bytes-drop}
 use Rattle.svcparams.specs.Params.{Param, sizeOf, first, Tiled, bad, tiled, onto, pairs}
 use Rattle.svcparams.specs.TilingLaws.{bad-tiled, by-test, sized, size-fits, pairs-none, pairs-bad, pairs-cons}
-use Rattle.svcparams.specs.Accepted.{Each, put, fieldOf, Fits}
+use Rattle.octets.specs.Lists.{All}
+use Rattle.svcparams.specs.Accepted.{put, fieldOf, Fits}
 
 -- ---- what is laid out is tiled
 
@@ -40,7 +40,7 @@ module _ (kv : Param) (l : List ℕ) (f : Fits kv) where
       let n : sizeOf (put kv l) ≡ suc (suc (suc (suc (length (kv .value))))) = omega arith in
       ap (λ (m : ℕ). drop m (put kv l)) n ∙ drop-at (kv .value) l (length (kv .value)) refl
 
-pub field-tiled : (kvs : List Param) → Each Fits kvs → pairs (fieldOf kvs) ≡ tiled kvs
+pub field-tiled : (kvs : List Param) → All Fits kvs → pairs (fieldOf kvs) ≡ tiled kvs
 field-tiled [] f = pairs-none
 field-tiled (kv ∷ kvs) f =
     let l = fieldOf kvs in
@@ -80,35 +80,35 @@ first-laid (a ∷ b ∷ c ∷ d ∷ r) o z =
       record { key = omega (arith, o .0, o .1 .0); size = omega (arith, o .1 .1 .0, o .1 .1 .1 .0) },
     )
 
-laid-none : (kvs : List Param) → pairs [] ≡ tiled kvs → ([] ≡ fieldOf kvs) × Each Fits kvs
+laid-none : (kvs : List Param) → pairs [] ≡ tiled kvs → ([] ≡ fieldOf kvs) × All Fits kvs
 laid-none kvs e =
     let q : [] ≡ kvs = cc pairs-none in
-    subst (λ (l : List Param). ([] ≡ fieldOf l) × Each Fits l) q (refl, tt)
+    subst (λ (l : List Param). ([] ≡ fieldOf l) × All Fits l) q (refl, tt)
 
 -- by a bound on the length
-laid-by : (f : ℕ) (s : List ℕ) (kvs : List Param) → length s ≤ f → Bytes s → pairs s ≡ tiled kvs → (s ≡ fieldOf kvs) × Each Fits kvs
+laid-by : (f : ℕ) (s : List ℕ) (kvs : List Param) → length s ≤ f → Bytes s → pairs s ≡ tiled kvs → (s ≡ fieldOf kvs) × All Fits kvs
 laid-by zero [] kvs h o e = laid-none kvs e
 laid-by zero (x ∷ xs) kvs h o e = absurd (not-suc-le-zero h)
 laid-by (suc f) [] kvs h o e = laid-none kvs e
 laid-by (suc f) (x ∷ xs) kvs h o e =
-    by-test (eqb (sizeOf (x ∷ xs)) 0) (λ _. (x ∷ xs ≡ fieldOf kvs) × Each Fits kvs)
+    by-test (eqb (sizeOf (x ∷ xs)) 0) (λ _. (x ∷ xs ≡ fieldOf kvs) × All Fits kvs)
     (λ t. absurd (bad-tiled (sym (pairs-bad (x ∷ xs) (omega arith) (eqb-true _ _ t)) ∙ e)))
     (λ t. go (eqb-false _ _ t) (pairs (drop (sizeOf (x ∷ xs)) (x ∷ xs))) refl
     (λ ks g q. laid-by f (drop (sizeOf (x ∷ xs)) (x ∷ xs)) ks g (bytes-drop (sizeOf (x ∷ xs)) (x ∷ xs) o) q))
   where
     go : (sizeOf (x ∷ xs) ≡ 0 → ⊥) → (t : Tiled) → pairs (drop (sizeOf (x ∷ xs)) (x ∷ xs)) ≡ t
         → ((ks : List Param) → length (drop (sizeOf (x ∷ xs)) (x ∷ xs)) ≤ f → pairs (drop (sizeOf (x ∷ xs)) (x ∷ xs)) ≡ tiled ks
-        → (drop (sizeOf (x ∷ xs)) (x ∷ xs) ≡ fieldOf ks) × Each Fits ks)
-        → (x ∷ xs ≡ fieldOf kvs) × Each Fits kvs
+        → (drop (sizeOf (x ∷ xs)) (x ∷ xs) ≡ fieldOf ks) × All Fits ks)
+        → (x ∷ xs ≡ fieldOf kvs) × All Fits kvs
     go z bad q ih = absurd (bad-tiled (ap (onto (first (x ∷ xs))) (sym q) ∙ sym (pairs-cons (x ∷ xs) z) ∙ e))
     go z (tiled ks) q ih =
         let w : first (x ∷ xs) ∷ ks ≡ kvs = cc (ap (onto (first (x ∷ xs))) (sym q), pairs-cons (x ∷ xs) z) in
         let i = ih ks (simp length-drop (omega arith)) q in
         let p = first-laid (x ∷ xs) o z in
-        subst (λ (l : List Param). (x ∷ xs ≡ fieldOf l) × Each Fits l) w
+        subst (λ (l : List Param). (x ∷ xs ≡ fieldOf l) × All Fits l) w
         (sym (p .0) ∙ ap (λ (l : List ℕ). put (first (x ∷ xs)) l) (i .0), (p .1, i .1))
 
-pub tiled-field : (s : List ℕ) (kvs : List Param) → Bytes s → pairs s ≡ tiled kvs → (s ≡ fieldOf kvs) × Each Fits kvs
+pub tiled-field : (s : List ℕ) (kvs : List Param) → Bytes s → pairs s ≡ tiled kvs → (s ≡ fieldOf kvs) × All Fits kvs
 tiled-field s kvs o e = laid-by (length s) s kvs (omega arith) o e
 
 -- ---- the values of a field of octets are octets
@@ -117,6 +117,6 @@ bytes-parts : (a b : List ℕ) → Bytes (a ++ b) → Bytes a × Bytes b
 bytes-parts [] b h = (tt, h)
 bytes-parts (x ∷ xs) b h = let r = bytes-parts xs b (h .1) in ((h .0, r .0), r .1)
 
-pub field-octets : (kvs : List Param) → Bytes (fieldOf kvs) → Each (λ (kv : Param). Bytes (kv .value)) kvs
+pub field-octets : (kvs : List Param) → Bytes (fieldOf kvs) → All (λ (kv : Param). Bytes (kv .value)) kvs
 field-octets [] o = tt
 field-octets (kv ∷ kvs) o = let r = bytes-parts (kv .value) (fieldOf kvs) (o .1 .1 .1 .1) in (r .0, field-octets kvs (r .1))

@@ -68,7 +68,7 @@ has k (x ∷ xs) = eqb x k || has k xs
 abbrev pub ordered : ℕ → List ℕ → Bool
 ordered least ks = rising least ks && not (has key.invalid ks)
 
--- address hints are refused (01 Parameters: the addresses stand in a field of their own)
+-- address hints are refused: the addresses stand in a field of their own (01 Parameters, RFC 9463 §3.1.8)
 abbrev pub isHint : ℕ → Bool
 isHint k = eqb k key.ipv4hint || eqb k key.ipv6hint
 

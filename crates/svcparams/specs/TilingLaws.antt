@@ -54,7 +54,7 @@ sized s =
     (λ _ z. absurd (z refl))
     (λ f z. record { head = omega arith; room = ltb-false _ _ f; says = refl }))
 
-pub size-room : (s : List ℕ) → sizeOf s ≤ length s
+size-room : (s : List ℕ) → sizeOf s ≤ length s
 size-room s =
     by-test (eqb (sizeOf s) 0) (λ _. sizeOf s ≤ length s)
     (λ e. let z : sizeOf s ≡ 0 = eqb-true _ _ e in omega arith)
@@ -148,9 +148,6 @@ rest p at = take (length p - at) (drop at p)
 
 rest-all : (p : List ℕ) (at : ℕ) → rest p at ≡ drop at p
 rest-all p at = take-all (length p - at) (drop at p) (simp length-drop (omega arith))
-
-pub rest-length : (p : List ℕ) (at : ℕ) → length (rest p at) ≡ length p - at
-rest-length p at = ap length (rest-all p at) ∙ length-drop at p
 
 pub end-of : (p : List ℕ) (at : ℕ) → at ≤ length p → length p ≤ at → drop at p ≡ []
 end-of p at h k = let e : at ≡ length p = omega arith in ap (λ (i : ℕ). drop i p) e ∙ drop-length p

@@ -1,6 +1,6 @@
 -- The fault of a field together with its reason, stated by layout: what the theorems rest on. Assumes nothing.
 use mathlib.Core.Path.{_≡_, refl, sym, ap, _∙_, subst}
-use mathlib.Core.Bool.{Bool, true, false, cond, not, _&&_, true≢false, and-eq-true-iff}
+use mathlib.Core.Bool.{Bool, true, false, cond, not, true≢false, and-eq-true-iff}
 use mathlib.Core.List.{List}
 use Prim.Native.Nat.{ℕ}
 use borrow.Author.Tests.{not-true}
@@ -9,7 +9,8 @@ use Rattle.numbers.specs.Fault as fault
 use Rattle.svcparams.specs.Key as key
 use Rattle.svcparams.specs.Params.{Param, Tiled, bad, tiled, pairs, keys, rising, has, ordered, hasHint, allGood, tiledFault, paramsFault}
 use Rattle.svcparams.specs.TilingLaws.{bad-tiled}
-use Rattle.svcparams.specs.Accepted.{Each, Ordered, Hinted, Allowed, Accepted}
+use Rattle.octets.specs.Lists.{All}
+use Rattle.svcparams.specs.Accepted.{Ordered, Hinted, Allowed, Accepted}
 use Rattle.svcparams.specs.FieldLaws.{tiled-field, field-tiled, field-octets}
 use Rattle.svcparams.specs.AcceptedLaws.{rising-means, means-rising, least-zero, valid-below, below-valid, hint-means, means-hint, values-means, means-values}
 
@@ -40,7 +41,7 @@ true-ordered p kvs o q e =
       valid = valid-below kvs (l .1) (not-true _ (t .1));
     }
 
-values-allowed : (p : List ℕ) (kvs : List Param) → Bytes p → Ordered p kvs → allGood kvs (keys kvs) ≡ true → Each (Allowed (keys kvs)) kvs
+values-allowed : (p : List ℕ) (kvs : List Param) → Bytes p → Ordered p kvs → allGood kvs (keys kvs) ≡ true → All (Allowed (keys kvs)) kvs
 values-allowed p kvs o w e = values-means (keys kvs) kvs (field-octets kvs (subst Bytes (w .laid) o)) e
 
 -- ---- from the reason to the fault
@@ -57,10 +58,10 @@ module _ (p : List ℕ) (kvs : List Param) (w : Ordered p kvs) where
     unhinted : hasHint (keys kvs) ≡ false
     unhinted = refuted (hasHint (keys kvs)) (hint-means kvs) u
 
-    pub forbidden-fault : Bytes p → (Each (Allowed (keys kvs)) kvs → ⊥) → paramsFault p ≡ fault.value
+    pub forbidden-fault : Bytes p → (All (Allowed (keys kvs)) kvs → ⊥) → paramsFault p ≡ fault.value
     forbidden-fault o v = ordered-fault ∙ simp (unhinted, refuted (allGood kvs (keys kvs)) (values-allowed p kvs o w) v)
 
-    pub allowed-fault : Each (Allowed (keys kvs)) kvs → paramsFault p ≡ 0
+    pub allowed-fault : All (Allowed (keys kvs)) kvs → paramsFault p ≡ 0
     allowed-fault v = ordered-fault ∙ simp (unhinted, means-values (keys kvs) kvs v)
 
 pub unordered-fault : (p : List ℕ) → Bytes p → ((kvs : List Param) → Ordered p kvs → ⊥) → paramsFault p ≡ fault.parameters
@@ -76,7 +77,7 @@ unordered-fault p o n = tile (pairs p) refl
 pub data Verdict (p : List ℕ) (n : ℕ) : Type 0 where
   unordered : n ≡ fault.parameters → ((kvs : List Param) → Ordered p kvs → ⊥) → Verdict p n
   hinted : n ≡ fault.hint → (kvs : List Param) → Ordered p kvs → Hinted kvs → Verdict p n
-  forbidden : n ≡ fault.value → (kvs : List Param) → Ordered p kvs → (Hinted kvs → ⊥) → (Each (Allowed (keys kvs)) kvs → ⊥) → Verdict p n
+  forbidden : n ≡ fault.value → (kvs : List Param) → Ordered p kvs → (Hinted kvs → ⊥) → (All (Allowed (keys kvs)) kvs → ⊥) → Verdict p n
   accepted : n ≡ 0 → Accepted p → Verdict p n
 
 pub verdict : (p : List ℕ) → Bytes p → Verdict p (paramsFault p)

@@ -6,93 +6,67 @@ use Rattle.carriers.specs.Carriers.{headerOf}
 use borrow.Author.Needs.{needs}
 use Rattle.frames.proofs.code_in.Statement.{statement}
 use Rattle.frames.proofs.code_in.Tie as tie
-use Rattle.frames.proofs.code_in.Reads as reads
-use Rattle.frames.proofs.code_in.Lts as lts
-use Rattle.octets.proofs.get16.Reads as get16-reads
-use Rattle.octets.proofs.wide.Reads as wide-reads
-use Rattle.octets.proofs.wide16.Reads as wide16-reads
 
--- src/lib.rt:52:40
 enum-told : tie.Need-enum-told
 enum-told c = search needs
 
--- src/lib.rt:52:40
 shared-slice-read-wide : tie.Need-shared-slice-read-wide
 shared-slice-read-wide c = omega (arith, ap headerOf (c .before .enum-told .given .1))
 
--- src/lib.rt:52:27
 wide-requires : tie.Need-wide-requires
 wide-requires c κs = search needs
 
--- src/lib.rt:53:27
 enum-told-2 : tie.Need-enum-told-2
 enum-told-2 c = search needs
 
--- src/lib.rt:53:27
 get16-requires : tie.Need-get16-requires
 get16-requires c κs = omega (arith, ap headerOf (c .enum-told2 .given .1))
 
--- src/lib.rt:54:41
 enum-told-3 : tie.Need-enum-told-3
 enum-told-3 c = search needs
 
--- src/lib.rt:54:41
 shared-slice-read-wide-2 : tie.Need-shared-slice-read-wide-2
 shared-slice-read-wide-2 c = omega (arith, ap headerOf (c .before .enum-told3 .given .1))
 
--- src/lib.rt:54:28
 wide-requires-2 : tie.Need-wide-requires-2
 wide-requires-2 c κs = search needs
 
--- src/lib.rt:55:41
 enum-told-4 : tie.Need-enum-told-4
 enum-told-4 c = search needs
 
--- src/lib.rt:55:41
 shared-slice-read-wide16 : tie.Need-shared-slice-read-wide16
 shared-slice-read-wide16 c = omega (arith, ap headerOf (c .before .enum-told4 .given .1))
 
--- src/lib.rt:55:53
 shared-slice-read-wide16-2 : tie.Need-shared-slice-read-wide16-2
 shared-slice-read-wide16-2 c = omega (arith, ap headerOf (c .before .before .enum-told4 .given .1))
 
--- src/lib.rt:55:26
 wide16-requires : tie.Need-wide16-requires
 wide16-requires c κs = search needs
 
--- src/lib.rt:56:41
 enum-told-5 : tie.Need-enum-told-5
 enum-told-5 c = search needs
 
--- src/lib.rt:56:41
 shared-slice-read-wide16-3 : tie.Need-shared-slice-read-wide16-3
 shared-slice-read-wide16-3 c = omega (arith, ap headerOf (c .before .enum-told5 .given .1))
 
--- src/lib.rt:56:53
 shared-slice-read-wide16-4 : tie.Need-shared-slice-read-wide16-4
 shared-slice-read-wide16-4 c = omega (arith, ap headerOf (c .before .before .enum-told5 .given .1))
 
--- src/lib.rt:56:26
 wide16-requires-2 : tie.Need-wide16-requires-2
 wide16-requires-2 c κs = search needs
 
--- src/lib.rt:47:1
 returns : tie.Need-returns
 returns c = rw (c .before .before .enum-told .given .1) (c .wide .ensures .0)
 
--- src/lib.rt:47:1
 returns-2 : tie.Need-returns-2
 returns-2 c = rw (c .before .enum-told2 .given .1) (c .get16 .ensures .0)
 
--- src/lib.rt:47:1
 returns-3 : tie.Need-returns-3
 returns-3 c = rw (c .before .before .enum-told3 .given .1) (c .wide2 .ensures .0)
 
--- src/lib.rt:47:1
 returns-4 : tie.Need-returns-4
 returns-4 c = rw (c .before .before .before .enum-told4 .given .1) (c .wide16 .ensures .0)
 
--- src/lib.rt:47:1
 returns-5 : tie.Need-returns-5
 returns-5 c = rw (c .before .before .before .enum-told5 .given .1) (c .wide162 .ensures .0)
 

@@ -13,10 +13,6 @@ use Rattle.frames.specs.Laws.{step-block, step-skipped}
 use Rattle.frames.specs.GatherLaws.{Gathering, gathering-start, gathering-block, gathering-skipped, gathering-end, gathering-fault}
 use Rattle.frames.proofs.gather.Statement.{statement}
 use Rattle.frames.proofs.gather.Tie as tie
-use Rattle.frames.proofs.gather.Reads as reads
-use Rattle.frames.proofs.gather.Lts as lts
-use Rattle.frames.proofs.next_block.Reads as next-block-reads
-use Rattle.frames.proofs.one_more.Reads as one-more-reads
 
 abbrev Inv-loop : tie.InvT-loop
 Inv-loop area at₀ found₀ at found = Gathering area at found
@@ -35,57 +31,44 @@ skipped : (c : tie.After-end Inv-loop μ-loop)
     stepAt Dhcp4 (now (l .before .before .args .area)) (l .loop .at) ≡ Step.Skipped (c .end .given .0 .0)
 skipped c = sym (c .before .before .next-block .ensures) ∙ c .end .given .1
 
--- src/lib.rt:166:5
 loop-holds : tie.Need-loop-holds Inv-loop μ-loop
 loop-holds c = gathering-start _
 
--- src/lib.rt:167:15
 next-block-requires : tie.Need-next-block-requires Inv-loop μ-loop
 next-block-requires c κs = search needs
 
--- src/lib.rt:168:27
 enum-known-start : tie.Need-enum-known-start Inv-loop μ-loop
 enum-known-start c = search needs
 
--- src/lib.rt:169:17
 one-more-requires : tie.Need-one-more-requires Inv-loop μ-loop
 one-more-requires c κs = search needs
 
--- src/lib.rt:166:5
 loop-less : tie.Need-loop-less Inv-loop μ-loop
 loop-less c = let m = step-block _ _ _ (block (c .before .before)) in omega arith
 
--- src/lib.rt:166:5
 loop-again : tie.Need-loop-again Inv-loop μ-loop
 loop-again c =
     let k = c .before .before in
     rw (c .one-more .ensures) (gathering-block (k .before .before .before .loop .inv) (block k))
 
--- src/lib.rt:172:29
 enum-known-end : tie.Need-enum-known-end Inv-loop μ-loop
 enum-known-end c = search needs
 
--- src/lib.rt:166:5
 loop-less-2 : tie.Need-loop-less-2 Inv-loop μ-loop
 loop-less-2 c = let m = step-skipped _ _ _ (skipped (c .before)) in omega arith
 
--- src/lib.rt:166:5
 loop-again-2 : tie.Need-loop-again-2 Inv-loop μ-loop
 loop-again-2 c = gathering-skipped (c .before .before .before .before .loop .inv) (skipped (c .before))
 
--- src/lib.rt:176:17
 enum-told : tie.Need-enum-told Inv-loop μ-loop
 enum-told c = search needs
 
--- src/lib.rt:176:17
 returns : tie.Need-returns Inv-loop μ-loop
 returns c = gathering-end (c .before .before .before .loop .inv) (sym (c .before .before .next-block .ensures) ∙ c .enum-told .given .1)
 
--- src/lib.rt:179:17
 enum-told-2 : tie.Need-enum-told-2 Inv-loop μ-loop
 enum-told-2 c = search needs
 
--- src/lib.rt:179:17
 returns-2 : tie.Need-returns-2 Inv-loop μ-loop
 returns-2 c = gathering-fault (c .before .before .before .loop .inv) (sym (c .before .before .next-block .ensures) ∙ c .enum-told2 .given .1)
 

@@ -1,6 +1,6 @@
 -- `frames::join` meets its contract. The invariant: the bodies met so far stand at the front of `out`. The measure is what is left
 -- of the area. Assumes nothing.
-use mathlib.Core.Path.{_≡_, refl, sym, ap, _∙_}
+use mathlib.Core.Path.{_≡_, sym, _∙_}
 use native.Mathlib.Omega.{arith}
 use Prim.Native.Nat.{_-_}
 use borrow.Author.Needs.{needs}
@@ -9,14 +9,10 @@ use denote.Ref.{now}
 use Rattle.carriers.specs.declared.Carrier.the-variants.{Dhcp4}
 use Rattle.frames.specs.declared.Step.{Step}
 use Rattle.frames.specs.Step.{stepAt}
-use Rattle.frames.specs.Laws.{step-block, step-skipped, step-body}
+use Rattle.frames.specs.Laws.{step-block, step-skipped}
 use Rattle.frames.specs.GatherLaws.{Joining, joining-start, joining-room, joining-block, joining-skipped, joining-end, joining-fault, joining-length}
 use Rattle.frames.proofs.join.Statement.{statement}
 use Rattle.frames.proofs.join.Tie as tie
-use Rattle.frames.proofs.join.Reads as reads
-use Rattle.frames.proofs.join.Lts as lts
-use Rattle.frames.proofs.next_block.Reads as next-block-reads
-use Rattle.octets.proofs.copy.Reads as copy-reads
 
 abbrev Inv-loop : tie.InvT-loop
 Inv-loop area out₀ at₀ n₀ out at n = Joining area out₀ at n out
@@ -35,82 +31,64 @@ skipped : (c : tie.After-end Inv-loop μ-loop)
     stepAt Dhcp4 (now (l .before .before .before .args .area)) (l .loop .at) ≡ Step.Skipped (c .end .given .0 .0)
 skipped c = sym (c .before .before .next-block .ensures) ∙ c .end .given .1
 
--- src/lib.rt:193:5
 loop-holds : tie.Need-loop-holds Inv-loop μ-loop
 loop-holds c = joining-start _ _
 
--- src/lib.rt:194:15
 next-block-requires : tie.Need-next-block-requires Inv-loop μ-loop
 next-block-requires c κs = search needs
 
--- src/lib.rt:195:27
 enum-known-start : tie.Need-enum-known-start Inv-loop μ-loop
 enum-known-start c = search needs
 
--- src/lib.rt:196:42
 sub-copy : tie.Need-sub-copy Inv-loop μ-loop
 sub-copy c = let m = step-block _ _ _ (block (c .before .before)) in omega arith
 
--- src/lib.rt:196:42
 part-copy-start : tie.Need-part-copy-start Inv-loop μ-loop
 part-copy-start c = let m = step-block _ _ _ (block (c .before .before)) in omega arith
 
--- src/lib.rt:196:42
 part-copy-end : tie.Need-part-copy-end Inv-loop μ-loop
 part-copy-end c = let m = step-block _ _ _ (block (c .before .before)) in omega arith
 
--- src/lib.rt:196:17
 copy-requires : tie.Need-copy-requires Inv-loop μ-loop
 copy-requires c κs =
     let k = c .before .before .before in
     let l = k .before .before .before in
     joining-room (l .loop .inv) (l .before .before .before .pre) (block k)
 
--- src/lib.rt:193:5
 loop-less : tie.Need-loop-less Inv-loop μ-loop
 loop-less c = let m = step-block _ _ _ (block (c .before .before .before .before .before .before)) in omega arith
 
--- src/lib.rt:193:5
 loop-again : tie.Need-loop-again Inv-loop μ-loop
 loop-again c =
     let k = c .before .before .before .before .before .before in
     joining-block (k .before .before .before .loop .inv) (block k) (c .before .before .copy .ensures)
 
--- src/lib.rt:199:29
 enum-known-end : tie.Need-enum-known-end Inv-loop μ-loop
 enum-known-end c = search needs
 
--- src/lib.rt:193:5
 loop-less-2 : tie.Need-loop-less-2 Inv-loop μ-loop
 loop-less-2 c = let m = step-skipped _ _ _ (skipped (c .before)) in omega arith
 
--- src/lib.rt:193:5
 loop-again-2 : tie.Need-loop-again-2 Inv-loop μ-loop
 loop-again-2 c = joining-skipped (c .before .before .before .before .loop .inv) (skipped (c .before))
 
--- src/lib.rt:203:17
 enum-told : tie.Need-enum-told Inv-loop μ-loop
 enum-told c = search needs
 
--- src/lib.rt:203:17
 same-length : tie.Need-same-length Inv-loop μ-loop
 same-length c = joining-length (c .before .before .before .loop .inv)
 
--- src/lib.rt:203:17
 returns : tie.Need-returns Inv-loop μ-loop
 returns c =
     let l = c .before .before .before in
     (joining-end (l .loop .inv) (sym (c .before .before .next-block .ensures) ∙ c .enum-told .given .1), omega (arith, l .loop .inv .behind, l .loop .inv .walked .within))
 
--- src/lib.rt:206:17
 enum-told-2 : tie.Need-enum-told-2 Inv-loop μ-loop
 enum-told-2 c = search needs
 
--- src/lib.rt:206:17
 same-length-2 : tie.Need-same-length-2 Inv-loop μ-loop
 same-length-2 c = joining-length (c .before .before .before .loop .inv)
 
--- src/lib.rt:206:17
 returns-2 : tie.Need-returns-2 Inv-loop μ-loop
 returns-2 c =
     let l = c .before .before .before in

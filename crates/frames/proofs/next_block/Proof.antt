@@ -15,10 +15,6 @@ use Rattle.frames.specs.Laws.{step-at-end, step-past, step-is, option-fi
 use borrow.Author.Needs.{needs}
 use Rattle.frames.proofs.next_block.Statement.{statement}
 use Rattle.frames.proofs.next_block.Tie as tie
-use Rattle.frames.proofs.next_block.Reads as reads
-use Rattle.frames.proofs.next_block.Lts as lts
-use Rattle.carriers.proofs.Carrier.header_size.Reads as header-size-reads
-use Rattle.frames.proofs.first.Reads as first-reads
 
 -- at the arm of an option: the entry, the octets from there on, and what was read of them
 abbrev start : tie.After-own → tie.Start
@@ -30,55 +26,42 @@ rest c = let a = start c .args in take (length (now (a .area)) - a .at) (drop (a
 read : (c : tie.After-own) → Head.Option (c .own .given .0 .0) (c .own .given .0 .1 .0) ≡ firstOf (start c .args .c) (rest c)
 read c = sym (c .own .given .1) ∙ c .before .before .first .ensures
 
--- src/lib.rt:123:9
 returns : tie.Need-returns
 returns c = sym (step-at-end _ _ _ (c .if1 .taken))
 
--- src/lib.rt:126:9
 returns-2 : tie.Need-returns-2
 returns-2 c = sym (step-past _ _ _ (c .if2 .taken))
 
--- src/lib.rt:128:20
 sub-first : tie.Need-sub-first
 sub-first c = search needs
 
--- src/lib.rt:128:20
 part-first-start : tie.Need-part-first-start
 part-first-start c = search needs
 
--- src/lib.rt:128:20
 part-first-end : tie.Need-part-first-end
 part-first-end c = search needs
 
--- src/lib.rt:128:11
 first-requires : tie.Need-first-requires
 first-requires c κs = search needs
 
--- src/lib.rt:129:22
 enum-told : tie.Need-enum-told
 enum-told c = search needs
 
--- src/lib.rt:130:22
 enum-told-2 : tie.Need-enum-told-2
 enum-told-2 c = search needs
 
--- src/lib.rt:131:24
 enum-known-own : tie.Need-enum-known-own
 enum-known-own c = search needs
 
--- src/lib.rt:133:21
 sub-if3 : tie.Need-sub-if3
 sub-if3 c = search needs
 
--- src/lib.rt:134:27
 add-end : tie.Need-add-end
 add-end c = search needs
 
--- src/lib.rt:136:38
 header-size-requires : tie.Need-header-size-requires
 header-size-requires c κs = search needs
 
--- src/lib.rt:136:33
 add-start : tie.Need-add-start
 add-start c =
     let k = c .before .before .before .before in
@@ -87,46 +70,41 @@ add-start c =
     ap (λ (own : Bool). Head.Option own (k .own .given .0 .1 .0)) (sym (c .before .if4 .taken)) ∙ read k in
     omega (arith, c .header-size .ensures, own-room (a .c) (now (a .area)) (a .at) (omega arith) own)
 
--- src/lib.rt:119:1
 returns-3 : tie.Need-returns-3
 returns-3 c =
     let a = c .before .before .before .before .before .before .before .args in
     step-is (a .c) (now (a .area)) (a .at) (omega arith) (sym (c .enum-told .given .1) ∙ c .before .before .first .ensures) refl
 
--- src/lib.rt:119:1
 returns-4 : tie.Need-returns-4
 returns-4 c =
     let a = c .before .before .before .before .before .before .before .args in
     step-is (a .c) (now (a .area)) (a .at) (omega arith) (sym (c .enum-told2 .given .1) ∙ c .before .before .first .ensures) refl
 
--- src/lib.rt:119:1
 returns-5 : tie.Need-returns-5
 returns-5 c =
     let k = c .before .before .before .before in
     let a = start k .args in
     let n = k .own .given .0 .1 .0 .0 in
     step-is (a .c) (now (a .area)) (a .at) (omega arith) (read k)
-    (option-fits (a .c) (length (now (a .area)) - a .at) (a .at) (k .own .given .0 .0) n (c .before .before .if3 .taken)
+    (option-fits (a .c) (length (now (a .area)) - a .at) (a .at) (k .own .given .0 .0) n (omega arith)
     ∙ ap (λ (own : Bool). optionAt (a .c) (a .at) own n) (c .before .if4 .taken)
     ∙ ap (λ (h : ℕ). Step.Block (a .at + h) (a .at + n)) (sym (c .header-size .ensures)))
 
--- src/lib.rt:119:1
 returns-6 : tie.Need-returns-6
 returns-6 c =
     let k = c .before .before .before in
     let a = start k .args in
     let n = k .own .given .0 .1 .0 .0 in
     step-is (a .c) (now (a .area)) (a .at) (omega arith) (read k)
-    (option-fits (a .c) (length (now (a .area)) - a .at) (a .at) (k .own .given .0 .0) n (c .before .if3 .taken)
+    (option-fits (a .c) (length (now (a .area)) - a .at) (a .at) (k .own .given .0 .0) n (omega arith)
     ∙ ap (λ (own : Bool). optionAt (a .c) (a .at) own n) (c .if4 .left))
 
--- src/lib.rt:119:1
 returns-7 : tie.Need-returns-7
 returns-7 c =
     let k = c .before .before in
     let a = start k .args in
     step-is (a .c) (now (a .area)) (a .at) (omega arith) (read k)
-    (option-over (a .c) (length (now (a .area)) - a .at) (a .at) (k .own .given .0 .0) (k .own .given .0 .1 .0 .0) (c .if3 .left))
+    (option-over (a .c) (length (now (a .area)) - a .at) (a .at) (k .own .given .0 .0) (k .own .given .0 .1 .0 .0) (omega arith))
 
 pub next-block-spec : {M : Type 1} → statement M
 next-block-spec =

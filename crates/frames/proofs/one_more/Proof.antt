@@ -2,38 +2,28 @@
 use borrow.Author.Needs.{needs}
 use Rattle.frames.proofs.one_more.Statement.{statement}
 use Rattle.frames.proofs.one_more.Tie as tie
-use Rattle.frames.proofs.one_more.Reads as reads
-use Rattle.frames.proofs.one_more.Lts as lts
 
--- src/lib.rt:153:29
 enum-told : tie.Need-enum-told
 enum-told c = search needs
 
--- src/lib.rt:154:29
 enum-told-2 : tie.Need-enum-told-2
 enum-told-2 c = search needs
 
--- src/lib.rt:155:47
 enum-told-3 : tie.Need-enum-told-3
 enum-told-3 c = search needs
 
--- src/lib.rt:156:27
 enum-told-4 : tie.Need-enum-told-4
 enum-told-4 c = search needs
 
--- src/lib.rt:149:1
 returns : tie.Need-returns
 returns c = search needs
 
--- src/lib.rt:149:1
 returns-2 : tie.Need-returns-2
 returns-2 c = rw (c .enum-told2 .given .1)
 
--- src/lib.rt:149:1
 returns-3 : tie.Need-returns-3
 returns-3 c = search needs
 
--- src/lib.rt:149:1
 returns-4 : tie.Need-returns-4
 returns-4 c = search needs
 

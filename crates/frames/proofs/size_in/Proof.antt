@@ -6,93 +6,67 @@ use Rattle.carriers.specs.Carriers.{headerOf}
 use borrow.Author.Needs.{needs}
 use Rattle.frames.proofs.size_in.Statement.{statement}
 use Rattle.frames.proofs.size_in.Tie as tie
-use Rattle.frames.proofs.size_in.Reads as reads
-use Rattle.frames.proofs.size_in.Lts as lts
-use Rattle.carriers.proofs.octets_of.Reads as octets-of-reads
-use Rattle.octets.proofs.get16.Reads as get16-reads
-use Rattle.octets.proofs.wide.Reads as wide-reads
 
--- src/lib.rt:66:51
 enum-told : tie.Need-enum-told
 enum-told c = search needs
 
--- src/lib.rt:66:51
 shared-slice-read-wide : tie.Need-shared-slice-read-wide
 shared-slice-read-wide c = omega (arith, ap headerOf (c .before .enum-told .given .1))
 
--- src/lib.rt:66:38
 wide-requires : tie.Need-wide-requires
 wide-requires c κs = search needs
 
--- src/lib.rt:66:34
 add-t7 : tie.Need-add-t7
 add-t7 c = search needs
 
--- src/lib.rt:67:38
 enum-told-2 : tie.Need-enum-told-2
 enum-told-2 c = search needs
 
--- src/lib.rt:67:38
 get16-requires : tie.Need-get16-requires
 get16-requires c κs = omega (arith, ap headerOf (c .enum-told2 .given .1))
 
--- src/lib.rt:67:34
 add-t9 : tie.Need-add-t9
 add-t9 c = search needs
 
--- src/lib.rt:68:55
 enum-told-3 : tie.Need-enum-told-3
 enum-told-3 c = search needs
 
--- src/lib.rt:68:55
 shared-slice-read-t11 : tie.Need-shared-slice-read-t11
 shared-slice-read-t11 c = omega (arith, ap headerOf (c .before .enum-told3 .given .1))
 
--- src/lib.rt:68:28
 octets-of-requires : tie.Need-octets-of-requires
 octets-of-requires c κs = search needs
 
--- src/lib.rt:69:37
 enum-told-4 : tie.Need-enum-told-4
 enum-told-4 c = search needs
 
--- src/lib.rt:69:37
 get16-requires-2 : tie.Need-get16-requires-2
 get16-requires-2 c κs = omega (arith, ap headerOf (c .enum-told4 .given .1))
 
--- src/lib.rt:69:33
 add-t14 : tie.Need-add-t14
 add-t14 c = search needs
 
--- src/lib.rt:70:37
 enum-told-5 : tie.Need-enum-told-5
 enum-told-5 c = search needs
 
--- src/lib.rt:70:37
 get16-requires-3 : tie.Need-get16-requires-3
 get16-requires-3 c κs = omega (arith, ap headerOf (c .enum-told5 .given .1))
 
--- src/lib.rt:70:33
 add-t16 : tie.Need-add-t16
 add-t16 c = search needs
 
--- src/lib.rt:61:1
 returns : tie.Need-returns
 returns c = rw (c .before .before .enum-told .given .1) (omega arith)
 
--- src/lib.rt:61:1
 returns-2 : tie.Need-returns-2
 returns-2 c = rw (c .before .enum-told2 .given .1) (omega arith)
 
--- src/lib.rt:61:1
 returns-3 : tie.Need-returns-3
 returns-3 c = rw (c .before .before .enum-told3 .given .1) (omega arith)
 
--- src/lib.rt:61:1
 returns-4 : tie.Need-returns-4
 returns-4 c = rw (c .before .enum-told4 .given .1) (omega arith)
 
--- src/lib.rt:61:1
 returns-5 : tie.Need-returns-5
 returns-5 c = rw (c .before .enum-told5 .given .1) (omega arith)
 

@@ -2,7 +2,6 @@
 -- At each return one lemma of Outcomes says what the walk answers on the way there. Assumes nothing.
 use Prim.Native.Nat.{ℕ, _<_, _-_}
 use borrow.Author.Needs.{needs}
-use lib.ListN.{getD}
 use borrow.Fn.Kinds.{In}
 use borrow.Fn.PlainCycle.{Measures, is, falls, and}
 use Rattle.names.specs.Outcomes.{cut-short, hyphen-letter, hyphen-hyphen, hyphen-other, letter-letter, letter-hyphen, letter-other, root-first, root-more, root-last, label-unfit, cut-at-first, label-opens, bad-first-octet, told, told-not, told-not-not, hyphen-more}
@@ -62,14 +61,12 @@ pub +after-hyphen+after-letter-spec : {M : Type 1} → statement M
     after-hyphen.Post
     (λ c. search (needs, cut-short))
     (λ c. search needs)
+    (λ c. search needs)
     (λ c κs. search needs)
-    (λ c. search needs)
-    (λ c. search needs)
     (λ c κs. search needs)
     (λ c. search (needs, hyphen-letter, told))
+    (λ c. search needs)
     (λ c κs. search needs)
-    (λ c. search needs)
-    (λ c. search needs)
     (λ c κs. search (needs, hyphen-more))
     (λ c. search (needs, hyphen-hyphen, told))
     (λ c. search (needs, hyphen-other, told)))
@@ -94,14 +91,10 @@ pub +after-hyphen+after-letter-spec : {M : Type 1} → statement M
     (λ c. search (needs, label-opens, told, told-not-not))
     (λ c. search (needs, bad-first-octet, told, told-not-not))
     (λ c κs. search needs)
-    (λ c. search needs)
     (λ c κs. search needs)
     (λ c. search (needs, letter-letter, told))
-    (λ c κs. search needs)
     (λ c. search needs)
-    (λ c κs.
-    let a = c .before .before .before .before .before .before .before .args in
-    let more = hyphen-more (a .left) (getD (a .s .now) (a .at) 0) (c .before .hyphen-fits .ensures) (c .if10 .taken) in
-    (search needs, (search needs, search needs, more)))
+    (λ c κs. search needs)
+    (λ c κs. search (needs, hyphen-more))
     (λ c. search (needs, letter-hyphen, told))
     (λ c. search (needs, letter-other, told))

@@ -1,7 +1,6 @@
 -- `svcparams::mandatory` meets its contract. Assumes nothing.
 use borrow.Author.Needs.{needs}
 use Rattle.svcparams.specs.ValueLaws.{mandatory-none, mandatory-odd, mandatory-unordered, mandatory-ordered}
-use borrow.Author.Needs.{needs}
 use Rattle.svcparams.proofs.mandatory.Statement.{statement}
 use Rattle.svcparams.proofs.mandatory.Tie as tie
 

@@ -1,7 +1,6 @@
 -- `svcparams::params_fault` meets its contract. Assumes nothing.
 use borrow.Author.Needs.{needs}
 use Rattle.svcparams.specs.WalkLaws.{fault-parameters, fault-hint, fault-value, fault-none}
-use borrow.Author.Needs.{needs}
 use Rattle.svcparams.proofs.params_fault.Statement.{statement}
 use Rattle.svcparams.proofs.params_fault.Tie as tie
 

@@ -1,7 +1,6 @@
 -- `svcparams::size` meets its contract. Assumes nothing.
 use borrow.Author.Needs.{needs}
 use Rattle.svcparams.specs.TilingLaws.{size-short, size-over, size-fits}
-use borrow.Author.Needs.{needs}
 use Rattle.svcparams.proofs.size.Statement.{statement}
 use Rattle.svcparams.proofs.size.Tie as tie
 

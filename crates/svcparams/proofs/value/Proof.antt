@@ -1,7 +1,6 @@
 -- `svcparams::value` meets its contract. Assumes nothing.
 use borrow.Author.Needs.{needs}
 use Rattle.svcparams.specs.ValueLaws.{value-mandatory, value-alpn, value-no-default-alpn, value-port, value-other}
-use borrow.Author.Needs.{needs}
 use Rattle.svcparams.proofs.value.Statement.{statement}
 use Rattle.svcparams.proofs.value.Tie as tie
 

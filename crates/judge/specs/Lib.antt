@@ -1,0 +1,3 @@
+pub mod Judge
+pub mod JudgeLaws
+pub mod Outcomes

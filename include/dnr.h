@@ -1,0 +1,55 @@
+/* dnr.h: encrypted DNS resolvers learned from the network (RFC 9463, RFC 9464).
+ *
+ * The functions of libdnr.a. They keep no state, allocate nothing, call nothing and may be used from any number of threads at once.
+ * They take any octets and any buffer, return always, and touch no memory but the buffers that are passed. The buffers of one
+ * call must not overlap. A pointer may be NULL where its length is 0. Nothing that is passed is kept after the call.
+ * Reading uses at most 48 KiB of stack (a DHCPv4 area with several options 162 is joined there).
+ */
+#ifndef DNR_H
+#define DNR_H
+
+#include <stddef.h>
+#include <stdint.h>
+
+#ifdef __cplusplus
+extern "C" {
+#endif
+
+/* Carriers: the first argument of dnr_read. */
+enum {
+    DNR_DHCP4 = 1, /* DHCPv4 option 162 */
+    DNR_DHCP6 = 2, /* DHCPv6 option 144 */
+    DNR_RA = 3,    /* router advertisement option 144 */
+    DNR_IKE4 = 4,  /* IKEv2 attribute 27, ENCDNS_IP4 */
+    DNR_IKE6 = 5   /* IKEv2 attribute 28, ENCDNS_IP6 */
+};
+
+/* Limits. DNR_MAX_SHEET octets have room for every sheet. */
+enum {
+    DNR_MAX_INPUT = 40960,
+    DNR_MAX_RECORDS = 16,
+    DNR_MAX_SHEET = 36775
+};
+
+/* What dnr_read gives back.
+ *   number     0: done. Otherwise a refusal; every other field is 0 and no octet of the sheet was changed:
+ *              1 carrier not 1 to 5, 2 area longer than 40,960 octets, 3 the area cannot be framed, 4 more than 16 records,
+ *              5 the sheet's buffer is shorter than the sheet.
+ *   length     octets of the sheet that were written; past them the buffer is unchanged.
+ *   found      blocks of the carrier that the area has (DHCPv4: all options 162 together are one).
+ *   discarded  those of them that were discarded for a fault.
+ *   fault      the first discarded block's fault, 20 to 29, or 0.
+ */
+typedef struct {
+    size_t number, length, found, discarded, fault;
+} dnr_reading;
+
+/* Reads an area (the options field of a DHCP message or router advertisement, or a run of IKEv2 configuration attributes) and
+ * writes the record sheet of its resolvers, by rising priority. */
+dnr_reading dnr_read(uint8_t carrier, const uint8_t *area, size_t area_len, uint8_t *sheet, size_t sheet_len);
+
+#ifdef __cplusplus
+}
+#endif
+
+#endif
