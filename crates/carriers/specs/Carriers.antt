@@ -24,7 +24,7 @@ numberOf Router = 3
 numberOf Ike4 = 4
 numberOf Ike6 = 5
 
--- the code of the carrier's own options, or the type of its attributes (RFC 9463 §9, RFC 9464 §7)
+-- the code of the carrier's own options, or the type of its attributes (RFC 9463 §9, RFC 9464 §8)
 abbrev pub codeOf : Carrier → ℕ
 codeOf Dhcp4 = 162
 codeOf Dhcp6 = 144
@@ -48,7 +48,7 @@ addressWidth Router = 16
 addressWidth Ike4 = 4
 addressWidth Ike6 = 16
 
--- octets of the ADN length, and of the address length in carriers 1 to 3
+-- octets of the ADN length, of the address length in carriers 1 to 3, and of the parameter length in carrier 3
 abbrev pub lengthWidth : Carrier → ℕ
 lengthWidth Dhcp4 = 1
 lengthWidth Dhcp6 = 2

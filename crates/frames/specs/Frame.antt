@@ -30,7 +30,7 @@ sizeIn Router s = 8 * getD s 1 0
 sizeIn Ike4 s = 4 + at16 s 2
 sizeIn Ike6 s = 4 + at16 s 2
 
--- a header that runs past the end is no header, and neither is one that says a length of 0 (carrier 3)
+-- a header that runs past the end is no header, and neither is one that says a size of 0, which only carrier 3 can say (RFC 4861 §4.6)
 abbrev pub headIn : Carrier → List ℕ → Head
 headIn c s =
     cond (ltb (length s) (headerOf c)) Bad
@@ -66,7 +66,7 @@ after c s Bad go = fault
 after c s End go = framed []
 after c s (Option own size) go = onto own (drop (headerOf c) (take (size .0) s)) (go (size .0 - 1))
 
--- the area with its first k octets still to be skipped
+-- the area with its first k octets still to be skipped; a body that runs past the end is a fault
 unfoldable pub frameFrom : Carrier → ℕ → List ℕ → Framed
 frameFrom c zero [] = framed []
 frameFrom c (suc k) [] = fault

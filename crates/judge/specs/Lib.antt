@@ -1,3 +1,4 @@
 pub mod Judge
+pub mod Passed
 pub mod JudgeLaws
 pub mod Outcomes

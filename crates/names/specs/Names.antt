@@ -1,5 +1,5 @@
--- What an acceptable name is (01, Names), said of the whole list: the label rule, the wire form and its limits, and the place of
--- the first octet at which no acceptable name can continue. Assumes nothing: these are definitions.
+-- What an acceptable name is (01, Names), said of the whole list: the label rule, the wire form and its limits; and the place of
+-- the first octet at which no acceptable name can continue (02, g). Assumes nothing: these are definitions.
 use mathlib.Core.Path.{_≡_}
 use mathlib.Core.Logic.{_⊎_}
 use mathlib.Core.Bool.{Bool, true, _&&_, _||_}

@@ -17,7 +17,7 @@ name = 22
 abbrev pub addresses : ℕ
 addresses = 23
 
--- more than 63 addresses, or over 1,024 octets of parameters
+-- more than 63 addresses as carried, or over 1,024 octets of parameters
 abbrev pub limit : ℕ
 limit = 24
 

@@ -1,4 +1,4 @@
--- The limits of document 01 ("The record sheet", house rules). Assumes nothing: these are definitions.
+-- The limits of document 01 ("The record sheet", house rules; 2,040 from "Numbers given back"). Assumes nothing: these are definitions.
 use Prim.Native.Nat.{ℕ}
 
 -- octets of input

@@ -33,7 +33,7 @@ version = 41
 abbrev pub sheetCarrier : ℕ
 sheetCarrier = 42
 
--- a sheet does not tile, and what goes with it
+-- a sheet does not tile, a mode is not 0 or 1, priorities fall, or a lifetime stands where none belongs
 abbrev pub tiling : ℕ
 tiling = 43
 

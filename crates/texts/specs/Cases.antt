@@ -5,7 +5,7 @@ use Prim.Native.Nat.{ℕ, _-_, _≤_, _<_}
 use lib.Dec.{leb, eqb}
 use borrow.Author.Tests.{eqb-true, eqb-false, leb-true, leb-false}
 use Rattle.names.specs.Names.{alnum}
-use Rattle.texts.specs.TextCheck.{State, start, letter, hyphen, Move, stop, go, step, after, inside, dot}
+use Rattle.texts.specs.TextCheck.{start, letter, hyphen, Move, stop, go, step, after, inside, dot}
 
 by-test : (b : Bool) (P : Bool → Type 0) → (b ≡ true → P true) → (b ≡ false → P false) → P b
 by-test true P f g = f refl

@@ -1,8 +1,8 @@
 -- `textCheck` says `Good` of the texts and of nothing else, and `Bad p` exactly where p is the first bad place; and it never looks
 -- past the first 254 octets. Assumes nothing.
-use mathlib.Core.Path.{_≡_, refl, sym, ap, _∙_}
-use mathlib.Core.Logic.{_↔_, _⊎_, inl, inr}
-use mathlib.Core.List.{List, _++_}
+use mathlib.Core.Path.{_≡_, refl, ap, _∙_}
+use mathlib.Core.Logic.{_↔_}
+use mathlib.Core.List.{List}
 use mathlib.Core.Bool.{Bool, true, false}
 use Prim.Native.Nat.{ℕ, _+_, _≤_, _<_, min}
 use native.Mathlib.Omega.{arith}
@@ -40,10 +40,10 @@ place-small s p b =
     let f = length-take-le p s w in
     omega arith
 
--- the first 254 octets decide
-front-long : (s : List ℕ) (n : ℕ) (r : Name) → textCheck s ≡ r → 254 ≤ n → n < length s → textCheck (take n s) ≡ r
-front-long s n Good e h k = let o = good-sound s e .short in absurd (omega arith)
-front-long s n (Bad p) e h k =
+-- what comes after 254 octets changes nothing
+longer : (s : List ℕ) (n : ℕ) (r : Name) → textCheck s ≡ r → 254 ≤ n → n < length s → textCheck (take n s) ≡ r
+longer s n Good e h k = let o = good-sound s e .short in absurd (omega arith)
+longer s n (Bad p) e h k =
     let b = bad-first s p e in
     let q = place-small s p b in
     let f = length-take-le n s (omega arith) in
@@ -54,9 +54,9 @@ front-long s n (Bad p) e h k =
       halts = λ l t o. b .halts (omega arith) t (rw (take-take (p + 1) n s (omega arith)) at o);
     }
 
-pub decides : (s : List ℕ) (n : ℕ) → n ≡ min 254 (length s) → textCheck (take n s) ≡ textCheck s
-decides s n e = go (leb (length s) n) refl
+pub check-first-254 : (s : List ℕ) (n : ℕ) → min 254 (length s) ≤ n → textCheck (take n s) ≡ textCheck s
+check-first-254 s n h = go (leb (length s) n) refl
   where
     go : (b : Bool) → leb (length s) n ≡ b → textCheck (take n s) ≡ textCheck s
     go true t = ap textCheck (take-all n s (leb-true _ _ t))
-    go false t = let k = leb-false _ _ t in front-long s n (textCheck s) refl (omega arith) k
+    go false t = let k = leb-false _ _ t in longer s n (textCheck s) refl (omega arith) k

@@ -12,17 +12,18 @@ use Rattle.octets.specs.Over.{over, Wrote}
 use Rattle.names.specs.declared.Name.{Name}
 use Rattle.names.specs.declared.Name.the-variants.{Good, Bad}
 use Rattle.names.specs.Names.{alnum}
-use Rattle.texts.specs.TextCheck.{State, start, letter, hyphen, Move, stop, go, step, walk, after, inside, dot, ended, textCheck, placeOf}
+use Rattle.names.specs.Wire.{past, placed}
+use Rattle.texts.specs.TextCheck.{State, start, letter, hyphen, stop, go, step, walk, after, dot, ended, textCheck}
 use Rattle.texts.specs.Laws.{goes, stops, start-letter, start-other, dot-goes, dot-far, dot-other, inside-letter, inside-long, inside-hyphen, inside-last, inside-other}
 use Rattle.texts.specs.Place.{bad-first}
-use Rattle.texts.specs.Exact.{place-small, decides}
+use Rattle.texts.specs.Exact.{place-small, check-first-254}
 
 -- the number of the walk from a place on
 abbrev pub from : List ℕ → ℕ → State → ℕ → ℕ
-from l n st at = placeOf (walk st at (drop at (take n l)))
+from l n st at = placed (walk st at (drop at (take n l)))
 
 module _ (l : List ℕ) (n at : ℕ) (st : State) where
-  at-end : n ≤ at → from l n st at ≡ placeOf (ended st at)
+  at-end : n ≤ at → from l n st at ≡ placed (ended st at)
   unfolding walk
   at-end h =
       let k : length (take n l) ≤ at = simp length-take (omega arith) in
@@ -35,16 +36,16 @@ module _ (l : List ℕ) (n at : ℕ) (st : State) where
         drop-cons (take n l) at 0 k ∙ rw (add-one, getD-take n l at 0 h)
 
     here : step st at (getD l at 0) ≡ stop → at ≡ from l n st at
-    here e = sym (rw one-more (ap placeOf (stops st at (getD l at 0) (drop (at + 1) (take n l)) e)))
+    here e = sym (rw one-more (ap placed (stops st at (getD l at 0) (drop (at + 1) (take n l)) e)))
 
     on-to : {st′ : State} → step st at (getD l at 0) ≡ go st′ → from l n st at ≡ from l n st′ (at + 1)
-    on-to e = rw one-more (ap placeOf (goes st at (getD l at 0) (drop (at + 1) (take n l)) e))
+    on-to e = rw one-more (ap placed (goes st at (getD l at 0) (drop (at + 1) (take n l)) e))
 
 module _ (l : List ℕ) (n at left : ℕ) where
   abbrev x : ℕ
   x = getD l at 0
 
-  pub letter-end : n ≤ at → 256 ≡ from l n (letter left) at
+  pub letter-end : n ≤ at → past ≡ from l n (letter left) at
   letter-end h = sym (at-end l n at (letter left) h)
 
   pub hyphen-end : n ≤ at → at ≡ from l n (hyphen left) at
@@ -119,29 +120,29 @@ first-letter (y ∷ ys) n a = goes start 0 y ys (start-letter 0 y a)
 
 -- the check by a copy l of the octets of s that decide
 pub by-copy : (s l z : List ℕ) (n o r : ℕ) → (length s ≡ 0 → ⊥) → alnum (getD s 0 0) ≡ true → n ≡ min 254 (length s) → Wrote 0 (take n s) z o l
-    → r ≡ from l n (letter 62) 1 → r ≡ placeOf (textCheck s)
+    → r ≡ from l n (letter 62) 1 → r ≡ placed (textCheck s)
 unfolding over
 by-copy s l z n o r h a e w g =
     let k : length (take n s) ≡ n = length-take-le n s (omega arith) in
     let c : take n l ≡ take n s = ap (take n) (w .laid) ∙ take-at (take n s) (drop (0 + length (take n s)) z) n k in
     let b : alnum (getD (take n s) 0 0) ≡ true = rw (getD-take n s 0 0 (omega arith)) a in
-    let f : walk (letter 62) 1 (drop 1 (take n s)) ≡ textCheck s = sym (first-letter (take n s) (omega arith) b) ∙ decides s n e in
-    g ∙ rw c (ap placeOf f)
+    let f : walk (letter 62) 1 (drop 1 (take n s)) ≡ textCheck s = sym (first-letter (take n s) (omega arith) b) ∙ check-first-254 s n (omega arith) in
+    g ∙ rw c (ap placed f)
 
 -- an answer of the walk as an answer of the check
-pub good-answer : (s : List ℕ) (r : ℕ) → r ≡ placeOf (textCheck s) → r ≡ 256 → Good ≡ textCheck s
+pub good-answer : (s : List ℕ) (r : ℕ) → r ≡ placed (textCheck s) → r ≡ past → Good ≡ textCheck s
 good-answer s r e f = go (textCheck s) refl
   where
     go : (a : Name) → textCheck s ≡ a → Good ≡ textCheck s
     go Good h = sym h
-    go (Bad p) h = let q = place-small s p (bad-first s p h) in let k : r ≡ p = e ∙ ap placeOf h in absurd (omega arith)
+    go (Bad p) h = let q = place-small s p (bad-first s p h) in let k : r ≡ p = e ∙ ap placed h in absurd (omega arith)
 
-pub bad-answer : (s : List ℕ) (r : ℕ) → r ≡ placeOf (textCheck s) → (r ≡ 256 → ⊥) → Bad r ≡ textCheck s
+pub bad-answer : (s : List ℕ) (r : ℕ) → r ≡ placed (textCheck s) → (r ≡ past → ⊥) → Bad r ≡ textCheck s
 bad-answer s r e f = go (textCheck s) refl
   where
     go : (a : Name) → textCheck s ≡ a → Bad r ≡ textCheck s
-    go Good h = absurd (f (e ∙ ap placeOf h))
-    go (Bad p) h = ap Bad (e ∙ ap placeOf h) ∙ sym h
+    go Good h = absurd (f (e ∙ ap placed h))
+    go (Bad p) h = ap Bad (e ∙ ap placed h) ∙ sym h
 
 -- what a call told of a flag, and what a test told of the same flag
 pub told : {a b v : Bool} → a ≡ b → a ≡ v → b ≡ v

@@ -9,7 +9,7 @@ use lib.Seq.{take-at}
 use Rattle.names.specs.declared.Name.the-variants.{Good, Bad}
 use Rattle.names.specs.Names.{alnum, FirstBad}
 use Rattle.texts.specs.Texts.{IsText}
-use Rattle.texts.specs.TextCheck.{State, start, letter, hyphen, Move, stop, go, step, on, ended, walk, textCheck, after, inside, dot}
+use Rattle.texts.specs.TextCheck.{State, start, letter, hyphen, Move, stop, go, step, on, walk, textCheck, after, inside, dot}
 use Rattle.texts.specs.Laws.{goes, stops, start-letter, inside-letter}
 use Rattle.texts.specs.Cases.{by-start, by-dot, by-inside}
 use Rattle.texts.specs.Sound.{Valid, not-good, good-sound}

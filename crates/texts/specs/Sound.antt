@@ -1,16 +1,16 @@
 -- What `textCheck` takes is a text. Assumes nothing.
-use mathlib.Core.Path.{_≡_, refl, sym, ap, _∙_}
+use mathlib.Core.Path.{_≡_, refl, ap, _∙_}
 use mathlib.Core.Logic.{inl, inr}
-use mathlib.Core.List.{List, [], _∷_, _++_}
+use mathlib.Core.List.{List, [], _∷_}
 use mathlib.Core.Bool.{true}
-use Prim.Native.Nat.{ℕ, suc, _+_, _-_, _≤_, _<_}
+use Prim.Native.Nat.{ℕ, _+_, _-_, _≤_}
 use native.Mathlib.Omega.{arith}
 use lib.ListN.{length}
 use Rattle.names.specs.declared.Name.the-variants.{Good, Bad}
 use Rattle.octets.specs.Lists.{All}
 use Rattle.names.specs.Names.{alnum, last, Ldh, Label}
-use Rattle.texts.specs.Texts.{dotted, text, IsText}
-use Rattle.texts.specs.TextCheck.{State, start, letter, hyphen, Move, stop, go, step, on, walk, textCheck, after, inside, dot}
+use Rattle.texts.specs.Texts.{dotted, IsText}
+use Rattle.texts.specs.TextCheck.{State, start, letter, hyphen, Move, stop, on, walk, textCheck, after, inside, dot}
 use Rattle.texts.specs.Cases.{by-start, by-dot, by-inside}
 
 -- xs are the octets from the place `at` on: at most k to the end of the label that y is in, and the labels after it

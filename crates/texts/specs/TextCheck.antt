@@ -1,5 +1,5 @@
 -- The check of a name as text (01, Names). Assumes nothing: these are definitions.
-use mathlib.Core.Bool.{Bool, cond}
+use mathlib.Core.Bool.{cond}
 use mathlib.Core.List.{List, [], _∷_}
 use Prim.Native.Nat.{ℕ, _+_, _-_, min}
 use lib.Dec.{leb, eqb}
@@ -18,23 +18,23 @@ pub data Move : Type 0 where
   stop : Move
   go : State → Move
 
--- how many octets a label may have after its first at a place: 63 at most in all, and within the text's 253 octets
+-- how many octets a label may have after its first at a place. RFC 1035 §2.3.4: a label has 63 octets at most; 01, Names: a text has 253
 abbrev pub after : ℕ → ℕ
 after at = min 62 (252 - at)
 
--- an octet x of a label, not its first, of which `left` octets may come: a letter or a digit; or a hyphen, if another octet may come
--- after it; or else something other
+-- House rule (01, Names): an octet x of a label, not its first, where `left` octets may come, x among them, is a letter, a digit, or
+-- a hyphen that another octet may follow. `other` is what any other octet does
 abbrev pub inside : ℕ → ℕ → Move → Move
 inside left x other =
     cond (alnum x)
     (cond (eqb left 0) stop (go (letter (left - 1))))
     (cond (eqb x 45) (cond (leb left 1) stop (go (hyphen (left - 1)))) other)
 
--- a dot, with room for an octet of the label after it
+-- 01, Names: labels are joined by dots, and none is final, so that an octet of a label still fits after a dot
 abbrev pub dot : ℕ → ℕ → Move
 dot at x = cond (eqb x 46) (cond (leb at 251) (go start) stop) stop
 
--- an octet x at a place; a dot comes only after a letter or a digit
+-- an octet x at a place. House rule (01, Names): a label begins and ends with a letter or a digit, so that a dot stands only after one
 abbrev pub step : State → ℕ → ℕ → Move
 step start at x = cond (alnum x) (go (letter (after at))) stop
 step (letter left) at x = inside left x (dot at x)
@@ -44,7 +44,7 @@ abbrev pub on : Move → Name → (State → Name) → Name
 on stop bad next = bad
 on (go st) bad next = next st
 
--- a text ends after a letter or a digit
+-- a text ends as a label does, after a letter or a digit
 abbrev pub ended : State → ℕ → Name
 ended start at = Bad at
 ended (letter left) at = Good
@@ -57,8 +57,3 @@ walk st at (x ∷ xs) = on (step st at x) (Bad at) (λ st′. walk st′ (at + 1
 
 unfoldable pub textCheck : List ℕ → Name
 textCheck s = walk start 0 s
-
--- an answer as a number: the place, or 256, which no place is
-abbrev pub placeOf : Name → ℕ
-placeOf Good = 256
-placeOf (Bad p) = p

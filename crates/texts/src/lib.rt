@@ -7,12 +7,13 @@ ghost use mathlib.Core.Path.{_≡_};
 ghost use Prim.Native.Nat.{_+_, _-_, _≤_, min};
 ghost use lib.ListN.{length, take, drop};
 ghost use Rattle.octets.specs.Over.{Wrote};
+ghost use Rattle.names.specs.Wire.{placed};
 ghost use Rattle.texts.specs.Texts.{wireOf, textOf};
-ghost use Rattle.texts.specs.TextCheck.{textCheck, walk, letter, hyphen, after, placeOf};
+ghost use Rattle.texts.specs.TextCheck.{textCheck, walk, letter, hyphen, after};
 ghost use Rattle.texts.specs.Right.{Right};
 
-// The walk's answer for a good text: past every place, which is 253 at most.
-const GOOD: usize = 256;
+// The walk's answer of a good text, as in the check of a wire form: past every place, which is 253 at most.
+const GOOD: usize = 257;
 
 // A label has at most 63 octets: so many after its first.
 const REST: usize = 62;
@@ -29,10 +30,11 @@ fn left_after(at: usize) -> usize
     REST
 }
 
-// The place where the n octets of a text stop, from `at` on: after a letter or a digit of a label that may have `left` octets more.
+// The place at which the first n octets of `text` stop being a name, or GOOD: from `at` on, after a letter or a digit of a label that
+// may have `left` octets more. Over an array, and with a number as the answer, the calls compile to jumps.
 fn after_letter(text: &[u8; 256], n: usize, at: usize, left: usize) -> usize
     requires { ⌜ (n ≤ 254) × (n ≤ length (now text)) × (at + left ≤ 253) ⌝ }
-    ensures { λ r. ⌜ r ≡ placeOf (walk (letter left) at (drop at (take n (now (text .entry))))) ⌝ }
+    ensures { λ r. ⌜ r ≡ placed (walk (letter left) at (drop at (take n (now (text .entry))))) ⌝ }
 {
     if n <= at {
         return GOOD;
@@ -66,10 +68,10 @@ fn after_letter(text: &[u8; 256], n: usize, at: usize, left: usize) -> usize
     first
 }
 
-// The same after a hyphen.
+// The same after a hyphen, where one octet at least is to come.
 fn after_hyphen(text: &[u8; 256], n: usize, at: usize, left: usize) -> usize
     requires { ⌜ (n ≤ 254) × (n ≤ length (now text)) × (1 ≤ left) × (at + left ≤ 253) ⌝ }
-    ensures { λ r. ⌜ r ≡ placeOf (walk (hyphen left) at (drop at (take n (now (text .entry))))) ⌝ }
+    ensures { λ r. ⌜ r ≡ placed (walk (hyphen left) at (drop at (take n (now (text .entry))))) ⌝ }
 {
     if n <= at {
         return at;
@@ -87,7 +89,7 @@ fn after_hyphen(text: &[u8; 256], n: usize, at: usize, left: usize) -> usize
     after_hyphen(text, n, at + 1, left - 1)
 }
 
-// How many octets of a text of n decide: 253 may be good, and the 254th is not.
+// How many octets of a text of n decide: the 254th is never good, whatever follows.
 fn looked_at(n: usize) -> usize
     ensures { λ r. ⌜ r ≡ min 254 n ⌝ }
 {
@@ -97,7 +99,7 @@ fn looked_at(n: usize) -> usize
     254
 }
 
-// Whether s is a name as text, and the first bad place if not.
+// Whether s is a name as text, filling s exactly, and the first bad place if it is not.
 pub fn check_text(s: &[u8]) -> Name
     ensures { λ r. ⌜ r ≡ textCheck (now (s .entry)) ⌝ }
     ensures { λ r. ⌜ Right (now (s .entry)) r ⌝ }
@@ -118,9 +120,10 @@ pub fn check_text(s: &[u8]) -> Name
     Name::Bad(place)
 }
 
-// Writes the wire form of a text at `at`, from its end to its front, and returns the index after it.
+// Writes the wire form of a text at `at`, and returns the index after it. It goes from the end to the front, so that the length of a
+// label is known where its length octet stands.
 pub fn to_wire(out: &mut [u8], at: usize, text: &[u8]) -> usize
-    requires { ⌜ (length (now text) ≤ 253) × (at + length (now text) + 2 ≤ length (now out)) ⌝ }
+    requires { ⌜ (at + length (now text) + 2 ≤ length (now out)) × (length (now text) ≤ 253) ⌝ }
     ensures { λ r. ⌜ Wrote at (wireOf (now (text .entry))) (now (out .entry)) r (now (out .exit)) ⌝ }
 {
     let n = text.len();

@@ -2,7 +2,6 @@
 -- At each return one law of Outcomes says what the walk gives on the way there. Assumes nothing.
 use Prim.Native.Nat.{ℕ, _<_, _-_}
 use borrow.Author.Needs.{needs}
-use native.Mathlib.Omega.{arith}
 use Rattle.texts.specs.Outcomes.{letter-end, hyphen-end, hyphen-letter, hyphen-hyphen, hyphen-last, hyphen-other, letter-letter, letter-long, letter-hyphen, letter-last, letter-other, letter-far, label-missing, label-opens, label-other, told}
 use borrow.Fn.Kinds.{In}
 use borrow.Fn.PlainCycle.{Measures, is, falls, and}

@@ -4,7 +4,8 @@ use mathlib.Core.List.{List}
 use Prim.Native.Nat.{ℕ}
 use Rattle.texts.specs.Outcomes.{no-octet, first-other, by-copy, good-answer, bad-answer, told}
 use Rattle.texts.specs.Right.{right}
-use Rattle.texts.specs.TextCheck.{textCheck, placeOf}
+use Rattle.names.specs.Wire.{placed}
+use Rattle.texts.specs.TextCheck.{textCheck}
 use native.Mathlib.Omega.{arith}
 use lib.ListN.{length-take}
 use borrow.Author.Tests.{not-true, not-false}
@@ -43,8 +44,8 @@ after-letter-requires : tie.Need-after-letter-requires
 after-letter-requires c κs = search needs
 
 -- the walk's number is the check's
-placed : (c : tie.After-after-letter) → c .after-letter .result ≡ placeOf (textCheck (c .before .before .before .before .before .before .before .before .before .before .before .before .args .s .now))
-placed c =
+numbered : (c : tie.After-after-letter) → c .after-letter .result ≡ placed (textCheck (c .before .before .before .before .before .before .before .before .before .before .before .before .args .s .now))
+numbered c =
     let copied = c .before .before .before in
     let counted = copied .before .before .before in
     let tested = counted .before in
@@ -63,10 +64,10 @@ placed c =
     (c .after-letter .ensures)
 
 returns-3 : tie.Need-returns-3
-returns-3 c = let e = good-answer _ _ (placed (c .before)) (c .if3 .taken) in (e, right _ _ e)
+returns-3 c = let e = good-answer _ _ (numbered (c .before)) (c .if3 .taken) in (e, right _ _ e)
 
 returns-4 : tie.Need-returns-4
-returns-4 c = let e = bad-answer _ _ (placed (c .before)) (c .if3 .left) in (e, right _ _ e)
+returns-4 c = let e = bad-answer _ _ (numbered (c .before)) (c .if3 .left) in (e, right _ _ e)
 
 pub check-text-spec : {M : Type 1} → statement M
 check-text-spec =

@@ -1,8 +1,7 @@
 -- `texts::to_wire` meets its contract. The loop's invariant: the wire form of the octets from i on stands in its place. Assumes nothing.
 use native.Mathlib.Omega.{arith}
-use borrow.Author.Needs.{needs}
 use mathlib.Core.Path.{_≡_, refl}
-use Prim.Native.Nat.{ℕ, _+_, _-_, _≤_}
+use Prim.Native.Nat.{_+_, _-_, _≤_}
 use lib.ListN.{length, set, length-set}
 use Rattle.texts.specs.Turns.{Wired, wire-start, wire-dot, wire-octet, wire-done, label-small}
 use Rattle.texts.proofs.to_wire.Statement.{statement}

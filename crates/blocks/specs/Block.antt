@@ -1,0 +1,184 @@
+-- Blocks: a block's body (in carrier 1 one instance, after its length L) split into fields, and fields laid out (01, "Block layouts").
+-- Assumes nothing: these are definitions.
+use mathlib.Core.Path.{_≡_}
+use mathlib.Core.Bool.{Bool, true, false, cond, _&&_}
+use mathlib.Core.List.{List, [], _++_}
+use Prim.Native.Nat.{ℕ, _+_, _-_, _*_, _/_, _%_, _^_, _≤_, _<_}
+use lib.Dec.{ltb, eqb}
+use lib.ListN.{length}
+use Rattle.octets.specs.Numbers.{be, zeros, allZero}
+use Rattle.octets.specs.Fields.{part, number, counted, putCounted}
+use Rattle.numbers.specs.Fault as fault
+use Rattle.carriers.specs.declared.Carrier.{Carrier}
+use Rattle.carriers.specs.declared.Carrier.the-variants.{Dhcp4, Dhcp6, Router, Ike4, Ike6}
+use Rattle.carriers.specs.Carriers.{lengthWidth, lifetimeWidth, addressWidth}
+
+-- what a block says; `name` and `addresses` are as carried, so in carriers 4 and 5 the name is text
+pub record Fields : Type 0 where
+  pub priority : ℕ
+  pub lifetime : ℕ
+  pub full : Bool
+  pub name : List ℕ
+  pub addresses : List ℕ
+  pub parameters : List ℕ
+
+-- the two forms
+abbrev pub nameOnly : ℕ → ℕ → List ℕ → Fields
+nameOnly p t n = record { priority = p; lifetime = t; full = false; name = n; addresses = []; parameters = [] }
+
+abbrev pub whole : ℕ → ℕ → List ℕ → List ℕ → List ℕ → Fields
+whole p t n a q = record { priority = p; lifetime = t; full = true; name = n; addresses = a; parameters = q }
+
+-- a fault's number, or the fields
+pub data Parsed : Type 0 where
+  bad : ℕ → Parsed
+  fields : Fields → Parsed
+
+-- a field runs past the body's end (01, "Numbers given back")
+abbrev pub short : Parsed
+short = bad fault.field
+
+-- ---- reading: each field is read from the front of what the fields before it left
+
+-- carriers 1 to 3: priority, lifetime (carrier 3), ADN length, name (RFC 9463 §4.1, §5.1, §6.1)
+abbrev pub opening : Carrier → List ℕ → (ℕ → ℕ → List ℕ → List ℕ → Parsed) → Parsed
+opening c l next =
+    number short 2 l (λ priority l.
+    number short (lifetimeWidth c) l (λ lifetime l.
+    counted short (lengthWidth c) l (λ name l.
+    next priority lifetime name l)))
+
+-- carriers 1 and 2, after the name: nothing, or address length, addresses, parameters (RFC 9463 §3.1.6, §4.1, §5.1; 01, "Name only")
+abbrev pub afterName : Carrier → ℕ → ℕ → List ℕ → List ℕ → Parsed
+afterName c priority lifetime name l =
+    cond (eqb (length l) 0) (fields (nameOnly priority lifetime name))
+    (counted short (lengthWidth c) l (λ addresses parameters.
+    fields (whole priority lifetime name addresses parameters)))
+
+-- padding: 0 to 7 zeros
+unfoldable pub isPadding : List ℕ → Bool
+isPadding l = ltb (length l) 8 && allZero l
+
+-- l is padding, or the block's fault is that it is not
+abbrev pub padded : List ℕ → Fields → Parsed
+padded l f = cond (isPadding l) (fields f) (bad fault.padding)
+
+-- carrier 3, after the name: padding alone where fewer than 8 octets follow, else address length, addresses, parameter length, parameters,
+-- padding (RFC 9463 §6.1; 01, "Name only")
+abbrev pub afterNamePadded : ℕ → ℕ → List ℕ → List ℕ → Parsed
+afterNamePadded priority lifetime name l =
+    cond (ltb (length l) 8) (padded l (nameOnly priority lifetime name))
+    (counted short (lengthWidth Router) l (λ addresses l.
+    counted short (lengthWidth Router) l (λ parameters l.
+    padded l (whole priority lifetime name addresses parameters))))
+
+-- carriers 4 and 5: priority, number of addresses, ADN length, addresses, name, parameters (RFC 9464 Figure 1)
+abbrev pub attribute : Carrier → List ℕ → Parsed
+attribute c l =
+    number short 2 l (λ priority l.
+    number short 1 l (λ count l.
+    number short (lengthWidth c) l (λ nameLength l.
+    part short (count * addressWidth c) l (λ addresses l.
+    part short nameLength l (λ name parameters.
+    fields (whole priority 0 name addresses parameters))))))
+
+-- the fields of a body, or its fault; a field past the end goes before what is no padding
+unfoldable pub parse : Carrier → List ℕ → Parsed
+parse Dhcp4 l = opening Dhcp4 l (afterName Dhcp4)
+parse Dhcp6 l = opening Dhcp6 l (afterName Dhcp6)
+parse Router l = opening Router l afterNamePadded
+parse Ike4 l = attribute Ike4 l
+parse Ike6 l = attribute Ike6 l
+
+-- ---- writing: the same fields in the same order
+
+abbrev pub putOpening : Carrier → Fields → List ℕ → List ℕ
+putOpening c f l = be 2 (f .priority) ++ (be (lifetimeWidth c) (f .lifetime) ++ putCounted (lengthWidth c) (f .name) l)
+
+abbrev pub putAfterName : Carrier → Fields → List ℕ
+putAfterName c f = cond (f .full) (putCounted (lengthWidth c) (f .addresses) (f .parameters)) []
+
+-- what brings n octets to the next multiple of 8
+abbrev pub gap : ℕ → ℕ
+gap n = (8 - n % 8) % 8
+
+-- octets of a carrier 3 option before its padding, type and length counted (01, "10 + name octets, or 14 + name + addresses + parameters")
+abbrev pub optionSize : Fields → ℕ
+optionSize f = cond (f .full) (14 + length (f .name) + length (f .addresses) + length (f .parameters)) (10 + length (f .name))
+
+-- the fewest zeros (01, "rounded up to 8")
+abbrev pub padding : Fields → List ℕ
+padding f = zeros (gap (optionSize f))
+
+abbrev pub putAfterNamePadded : Fields → List ℕ
+putAfterNamePadded f =
+    cond (f .full) (putCounted (lengthWidth Router) (f .addresses) (putCounted (lengthWidth Router) (f .parameters) (padding f))) (padding f)
+
+abbrev pub putAttribute : Carrier → Fields → List ℕ
+putAttribute c f =
+    be 2 (f .priority)
+    ++ (be 1 (length (f .addresses) / addressWidth c)
+    ++ (be (lengthWidth c) (length (f .name))
+    ++ (f .addresses ++ (f .name ++ f .parameters))))
+
+-- the body that says these fields
+unfoldable pub layout : Carrier → Fields → List ℕ
+layout Dhcp4 f = putOpening Dhcp4 f (putAfterName Dhcp4 f)
+layout Dhcp6 f = putOpening Dhcp6 f (putAfterName Dhcp6 f)
+layout Router f = putOpening Router f (putAfterNamePadded f)
+layout Ike4 f = putAttribute Ike4 f
+layout Ike6 f = putAttribute Ike6 f
+
+-- octets of the body that fields are laid out to: L in carrier 1, the option's length in carriers 2, 4 and 5, and in carrier 3 the option's
+-- octets without type and length
+abbrev pub sizeOf : Carrier → Fields → ℕ
+sizeOf Dhcp4 f = cond (f .full) (4 + length (f .name) + length (f .addresses) + length (f .parameters)) (3 + length (f .name))
+sizeOf Dhcp6 f = cond (f .full) (6 + length (f .name) + length (f .addresses) + length (f .parameters)) (4 + length (f .name))
+sizeOf Router f = optionSize f + gap (optionSize f) - 2
+sizeOf Ike4 f = 4 + length (f .addresses) + length (f .name) + length (f .parameters)
+sizeOf Ike6 f = 4 + length (f .addresses) + length (f .name) + length (f .parameters)
+
+-- ---- what can be laid out, and what a carrier can bring
+
+-- the name-only form has no addresses and no parameters
+abbrev pub Tail : Bool → Type 0 → Fields → Type 0
+Tail true fits f = fits
+Tail false fits f = (f .addresses ≡ []) × (f .parameters ≡ [])
+
+-- carriers 1 and 2: the address length has room
+abbrev pub FitsNamed : Carrier → Fields → Type 0
+FitsNamed c f = Tail (f .full) (length (f .addresses) < 256 ^ lengthWidth c) f
+
+-- carrier 3: both lengths have room, and the full form has 8 octets or more after the name
+abbrev pub FitsRouter : Fields → Type 0
+FitsRouter f =
+    Tail (f .full)
+    ((length (f .addresses) < 256 ^ lengthWidth Router) × (length (f .parameters) < 256 ^ lengthWidth Router)
+    × (4 ≤ length (f .addresses) + length (f .parameters) + gap (optionSize f)))
+    f
+
+-- carriers 4 and 5: always the full form, with whole addresses whose number has room
+abbrev pub FitsAttribute : Carrier → Fields → Type 0
+FitsAttribute c f = (f .full ≡ true) × (length (f .addresses) % addressWidth c ≡ 0) × (length (f .addresses) / addressWidth c < 256)
+
+abbrev pub FitsTail : Carrier → Fields → Type 0
+FitsTail Dhcp4 f = FitsNamed Dhcp4 f
+FitsTail Dhcp6 f = FitsNamed Dhcp6 f
+FitsTail Router f = FitsRouter f
+FitsTail Ike4 f = FitsAttribute Ike4 f
+FitsTail Ike6 f = FitsAttribute Ike6 f
+
+-- each number has room in its field; so a lifetime is 0 but in carrier 3
+pub record Fits (c : Carrier) (f : Fields) : Type 0 where
+  pub priority : f .priority < 65536
+  pub lifetime : f .lifetime < 256 ^ lifetimeWidth c
+  pub name : length (f .name) < 256 ^ lengthWidth c
+  pub tail : FitsTail c f
+
+-- in carrier 3 the option, with its type and length, is a multiple of 8 (01, "length in units of 8 octets, header included")
+abbrev pub Possible : Carrier → List ℕ → Type 0
+Possible Dhcp4 l = Unit {0}
+Possible Dhcp6 l = Unit {0}
+Possible Router l = (length l + 2) % 8 ≡ 0
+Possible Ike4 l = Unit {0}
+Possible Ike6 l = Unit {0}

@@ -1,0 +1,297 @@
+-- One law for each way out of the code: the offsets tell what `parse` reads (a field is `-cut`, the name stands `-alone`, the full form is
+-- `-whole`), and their numbers are in range. Assumes nothing.
+use mathlib.Core.Path.{_≡_, refl, sym, ap, _∙_}
+use mathlib.Core.Bool.{Bool, true, false, cond, false≢true, true≢false}
+use mathlib.Core.List.{List}
+use Prim.Native.Nat.{ℕ, _+_, _-_, _*_, _%_, _≤_, _<_}
+use native.Mathlib.Nat.{sub-add-eq, add-assoc, zero-add, mul-le-mul, mul-mod-left}
+use native.Mathlib.Omega.{arith}
+use borrow.Author.Tests.{le-ltb, lt-ltb, eq-eqb, ne-eqb}
+use lib.Dec.{ltb}
+use lib.ListN.{length, take, drop, getD, length-drop}
+use lib.Seq.{drop-drop, drop-cons, take-all}
+use Rattle.octets.specs.Numbers.{val, at16, at32, allZero}
+use Rattle.octets.specs.NumbersLaws.{at16-val, at32-val}
+use Rattle.octets.specs.Fields.{number, counted}
+use Rattle.numbers.specs.Fault as fault
+use Rattle.carriers.specs.declared.Carrier.{Carrier}
+use Rattle.carriers.specs.declared.Carrier.the-variants.{Dhcp4, Dhcp6, Router, Ike4, Ike6}
+use Rattle.carriers.specs.Carriers.{lengthWidth, lifetimeWidth, addressWidth, asText}
+use Rattle.blocks.specs.declared.Places.{Places}
+use Rattle.blocks.specs.declared.Places.the-variants.{Bad, NameOnly, Full}
+use Rattle.blocks.specs.Block.{Parsed, fields, whole, short, opening, afterName, isPadding, padded, afterNamePadded, attribute, parse}
+use Rattle.blocks.specs.Together.{part-is, part-two, part-three}
+use Rattle.blocks.specs.Places.{told, Inside, nameAt, Numbers, Ranged, Named, numberAt, pastName}
+
+take-rest : (k : ℕ) (b : List ℕ) → take (length b - k) (drop k b) ≡ drop k b
+take-rest k b = take-all (length b - k) (drop k b) (rw length-drop (omega arith))
+
+number-16 : (b : List ℕ) (i : ℕ) → i + 1 < length b → at16 b i ≡ numberAt 2 i b
+unfolding numberAt
+number-16 b i h = at16-val b i h
+
+number-32 : (b : List ℕ) (i : ℕ) → i + 3 < length b → at32 b i ≡ numberAt 4 i b
+unfolding numberAt
+number-32 b i h = at32-val b i h
+
+number-8 : (b : List ℕ) (i : ℕ) → i < length b → getD b i 0 ≡ numberAt 1 i b
+unfolding numberAt
+number-8 b i h = rw (drop-cons b i 0 h) (omega arith)
+
+-- ---- widths
+
+pub length-width : (c : Carrier) → (0 < lengthWidth c) × (lengthWidth c ≤ 2)
+length-width Dhcp4 = (omega arith, omega arith)
+length-width Dhcp6 = (omega arith, omega arith)
+length-width Router = (omega arith, omega arith)
+length-width Ike4 = (omega arith, omega arith)
+length-width Ike6 = (omega arith, omega arith)
+
+pub address-width : (c : Carrier) → (0 < addressWidth c) × (addressWidth c ≤ 16)
+address-width Dhcp4 = (omega arith, omega arith)
+address-width Dhcp6 = (omega arith, omega arith)
+address-width Router = (omega arith, omega arith)
+address-width Ike4 = (omega arith, omega arith)
+address-width Ike6 = (omega arith, omega arith)
+
+-- octets of the addresses in carriers 4 and 5
+pub addresses-fit : (c : Carrier) {k w : ℕ} → k < 256 → w ≡ addressWidth c → k * w < 4096
+addresses-fit c {k} {w} h e =
+    let i : k ≤ 255 = omega arith in
+    let j : w ≤ 16 = rw e (address-width c .1) in
+    omega (arith, mul-le-mul i j)
+
+-- ---- number
+
+module _ (b : List ℕ) (i : ℕ) {w x : ℕ} (h : i + w ≤ length b) where
+  pub number-one : w ≡ 1 → x ≡ getD b i 0 → x ≡ numberAt w i b
+  number-one e k = rw e (k ∙ number-8 b i (omega arith))
+
+  pub number-two : w ≡ 2 → x ≡ at16 b i → x ≡ numberAt w i b
+  number-two e k = rw e (k ∙ number-16 b i (omega arith))
+
+-- ---- carriers 1 to 3: up to the name
+
+opening-is : (c : Carrier) (b : List ℕ) (next : ℕ → ℕ → List ℕ → List ℕ → Parsed)
+    → let t : ℕ = lifetimeWidth c in let w : ℕ = lengthWidth c in
+    let n : ℕ = numberAt w (2 + t) b in
+    opening c b next
+    ≡ cond (ltb (length b) (2 + (t + w))) short
+    (cond (ltb (length b - (2 + (t + w))) n) short
+    (pastName (2 + (t + w)) n b (next (numberAt 2 0 b) (numberAt t 2 b))))
+unfolding numberAt number counted
+opening-is c b next = part-three short 2 (lifetimeWidth c) (lengthWidth c) b _ ∙ simp (part-is, length-drop, drop-drop)
+
+-- ---- carriers 1 and 2
+
+named-parse : (c : Carrier) (b : List ℕ) → Named c → parse c b ≡ opening c b (afterName c)
+unfolding parse
+named-parse Dhcp4 b h = refl
+named-parse Dhcp6 b h = refl
+named-parse Router b h = absurd (omega (arith, h .0))
+named-parse Ike4 b h = absurd (true≢false (h .1))
+named-parse Ike6 b h = absurd (true≢false (h .1))
+
+module _ (c : Carrier) (b : List ℕ) (z : Named c) {w : ℕ} (e : w ≡ lengthWidth c) where
+  named-is : let n : ℕ = numberAt w 2 b in
+      parse c b
+      ≡ cond (ltb (length b) (2 + w)) short
+      (cond (ltb (length b - (2 + w)) n) short
+      (pastName (2 + w) n b (afterName c (numberAt 2 0 b) 0)))
+  unfolding numberAt
+  named-is = named-parse c b z ∙ opening-is c b (afterName c) ∙ rw (z .0, ← e, zero-add)
+
+  pub named-fixed-cut : length b < 2 + w → told b (Bad fault.field) ≡ parse c b
+  named-fixed-cut h = simp (named-is, lt-ltb _ _ h)
+
+  module _ (h : 2 + w ≤ length b) {p n : ℕ} (ep : p ≡ at16 b 0) (en : n ≡ numberAt w 2 b) where
+    pub named-name-cut : length b - (2 + w) < n → told b (Bad fault.field) ≡ parse c b
+    named-name-cut i = simp (named-is, le-ltb _ _ h, ← en, lt-ltb _ _ i)
+
+    module _ (i : n ≤ length b - (2 + w)) where
+      named-there : parse c b ≡ pastName (2 + w) n b (afterName c p 0)
+      named-there = simp (named-is, le-ltb _ _ h, ← en, le-ltb _ _ i, ep, number-16 b 0 (omega arith))
+
+      pub named-alone : length b - (2 + w + n) ≡ 0 → told b (NameOnly p 0 (2 + w) n) ≡ parse c b
+      named-alone j = simp (named-there, length-drop, eq-eqb _ _ j)
+
+      pub named-followed : (r : Places) → told b r ≡ pastName (2 + lengthWidth c) n b (afterName c p 0) → told b r ≡ parse c b
+      named-followed r j = j ∙ sym (rw e at named-there)
+
+  module _ (p n : ℕ) (h : 2 + lengthWidth c + n < length b) where
+    abbrev rest : Parsed
+    rest = pastName (2 + lengthWidth c) n b (afterName c p 0)
+
+    rest-is : let a : ℕ = 2 + w + n in let m : ℕ = numberAt w a b in
+        rest
+        ≡ cond (ltb (length b - a) w) short
+        (cond (ltb (length b - (a + w)) m) short
+        (fields (whole p 0 (take n (drop (2 + w) b)) (take m (drop (a + w) b)) (drop (a + w + m) b))))
+    unfolding numberAt number counted
+    rest-is =
+        let some : length b - (2 + w + n) ≡ 0 → ⊥ = λ i. omega arith in
+        simp (← e, length-drop, ne-eqb _ _ some, part-is, drop-drop)
+
+    pub after-name-length-cut : length b - (2 + w + n) < w → told b (Bad fault.field) ≡ rest
+    after-name-length-cut i = simp (rest-is, lt-ltb _ _ i)
+
+    module _ (i : w ≤ length b - (2 + w + n)) {m : ℕ} (em : m ≡ numberAt w (2 + w + n) b) where
+      pub after-name-addresses-cut : length b - (2 + w + n + w) < m → told b (Bad fault.field) ≡ rest
+      after-name-addresses-cut j = simp (rest-is, le-ltb _ _ i, ← em, lt-ltb _ _ j)
+
+      pub after-name-whole : m ≤ length b - (2 + w + n + w)
+          → told b (Full p 0 (2 + w) n (2 + w + n + w) m (2 + w + n + w + m) (length b - (2 + w + n + w + m))) ≡ rest
+      after-name-whole j = simp (rest-is, le-ltb _ _ i, ← em, le-ltb _ _ j, take-rest)
+
+module _ (c : Carrier) {p w : ℕ} (z : Named c) (e : w ≡ lengthWidth c) (h : p < 65536) where
+  named-numbers : Numbers c p 0
+  named-numbers = record { priority = h; lifetime = omega arith; none = λ _. refl }
+
+  pub named-alone-ranged : Numbers c p 0 × (2 + w ≡ nameAt c 0) × (asText c ≡ false)
+  named-alone-ranged = (named-numbers, simp (z .0, z .1, e), z .1)
+
+  pub named-whole-ranged : (m : ℕ) → Numbers c p 0 × (2 + w ≡ nameAt c m) × (asText c ≡ true → m % addressWidth c ≡ 0)
+  named-whole-ranged m = (named-numbers, simp (z .0, z .1, e), λ x. absurd (false≢true (sym (z .1) ∙ x)))
+
+-- ---- carrier 3
+
+module _ (l : List ℕ) where
+  pub padding-few : {x : Bool} → length l < 8 → x ≡ allZero l → x ≡ isPadding l
+  unfolding isPadding
+  padding-few h e = rw (lt-ltb (length l) 8 h) e
+
+  pub padding-many : 8 ≤ length l → false ≡ isPadding l
+  unfolding isPadding
+  padding-many h = rw (le-ltb (length l) 8 h)
+
+-- octets from an offset on, as the code has them
+part-padding : (b : List ℕ) (a : ℕ) {x : Bool} → x ≡ isPadding (take (length b - a) (drop a b)) → isPadding (drop a b) ≡ x
+part-padding b a e = sym (e ∙ ap isPadding (take-rest a b))
+
+module _ (b : List ℕ) where
+  pub router-fixed-cut : length b < 8 → told b (Bad fault.field) ≡ parse Router b
+  unfolding parse
+  router-fixed-cut h = simp (opening-is, lt-ltb _ _ h)
+
+  module _ (h : 8 ≤ length b) {p t n : ℕ} (ep : p ≡ at16 b 0) (et : t ≡ at32 b 2) (en : n ≡ at16 b 6) where
+    pub router-name-cut : length b - 8 < n → told b (Bad fault.field) ≡ parse Router b
+    unfolding parse
+    router-name-cut i = simp (opening-is, le-ltb _ _ h, ← (number-16 b 6 (omega arith)), ← en, lt-ltb _ _ i)
+
+    module _ (i : n ≤ length b - 8) where
+      router-there : parse Router b ≡ pastName 8 n b (afterNamePadded p t)
+      unfolding parse
+      router-there =
+          simp (opening-is, le-ltb _ _ h, ← (number-16 b 6 (omega arith)), ← en, le-ltb _ _ i, ← (number-16 b 0 (omega arith)), ← ep, ← (number-32 b 2 (omega arith)), ← et)
+
+      module _ (j : length b - (8 + n) < 8) {x : Bool} (e : x ≡ isPadding (take (length b - (8 + n)) (drop (8 + n) b))) where
+        pub router-alone : x ≡ true → told b (NameOnly p t 8 n) ≡ parse Router b
+        router-alone k = simp (router-there, length-drop, lt-ltb _ _ j, part-padding b (8 + n) e, k)
+
+        pub router-unpadded : x ≡ false → told b (Bad fault.padding) ≡ parse Router b
+        router-unpadded k = simp (router-there, length-drop, lt-ltb _ _ j, part-padding b (8 + n) e, k)
+
+      pub router-followed : (r : Places) → told b r ≡ pastName 8 n b (afterNamePadded p t) → told b r ≡ parse Router b
+      router-followed r e = e ∙ sym router-there
+
+module _ (b : List ℕ) (p t n : ℕ) (h : 8 + n + 8 ≤ length b) {m : ℕ} (em : m ≡ at16 b (8 + n)) where
+  -- where the name ends
+  abbrev a : ℕ
+  a = 8 + n
+
+  abbrev after : Parsed
+  after = pastName 8 n b (afterNamePadded p t)
+
+  after-is : let q : ℕ = a + 2 + m + 2 in let k : ℕ = numberAt 2 (a + 2 + m) b in
+      after
+      ≡ cond (ltb (length b - (a + 2)) (m + 2)) short
+      (cond (ltb (length b - q) k) short
+      (padded (drop (q + k) b) (whole p t (take n (drop 8 b)) (take m (drop (a + 2) b)) (take k (drop q b)))))
+  unfolding numberAt number counted
+  after-is =
+      let eight : 8 ≤ length b - a = omega arith in
+      let two : 2 ≤ length b - a = omega arith in
+      let read : val (take 2 (drop a b)) ≡ m = sym (em ∙ at16-val b a (omega arith)) in
+      simp (length-drop, le-ltb _ _ eight, part-is short 2 (drop a b), le-ltb _ _ two, read, part-two)
+      (simp (part-is, length-drop, drop-drop, ← sub-add-eq, ← add-assoc))
+
+  pub padded-addresses-cut : length b - (a + 2) < m + 2 → told b (Bad fault.field) ≡ after
+  padded-addresses-cut i = simp (after-is, lt-ltb _ _ i)
+
+  module _ (i : m + 2 ≤ length b - (a + 2)) {k : ℕ} (ek : k ≡ at16 b (a + 2 + m)) where
+    here : numberAt 2 (a + 2 + m) b ≡ k
+    here = sym (ek ∙ number-16 b (a + 2 + m) (omega arith))
+
+    pub padded-parameters-cut : length b - (a + 2 + m + 2) < k → told b (Bad fault.field) ≡ after
+    padded-parameters-cut j = simp (after-is, le-ltb _ _ i, here, lt-ltb _ _ j)
+
+    module _ (j : k ≤ length b - (a + 2 + m + 2)) {x : Bool} (e : x ≡ isPadding (take (length b - (a + 2 + m + 2 + k)) (drop (a + 2 + m + 2 + k) b))) where
+      pub padded-whole : x ≡ true → told b (Full p t 8 n (a + 2) m (a + 2 + m + 2) k) ≡ after
+      padded-whole l = simp (after-is, le-ltb _ _ i, here, le-ltb _ _ j, part-padding b (a + 2 + m + 2 + k) e, l)
+
+      pub padded-unpadded : x ≡ false → told b (Bad fault.padding) ≡ after
+      padded-unpadded l = simp (after-is, le-ltb _ _ i, here, le-ltb _ _ j, part-padding b (a + 2 + m + 2 + k) e, l)
+
+module _ {p t : ℕ} (h : p < 65536) (i : t < 4294967296) where
+  router-numbers : Numbers Router p t
+  router-numbers = record { priority = h; lifetime = i; none = λ e. absurd (omega arith) }
+
+  pub router-alone-ranged : Numbers Router p t × (8 ≡ nameAt Router 0) × (asText Router ≡ false)
+  router-alone-ranged = (router-numbers, refl, refl)
+
+  pub router-whole-ranged : (m : ℕ) → Numbers Router p t × (8 ≡ nameAt Router m) × (asText Router ≡ true → m % addressWidth Router ≡ 0)
+  router-whole-ranged m = (router-numbers, refl, λ e. absurd (false≢true e))
+
+-- ---- carriers 4 and 5
+
+text-width : (c : Carrier) → asText c ≡ true → lengthWidth c ≡ 1
+text-width Dhcp4 h = absurd (false≢true h)
+text-width Dhcp6 h = absurd (false≢true h)
+text-width Router h = absurd (false≢true h)
+text-width Ike4 h = refl
+text-width Ike6 h = refl
+
+attribute-parse : (c : Carrier) (b : List ℕ) → asText c ≡ true → parse c b ≡ attribute c b
+unfolding parse
+attribute-parse Dhcp4 b h = absurd (false≢true h)
+attribute-parse Dhcp6 b h = absurd (false≢true h)
+attribute-parse Router b h = absurd (false≢true h)
+attribute-parse Ike4 b h = refl
+attribute-parse Ike6 b h = refl
+
+module _ (c : Carrier) (b : List ℕ) (z : asText c ≡ true) where
+  attribute-is : let k : ℕ = numberAt 1 2 b * addressWidth c in let n : ℕ = numberAt 1 3 b in
+      parse c b
+      ≡ cond (ltb (length b) 4) short
+      (cond (ltb (length b - 4) (k + n)) short
+      (fields (whole (numberAt 2 0 b) 0 (take n (drop (4 + k) b)) (take k (drop 4 b)) (drop (4 + k + n) b))))
+  unfolding numberAt number
+  attribute-is = attribute-parse c b z ∙ rw (text-width c z) (part-three short 2 1 1 b _ ∙ simp (part-two, length-drop, drop-drop, ← add-assoc))
+
+  pub attribute-fixed-cut : length b < 4 → told b (Bad fault.field) ≡ parse c b
+  attribute-fixed-cut h = simp (attribute-is, lt-ltb _ _ h)
+
+  module _ (h : 4 ≤ length b) {p k n : ℕ} (ep : p ≡ at16 b 0) (ek : k ≡ getD b 2 0) (en : n ≡ getD b 3 0) {w : ℕ} (e : w ≡ addressWidth c) where
+    -- the counts as the code has them
+    read-is :
+        parse c b
+        ≡ cond (ltb (length b - 4) (k * w + n)) short
+        (fields (whole p 0 (take n (drop (4 + k * w) b)) (take (k * w) (drop 4 b)) (drop (4 + k * w + n) b)))
+    read-is =
+        simp (attribute-is, le-ltb _ _ h, ← (number-16 b 0 (omega arith)), ← ep, ← (number-8 b 2 (omega arith)), ← ek, ← (number-8 b 3 (omega arith)), ← en, ← e)
+
+    pub attribute-fields-cut : length b - 4 < k * w + n → told b (Bad fault.field) ≡ parse c b
+    attribute-fields-cut i = simp (read-is, lt-ltb _ _ i)
+
+    pub attribute-whole : k * w + n ≤ length b - 4 → told b (Full p 0 (4 + k * w) n 4 (k * w) (4 + k * w + n) (length b - (4 + k * w + n))) ≡ parse c b
+    attribute-whole i = simp (read-is, le-ltb _ _ i, take-rest)
+
+pub attribute-whole-ranged : (c : Carrier) {p w : ℕ} (k : ℕ) → asText c ≡ true → w ≡ addressWidth c → p < 65536
+    → Numbers c p 0 × (4 + k * w ≡ nameAt c (k * w)) × (asText c ≡ true → k * w % addressWidth c ≡ 0)
+attribute-whole-ranged c {p} {w} k z e h = (record { priority = h; lifetime = omega arith; none = λ _. refl }, simp z, λ _. rw (← e) (mul-mod-left k w))
+
+-- ---- split
+
+pub split-router : (c : Carrier) (b : List ℕ) (r : Places) → c ≡ Router → (told b r ≡ parse Router b) × (Inside b r × Ranged Router r)
+    → (told b r ≡ parse c b) × (Inside b r × Ranged c r)
+split-router c b r e h = rw e h
