@@ -1,0 +1,30 @@
+// The C interface: libdnr. The contracts stand on the exported functions themselves; include/dnr.h declares them for C, and the gate
+// holds the header against this file. A slice crosses as a pointer and a length; a null pointer goes with length 0.
+ghost use Prim.Native.Nat.{_+_};
+ghost use lib.ListN.{length};
+ghost use Rattle.reading.specs.Reading.{readOf, Reads};
+
+// What a reading gives back; a refusal's number, and zeros.
+#[repr(C)]
+pub struct Reading {
+    pub number: usize,
+    pub length: usize,
+    pub found: usize,
+    pub discarded: usize,
+    pub fault: usize,
+}
+
+// Reads an area under a carrier number and writes its record sheet.
+#[no_mangle]
+pub extern "C" fn dnr_read(carrier: u8, area: &[u8], sheet: &mut [u8]) -> Reading
+    ensures { λ r. ⌜ Reads (readOf carrier (now (area .entry)) (length (now (sheet .entry)))) (now (sheet .entry)) (r .number) (r .length) (r .found) (r .discarded) (r .fault) (now (sheet .exit)) ⌝ }
+{
+    let done = reading::read(octets::wide(carrier), area, sheet);
+    Reading {
+        number: done.number,
+        length: done.length,
+        found: done.found,
+        discarded: done.discarded,
+        fault: done.fault,
+    }
+}

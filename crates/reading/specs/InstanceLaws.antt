@@ -1,0 +1,113 @@
+-- The instances of joined data, one after another from the front. Assumes nothing.
+use mathlib.Core.Path.{_≡_, refl, sym, ap, ap₂, _∙_}
+use mathlib.Core.Bool.{true, false, cond}
+use mathlib.Core.List.{List, [], _∷_, _++_}
+use Prim.Native.Nat.{ℕ, zero, suc, _+_, _-_, _≤_, _<_}
+use native.Mathlib.Nat.{add-zero}
+use native.Mathlib.Omega.{arith}
+use borrow.Author.Tests.{lt-ltb, le-ltb, ne-eqb}
+use lib.Dec.{ltb}
+use lib.ListN.{length, getD, take, drop, length-drop, drop-of-length-le}
+use lib.Seq.{drop-drop, getD-drop, append-snoc}
+use Rattle.octets.specs.Numbers.{at16}
+use Rattle.numbers.specs.Fault as fault
+use Rattle.carriers.specs.declared.Carrier.the-variants.{Dhcp4}
+use Rattle.frames.specs.Step.{part}
+use Rattle.blocks.specs.Block.{Fields}
+use Rattle.records.specs.Records.{kept, outcomeOf}
+use Rattle.reading.specs.Walks.{before}
+use Rattle.reading.specs.Reading.{Yield, discarded, yields, ahead, instancesFrom, joinedYield}
+
+-- octets to be skipped are skipped
+pub instances-skip : (k : ℕ) (l : List ℕ) → instancesFrom k l ≡ instancesFrom 0 (drop k l)
+unfolding instancesFrom
+instances-skip zero l = refl
+instances-skip (suc k) [] = refl
+instances-skip (suc k) (x ∷ xs) = instances-skip k xs
+
+instances-first : (l : List ℕ) → 0 < length l
+    → instancesFrom 0 l
+    ≡ cond (ltb (length l) 2) (discarded fault.field)
+    (cond (ltb (length l - 2) (at16 l 0)) (discarded fault.field)
+    (ahead (outcomeOf Dhcp4 (take (at16 l 0) (drop 2 l))) (instancesFrom 0 (drop (suc (1 + at16 l 0)) l))))
+unfolding instancesFrom
+instances-first [] h = absurd (omega arith)
+instances-first (x ∷ xs) h =
+    let l : List ℕ = x ∷ xs in
+    ap (λ (y : Yield). cond (ltb (length l) 2) (discarded fault.field)
+    (cond (ltb (length l - 2) (at16 l 0)) (discarded fault.field) (ahead (outcomeOf Dhcp4 (take (at16 l 0) (drop 2 l))) y)))
+    (instances-skip (1 + at16 l 0) xs)
+
+-- ---- the instance at an index of joined data
+
+module _ (joined : List ℕ) (at : ℕ) (inside : at < length joined) where
+  rest : List ℕ
+  rest = drop at joined
+
+  rest-length : length rest ≡ length joined - at
+  unfolding rest
+  rest-length = length-drop at joined
+
+  at16-rest : at16 rest 0 ≡ at16 joined at
+  unfolding rest
+  at16-rest =
+      let p : getD (drop at joined) 0 0 ≡ getD joined at 0 = getD-drop at joined 0 0 ∙ ap (λ (n : ℕ). getD joined n 0) (add-zero at) in
+      let q : getD (drop at joined) 1 0 ≡ getD joined (at + 1) 0 = getD-drop at joined 1 0 in
+      cc
+
+  -- no room for a length
+  pub instance-short : length joined - at < 2 → instancesFrom 0 (drop at joined) ≡ discarded fault.field
+  unfolding rest
+  instance-short h =
+      let e : ltb (length rest) 2 ≡ true = lt-ltb (length rest) 2 (omega (arith, rest-length)) in
+      instances-first rest (omega (arith, rest-length)) ∙ simp e
+
+  module _ (long : ℕ) (q : long ≡ at16 joined at) (header : 2 ≤ length joined - at) where
+    header-fits : ltb (length rest) 2 ≡ false
+    header-fits = le-ltb (length rest) 2 (omega (arith, rest-length))
+
+    -- fewer octets than the length says
+    pub instance-past : length joined - (at + 2) < long → instancesFrom 0 (drop at joined) ≡ discarded fault.field
+    unfolding rest
+    instance-past k =
+        let f : ltb (length rest - 2) (at16 rest 0) ≡ true = lt-ltb (length rest - 2) (at16 rest 0) (omega (arith, rest-length, at16-rest)) in
+        instances-first rest (omega (arith, rest-length)) ∙ simp (header-fits, f)
+
+    -- an instance, and what follows it
+    pub instance-whole : long ≤ length joined - (at + 2)
+        → instancesFrom 0 (drop at joined)
+        ≡ ahead (outcomeOf Dhcp4 (part (at + 2) (at + 2 + long) joined)) (instancesFrom 0 (drop (at + 2 + long) joined))
+    unfolding rest
+    instance-whole k =
+        let f : ltb (length rest - 2) (at16 rest 0) ≡ false = le-ltb (length rest - 2) (at16 rest 0) (omega (arith, rest-length, at16-rest)) in
+        let size : at16 rest 0 ≡ at + 2 + long - (at + 2) = omega (arith, at16-rest) in
+        let body : take (at16 rest 0) (drop 2 rest) ≡ part (at + 2) (at + 2 + long) joined =
+        ap₂ (λ (n : ℕ) (l : List ℕ). take n l) size (drop-drop 2 at joined) in
+        let past : at + suc (1 + at16 rest 0) ≡ at + 2 + long = omega (arith, at16-rest) in
+        let after : drop (suc (1 + at16 rest 0)) rest ≡ drop (at + 2 + long) joined =
+        drop-drop (suc (1 + at16 rest 0)) at joined ∙ ap (λ (n : ℕ). drop n joined) past in
+        instances-first rest (omega (arith, rest-length))
+        ∙ simp (header-fits, f) (ap₂ (λ (b l : List ℕ). ahead (outcomeOf Dhcp4 b) (instancesFrom 0 l)) body after)
+
+pub instances-end : (joined : List ℕ) (at : ℕ) → length joined ≤ at → instancesFrom 0 (drop at joined) ≡ yields []
+unfolding instancesFrom
+instances-end joined at h = ap (instancesFrom 0) (drop-of-length-le joined h)
+
+-- ---- records in front of what later instances yield
+
+pub before-none : (y : Yield) → before [] y ≡ y
+before-none (discarded k) = refl
+before-none (yields rs) = refl
+
+pub before-ahead : (rs : List Fields) (r : Fields) (y : Yield) → before rs (ahead (kept r) y) ≡ before (rs ++ (r ∷ [])) y
+before-ahead rs r (discarded k) = refl
+before-ahead rs r (yields qs) = ap yields (sym (append-snoc rs r qs))
+
+-- no instance at all, and one or more
+pub joined-none : (joined : List ℕ) → length joined ≡ 0 → joinedYield joined ≡ discarded fault.field
+unfolding joinedYield
+joined-none joined h = simp h
+
+pub joined-some : (joined : List ℕ) → (length joined ≡ 0 → ⊥) → joinedYield joined ≡ instancesFrom 0 joined
+unfolding joinedYield
+joined-some joined h = simp (ne-eqb (length joined) 0 h)

@@ -1,0 +1,9 @@
+pub mod Reading
+pub mod Tally
+pub mod Walks
+pub mod YieldLaws
+pub mod InstanceLaws
+pub mod ListLaws
+pub mod SlotLaws
+pub mod TallyLaws
+pub mod AnswerLaws

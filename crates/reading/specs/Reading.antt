@@ -1,0 +1,174 @@
+-- Reading (01, Area walk; Numbers given back): what an area yields under a carrier, the answer of the call, and the sheet it writes.
+-- Assumes nothing: these are definitions.
+use mathlib.Core.Path.{_≡_}
+use mathlib.Core.Bool.{cond}
+use mathlib.Core.List.{List, [], _∷_, _++_, map}
+use Prim.Native.Nat.{ℕ, zero, suc, _+_, _-_}
+use lib.Dec.{ltb, eqb}
+use lib.ListN.{length, take, drop}
+use Rattle.octets.specs.Numbers.{at16}
+use Rattle.octets.specs.Answer.{Answered}
+use Rattle.numbers.specs.Refusal as refusal
+use Rattle.numbers.specs.Fault as fault
+use Rattle.numbers.specs.Limit as limit
+use Rattle.carriers.specs.declared.Carrier.{Carrier}
+use Rattle.carriers.specs.declared.Carrier.the-variants.{Dhcp4, Dhcp6, Router, Ike4, Ike6}
+use Rattle.carriers.specs.declared.Chosen.{Chosen}
+use Rattle.carriers.specs.declared.Chosen.the-variants.{Known, Unknown}
+use Rattle.carriers.specs.Carriers.{chosenOf}
+use Rattle.frames.specs.Frame.{Framed, framed, frame, blocksOf}
+use Rattle.frames.specs.Frame as area
+use Rattle.blocks.specs.Block.{Fields}
+use Rattle.order.specs.Order.{stableSort}
+use Rattle.records.specs.Records.{Outcome, faulty, kept, outcomeOf}
+use Rattle.sheets.specs.Sheets.{sheetOf}
+
+-- ---- what a block yields
+
+-- a block with a fault is discarded whole
+pub data Yield : Type 0 where
+  discarded : ℕ → Yield
+  yields : List Fields → Yield
+
+abbrev pub single : Outcome → Yield
+single (faulty k) = discarded k
+single (kept r) = yields (r ∷ [])
+
+-- an instance's outcome in front of what the later instances yield: the first instance with a fault gives the block's
+abbrev pub ahead : Outcome → Yield → Yield
+ahead (faulty k) y = discarded k
+ahead (kept r) (discarded k) = discarded k
+ahead (kept r) (yields rs) = yields (r ∷ rs)
+
+-- `l` begins with an instance: a 16-bit length, and as many octets; `go k` is what stands k octets past its first octet
+abbrev pub instance : List ℕ → (ℕ → Yield) → Yield
+instance l go =
+    cond (ltb (length l) 2) (discarded fault.field)
+    (cond (ltb (length l - 2) (at16 l 0)) (discarded fault.field)
+    (ahead (outcomeOf Dhcp4 (take (at16 l 0) (drop 2 l))) (go (1 + at16 l 0))))
+
+-- the instances of joined data, with the first k octets still to be skipped
+unfoldable pub instancesFrom : ℕ → List ℕ → Yield
+instancesFrom k [] = yields []
+instancesFrom zero (x ∷ xs) = instance (x ∷ xs) (λ k. instancesFrom k xs)
+instancesFrom (suc k) (x ∷ xs) = instancesFrom k xs
+
+-- in carrier 1 a block is one or more instances, else one body
+unfoldable pub joinedYield : List ℕ → Yield
+joinedYield b = cond (eqb (length b) 0) (discarded fault.field) (instancesFrom 0 b)
+
+abbrev pub yieldOf : Carrier → List ℕ → Yield
+yieldOf Dhcp4 b = joinedYield b
+yieldOf Dhcp6 b = single (outcomeOf Dhcp6 b)
+yieldOf Router b = single (outcomeOf Router b)
+yieldOf Ike4 b = single (outcomeOf Ike4 b)
+yieldOf Ike6 b = single (outcomeOf Ike6 b)
+
+-- ---- what blocks yield together
+
+abbrev pub recordsIn : Yield → List Fields
+recordsIn (discarded k) = []
+recordsIn (yields rs) = rs
+
+-- the records of all blocks, in order of arrival
+abbrev pub arrivals : List Yield → List Fields
+arrivals [] = []
+arrivals (y ∷ ys) = recordsIn y ++ arrivals ys
+
+abbrev pub discards : Yield → ℕ
+discards (discarded k) = 1
+discards (yields rs) = 0
+
+-- how many blocks are discarded
+abbrev pub discardedIn : List Yield → ℕ
+discardedIn [] = 0
+discardedIn (y ∷ ys) = discards y + discardedIn ys
+
+-- the first discarded block's fault, or 0
+abbrev pub orFault : Yield → ℕ → ℕ
+orFault (discarded k) later = k
+orFault (yields rs) later = later
+
+abbrev pub firstFault : List Yield → ℕ
+firstFault [] = 0
+firstFault (y ∷ ys) = orFault y (firstFault ys)
+
+-- by rising priority; equal priorities keep the order of arrival
+abbrev pub inOrder : List Fields → List Fields
+inOrder rs = stableSort (λ (r : Fields). r .priority) rs
+
+-- ---- the call
+
+-- what a reading that is done gives back, and its sheet
+pub record Done : Type 0 where
+  pub sheet : List ℕ
+  pub found : ℕ
+  pub discarded : ℕ
+  pub fault : ℕ
+
+-- a refusal's number, or what is done
+pub data Answer : Type 0 where
+  refuse : ℕ → Answer
+  done : Done → Answer
+
+-- 4, then 5
+abbrev pub settle : ℕ → List Fields → Done → Answer
+settle room rs d =
+    cond (ltb limit.records (length rs)) (refuse refusal.records)
+    (cond (ltb room (length (d .sheet))) (refuse refusal.room) (done d))
+
+abbrev pub readBlocks : Carrier → List (List ℕ) → ℕ → Answer
+readBlocks c blocks room =
+    settle room (arrivals (map (yieldOf c) blocks)) (record {
+      sheet = sheetOf c (inOrder (arrivals (map (yieldOf c) blocks)));
+      found = length blocks;
+      discarded = discardedIn (map (yieldOf c) blocks);
+      fault = firstFault (map (yieldOf c) blocks);
+    })
+
+-- 3
+abbrev pub readFramed : Carrier → Framed → ℕ → Answer
+readFramed c area.fault room = refuse refusal.framing
+readFramed c (framed bodies) room = readBlocks c (blocksOf c bodies) room
+
+-- 2
+abbrev pub readArea : Carrier → List ℕ → ℕ → Answer
+readArea c s room = cond (ltb limit.input (length s)) (refuse refusal.input) (readFramed c (frame c s) room)
+
+-- 1
+abbrev pub readChosen : Chosen → List ℕ → ℕ → Answer
+readChosen Unknown s room = refuse refusal.carrier
+readChosen (Known c) s room = readArea c s room
+
+-- reading under carrier number n, with an output buffer of `room` octets
+unfoldable pub readOf : ℕ → List ℕ → ℕ → Answer
+readOf n s room = readChosen (chosenOf n) s room
+
+-- ---- what the call gives back, by the answer
+
+abbrev pub numberIn : Answer → ℕ
+numberIn (refuse k) = k
+numberIn (done d) = 0
+
+abbrev pub sheetIn : Answer → List ℕ
+sheetIn (refuse k) = []
+sheetIn (done d) = d .sheet
+
+abbrev pub foundIn : Answer → ℕ
+foundIn (refuse k) = 0
+foundIn (done d) = d .found
+
+abbrev pub discardedOf : Answer → ℕ
+discardedOf (refuse k) = 0
+discardedOf (done d) = d .discarded
+
+abbrev pub faultIn : Answer → ℕ
+faultIn (refuse k) = 0
+faultIn (done d) = d .fault
+
+-- every number that the call returns, and the whole buffer after it
+pub record Reads (a : Answer) (out : List ℕ) (number length found discarded fault : ℕ) (out′ : List ℕ) : Type 0 where
+  pub answered : Answered (numberIn a) (sheetIn a) out number length out′
+  pub found-is : found ≡ foundIn a
+  pub discarded-is : discarded ≡ discardedOf a
+  pub fault-is : fault ≡ faultIn a

@@ -1,0 +1,84 @@
+-- `records::examine_full` meets its contract: a fault, or none. Assumes nothing.
+use borrow.Author.Needs.{needs}
+use native.Mathlib.Omega.{arith}
+use mathlib.Core.Path.{_≡_, refl, _∙_}
+use Prim.Native.Nat.{ℕ, _+_, _*_, _≤_}
+use lib.ListN.{length}
+use Rattle.blocks.specs.Block.{whole}
+use Rattle.judge.specs.JudgeLaws.{carrier-width}
+use Rattle.records.specs.Parts.{nameIn}
+use Rattle.records.specs.Outcomes.{examined-faulty, full-small, full-kept}
+use Rattle.records.proofs.examine_full.Statement.{statement}
+use Rattle.records.proofs.examine_full.Tie as tie
+
+judge-fields-requires : tie.Need-judge-fields-requires
+judge-fields-requires c κs = search needs
+
+faulty-requires : tie.Need-faulty-requires
+faulty-requires c κs = search needs
+
+returns : tie.Need-returns
+returns c t =
+    let judged = c .before .before in
+    let args = judged .before .before .before .before .args in
+    c .faulty .ensures
+    ∙ examined-faulty (args .c) (whole (args .priority) t (args .name .now) (args .addresses .now) (args .parameters .now))
+    (judged .judge-fields .ensures) (c .before .if1 .taken)
+
+address-width-requires : tie.Need-address-width-requires
+address-width-requires c κs = search needs
+
+kept-count-requires : tie.Need-kept-count-requires
+kept-count-requires c κs = rw (c .address-width .ensures) (carrier-width (c .before .before .before .before .before .before .args .c))
+
+-- no sum wraps: the size is that of a record
+small : (c : tie.After-kept-count) {n : ℕ} → let args = c .before .before .before .before .before .before .before .args in
+    n ≡ length (nameIn (args .c) (args .name .now))
+    → 8 + n + 3 + c .kept-count .result * c .before .address-width .result + length (args .parameters .now) ≤ 2298
+small c e =
+    let wide = c .before in
+    let judged = wide .before .before in
+    let args = judged .before .before .before .before .args in
+    full-small (args .c) (args .priority) (args .name .now) (args .addresses .now) (args .parameters .now) (judged .judge-fields .ensures) (wide .before .if1 .left) e (wide .address-width .ensures) (c .kept-count .ensures .0)
+
+mul-staying : tie.Need-mul-staying
+mul-staying c = omega (arith, small c refl)
+
+name-size-requires : tie.Need-name-size-requires
+name-size-requires c κs = search needs
+
+add-head : tie.Need-add-head
+add-head c = omega (arith, small (c .before) (c .name-size .ensures))
+
+add-size : tie.Need-add-size
+add-size c = omega (arith, small (c .before) (c .name-size .ensures))
+
+add-size-2 : tie.Need-add-size-2
+add-size-2 c = omega (arith, small (c .before) (c .name-size .ensures))
+
+add-size-3 : tie.Need-add-size-3
+add-size-3 c = omega (arith, small (c .before) (c .name-size .ensures))
+
+returns-2 : tie.Need-returns-2
+returns-2 c =
+    let wide = c .before .before in
+    let judged = wide .before .before in
+    let args = judged .before .before .before .before .args in
+    full-kept (args .c) (args .priority) (args .name .now) (args .addresses .now) (args .parameters .now) (judged .judge-fields .ensures) (wide .before .if1 .left) (c .name-size .ensures) (wide .address-width .ensures) (c .before .kept-count .ensures .0)
+
+pub examine-full-spec : {M : Type 1} → statement M
+examine-full-spec =
+    tie.close
+    (tie.spec
+    judge-fields-requires
+    faulty-requires
+    returns
+    address-width-requires
+    kept-count-requires
+    mul-staying
+    name-size-requires
+    add-head
+    add-size
+    add-size-2
+    add-size-3
+    returns-2)

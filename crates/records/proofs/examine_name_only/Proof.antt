@@ -1,0 +1,51 @@
+-- `records::examine_name_only` meets its contract: a fault, or none. Assumes nothing.
+use borrow.Author.Needs.{needs}
+use native.Mathlib.Omega.{arith}
+use mathlib.Core.Path.{_∙_}
+use Rattle.blocks.specs.Block.{nameOnly}
+use Rattle.records.specs.Outcomes.{examined-faulty, name-only-small, name-only-kept}
+use Rattle.records.proofs.examine_name_only.Statement.{statement}
+use Rattle.records.proofs.examine_name_only.Tie as tie
+
+slice-aggregate-none : tie.Need-slice-aggregate-none
+slice-aggregate-none c = search needs
+
+judge-fields-requires : tie.Need-judge-fields-requires
+judge-fields-requires c κs = search needs
+
+faulty-requires : tie.Need-faulty-requires
+faulty-requires c κs = search needs
+
+returns : tie.Need-returns
+returns c t =
+    let judged = c .before .before in
+    let args = judged .before .before .before .args in
+    c .faulty .ensures
+    ∙ examined-faulty (args .c) (nameOnly (args .priority) t (args .name .now)) (judged .judge-fields .ensures) (c .before .if1 .taken)
+
+name-size-requires : tie.Need-name-size-requires
+name-size-requires c κs = search needs
+
+add-size : tie.Need-add-size
+add-size c =
+    let judged = c .before .before in
+    let args = judged .before .before .before .args in
+    omega (arith, name-only-small (args .c) (args .priority) (args .name .now) (judged .judge-fields .ensures) (c .before .if1 .left) (c .name-size .ensures))
+
+returns-2 : tie.Need-returns-2
+returns-2 c =
+    let judged = c .before .before in
+    let args = judged .before .before .before .args in
+    name-only-kept (args .c) (args .priority) (args .name .now) (judged .judge-fields .ensures) (c .before .if1 .left) (c .name-size .ensures)
+
+pub examine-name-only-spec : {M : Type 1} → statement M
+examine-name-only-spec =
+    tie.close
+    (tie.spec
+    slice-aggregate-none
+    judge-fields-requires
+    faulty-requires
+    returns
+    name-size-requires
+    add-size
+    returns-2)

@@ -1,0 +1,6 @@
+pub mod Records
+pub mod Examined
+pub mod Parts
+pub mod RecordsLaws
+pub mod Outcomes
+pub mod PlacesLaws

@@ -1,0 +1,85 @@
+-- What the definitions say on each way through the functions over the parts of a body. Assumes nothing.
+use mathlib.Core.Path.{_≡_, sym, ap, _∙_}
+use mathlib.Core.Bool.{true, false}
+use mathlib.Core.List.{List, _++_}
+use Prim.Native.Nat.{ℕ, _+_, _*_, _≤_}
+use native.Mathlib.Omega.{arith}
+use lib.ListN.{length}
+use Rattle.octets.specs.Numbers.{be}
+use Rattle.octets.specs.Over.{Wrote}
+use Rattle.carriers.specs.declared.Carrier.{Carrier}
+use Rattle.carriers.specs.Carriers.{addressWidth, asText}
+use Rattle.texts.specs.Texts.{wireOf}
+use Rattle.texts.specs.Convert.{wire-length}
+use Rattle.addresses.specs.Addresses.{listOf, keptOf}
+use Rattle.blocks.specs.Block.{Fields, nameOnly, whole}
+use Rattle.judge.specs.declared.Side.the-variants.{Reading}
+use Rattle.judge.specs.declared.Judged.{Judged}
+use Rattle.judge.specs.Judge.{judgedOf, faultOf}
+use Rattle.judge.specs.JudgeLaws.{fault-passed}
+use Rattle.records.specs.Records.{staying, keepOf, recordOf}
+use Rattle.records.specs.Examined.{examinedOf}
+use Rattle.records.specs.Parts.{yieldOf, discarded, nameIn, namePart}
+use Rattle.records.specs.RecordsLaws.{yield-kept, yield-faulty, length-record, staying-length, kept-small}
+
+-- ---- a name
+
+module _ (c : Carrier) (name : List ℕ) where
+  pub size-text : asText c ≡ true → length name + 2 ≡ length (nameIn c name)
+  size-text t = rw t (sym (wire-length name))
+
+  pub size-wire : asText c ≡ false → length name ≡ length (nameIn c name)
+  size-wire t = rw t
+
+  module _ {n at r : ℕ} {l l′ : List ℕ} (e : n ≡ length (nameIn c name)) where
+    pub wrote-text : asText c ≡ true → Wrote at (be 1 n ++ wireOf name) l r l′ → Wrote at (namePart (nameIn c name)) l r l′
+    wrote-text t w = rw t (rw (rw t at e) at w)
+
+    pub wrote-wire : asText c ≡ false → Wrote at (be 1 n ++ name) l r l′ → Wrote at (namePart (nameIn c name)) l r l′
+    wrote-wire t w = rw t (rw (rw t at e) at w)
+
+-- ---- what is answered of fields
+
+-- the judge's answer
+abbrev judgedIn : Carrier → Fields → Judged
+judgedIn c f = judgedOf Reading c (f .priority) (f .name) (f .full) (f .addresses) (f .parameters)
+
+module _ (c : Carrier) (f : Fields) {j : Judged} (e : j ≡ judgedIn c f) where
+  same-fault : j .fault ≡ faultOf Reading c f
+  same-fault = ap (λ (j : Judged). j .fault) e
+
+  pub examined-faulty : (j .fault ≡ 0 → ⊥) → discarded (j .fault) ≡ examinedOf c (yieldOf c f)
+  examined-faulty n = rw (yield-faulty c f (λ z. n (same-fault ∙ z))) (ap discarded same-fault)
+
+  module _ (z : j .fault ≡ 0) {size : ℕ} (s : size ≡ length (recordOf c (keepOf c f))) where
+    examined-kept : record { fault = 0; priority = f .priority; size = size } ≡ examinedOf c (yieldOf c f)
+    examined-kept = rw (yield-kept c f (sym same-fault ∙ z), s)
+
+    examined-small : size ≤ 2298
+    examined-small = rw s (kept-small c f (fault-passed Reading c f (sym same-fault ∙ z)))
+
+-- of a name of n octets in wire form, where there is no fault
+module _ (c : Carrier) (p : ℕ) (name : List ℕ) {j : Judged} {n : ℕ} (e : j ≡ judgedIn c (nameOnly p 0 name)) (z : j .fault ≡ 0)
+    (en : n ≡ length (nameIn c name)) where
+  name-only-size : (t : ℕ) → 8 + n ≡ length (recordOf c (keepOf c (nameOnly p t name)))
+  name-only-size t = rw length-record (omega arith)
+
+  pub name-only-small : 8 + n ≤ 2298
+  name-only-small = examined-small c (nameOnly p 0 name) e z (name-only-size 0)
+
+  pub name-only-kept : (t : ℕ) → record { fault = 0; priority = p; size = 8 + n } ≡ examinedOf c (yieldOf c (nameOnly p t name))
+  name-only-kept t = examined-kept c (nameOnly p t name) e z (name-only-size t)
+
+-- and of addresses of w octets, m of which stay
+module _ (c : Carrier) (p : ℕ) (name a q : List ℕ) {j : Judged} {n w m : ℕ} (e : j ≡ judgedIn c (whole p 0 name a q)) (z : j .fault ≡ 0)
+    (en : n ≡ length (nameIn c name)) (ew : w ≡ addressWidth c) (em : m ≡ length (keptOf w (listOf w a))) where
+  full-size : (t : ℕ) → 8 + n + 3 + m * w + length q ≡ length (recordOf c (keepOf c (whole p t name a q)))
+  full-size t =
+      let s : length (staying (addressWidth c) a) ≡ m * w = rw (← ew) (staying-length w a ∙ rw em) in
+      rw length-record (omega arith)
+
+  pub full-small : 8 + n + 3 + m * w + length q ≤ 2298
+  full-small = examined-small c (whole p 0 name a q) e z (full-size 0)
+
+  pub full-kept : (t : ℕ) → record { fault = 0; priority = p; size = 8 + n + 3 + m * w + length q } ≡ examinedOf c (yieldOf c (whole p t name a q))
+  full-kept t = examined-kept c (whole p t name a q) e z (full-size t)

@@ -1,0 +1,41 @@
+-- What the functions over the parts of a body answer and write. Assumes nothing: these are definitions.
+use mathlib.Core.Bool.{cond}
+use mathlib.Core.List.{List, _++_}
+use Prim.Native.Nat.{ℕ}
+use lib.Dec.{eqb}
+use lib.ListN.{length}
+use Rattle.octets.specs.Numbers.{be}
+use Rattle.carriers.specs.declared.Carrier.{Carrier}
+use Rattle.carriers.specs.Carriers.{asText}
+use Rattle.texts.specs.Texts.{wireOf}
+use Rattle.addresses.specs.Addresses.{listOf, keptOf}
+use Rattle.blocks.specs.Block.{Fields}
+use Rattle.judge.specs.declared.Side.the-variants.{Reading}
+use Rattle.judge.specs.Judge.{faultOf}
+use Rattle.records.specs.declared.Examined.{Examined}
+use Rattle.records.specs.Records.{Outcome, faulty, kept, keepOf, staying}
+
+-- what fields yield: a fault of 21 to 28, or a record
+abbrev pub yieldOf : Carrier → Fields → Outcome
+yieldOf c f = cond (eqb (faultOf Reading c f) 0) (kept (keepOf c f)) (faulty (faultOf Reading c f))
+
+-- what is answered of a body with a fault
+abbrev pub discarded : ℕ → Examined
+discarded k = record { fault = k; priority = 0; size = 0 }
+
+-- a name as a sheet holds it: in wire form
+abbrev pub nameIn : Carrier → List ℕ → List ℕ
+nameIn c name = cond (asText c) (wireOf name) name
+
+-- a name after its length
+abbrev pub namePart : List ℕ → List ℕ
+namePart name = be 1 (length name) ++ name
+
+-- a record to the end of its name
+abbrev pub headPart : ℕ → ℕ → ℕ → List ℕ → List ℕ
+headPart priority lifetime mode name = be 2 priority ++ (be 4 lifetime ++ (be 1 mode ++ namePart name))
+
+-- what mode 1 adds, of addresses and parameters as carried
+abbrev pub tailPart : ℕ → List ℕ → List ℕ → List ℕ
+tailPart w addresses parameters =
+    be 1 (length (keptOf w (listOf w addresses))) ++ (staying w addresses ++ (be 2 (length parameters) ++ parameters))

@@ -1,0 +1,179 @@
+-- What the places that `split` answers say on each way through `examine` and `put_record`. Assumes nothing.
+use mathlib.Core.Path.{_≡_, refl, sym, ap, _∙_}
+use mathlib.Core.Bool.{Bool, true, false, cond}
+use mathlib.Core.List.{List, _++_, append-assoc, append-nil}
+use Prim.Native.Nat.{ℕ, _+_, _-_, _/_, _≤_, _<_}
+use native.Mathlib.Omega.{arith}
+use native.Mathlib.Nat.{mul-div-cancel, add-sub-cancel-left}
+use lib.Dec.{eqb}
+use lib.ListN.{length, take, drop}
+use borrow.Author.Tests.{eqb-true}
+use Rattle.octets.specs.Over.{Wrote}
+use Rattle.octets.specs.OverLaws.{over-length, then}
+use Rattle.carriers.specs.declared.Carrier.{Carrier}
+use Rattle.carriers.specs.Carriers.{addressWidth}
+use Rattle.addresses.specs.Addresses.{Width, listOf, keptOf}
+use Rattle.addresses.specs.AddressesLaws.{wide-some}
+use Rattle.blocks.specs.declared.Places.{Places}
+use Rattle.blocks.specs.declared.Places.the-variants.{Bad, NameOnly, Full}
+use Rattle.blocks.specs.Block.{Fields, bad, fields, nameOnly, whole, parse}
+use Rattle.blocks.specs.Places.{told, Inside, Numbers, Ranged}
+use Rattle.judge.specs.declared.Side.the-variants.{Reading}
+use Rattle.judge.specs.Judge.{faultOf}
+use Rattle.judge.specs.Passed.{Passed}
+use Rattle.judge.specs.JudgeLaws.{carrier-width, fault-passed}
+use Rattle.records.specs.declared.Examined.{Examined}
+use Rattle.records.specs.Records.{faulty, kept, outcomeOf, staying, keepOf, recordOf}
+use Rattle.records.specs.Examined.{examinedOf, Kept, octetsIn}
+use Rattle.records.specs.Parts.{yieldOf, discarded, nameIn, headPart, tailPart}
+use Rattle.records.specs.RecordsLaws.{yield-kept, outcome-bad, outcome-fields, length-record, staying-length, name-small, kept-count-small, kept-small}
+
+-- ---- what is answered
+
+-- an answer is within its bounds
+yield-bounds : (c : Carrier) (f : Fields) → f .priority < 65536
+    → (examinedOf c (yieldOf c f) .priority < 65536) × (examinedOf c (yieldOf c f) .size ≤ 2298)
+yield-bounds c f h = go (eqb (faultOf Reading c f) 0) refl
+  where
+    go : (b : Bool) → eqb (faultOf Reading c f) 0 ≡ b → let r : Examined = examinedOf c (cond b (kept (keepOf c f)) (faulty (faultOf Reading c f))) in
+        (r .priority < 65536) × (r .size ≤ 2298)
+    go true t = (h, kept-small c f (fault-passed Reading c f (eqb-true _ _ t)))
+    go false t = (omega arith, omega arith)
+
+-- what `examine` answers
+abbrev Answer : Carrier → List ℕ → Examined → Type 0
+Answer c b r = (r ≡ examinedOf c (outcomeOf c b)) × ((r .priority < 65536) × (r .size ≤ 2298))
+
+module _ (c : Carrier) (b : List ℕ) where
+  answer-bad : (k : ℕ) {r : Examined} → bad k ≡ parse c b → r ≡ discarded k → Answer c b r
+  answer-bad k e s = (rw (outcome-bad c b k (sym e)) s, rw s (omega arith, omega arith))
+
+  answer-fields : (f : Fields) {r : Examined} → fields f ≡ parse c b → f .priority < 65536 → r ≡ examinedOf c (yieldOf c f) → Answer c b r
+  answer-fields f e h s = (rw (outcome-fields c b f (sym e)) s, rw s (yield-bounds c f h))
+
+-- ---- what is written
+
+module _ (c : Carrier) (p t : ℕ) (name : List ℕ) where
+  record-name-only : recordOf c (keepOf c (nameOnly p t name)) ≡ headPart p t 0 (nameIn c name)
+  unfolding recordOf
+  record-name-only = simp append-nil
+
+  record-full : (a q : List ℕ) → recordOf c (keepOf c (whole p t name a q)) ≡ headPart p t 1 (nameIn c name) ++ tailPart (addressWidth c) a q
+  unfolding recordOf
+  record-full a q =
+      let w : ℕ = addressWidth c in
+      let k : ℕ = length (keptOf w (listOf w a)) in
+      let e : length (staying w a) / w ≡ k = rw (staying-length w a) (mul-div-cancel k (wide-some (carrier-width c))) in
+      simp (e, append-assoc)
+
+module _ (c : Carrier) (b : List ℕ) (k : Kept (outcomeOf c b)) where
+  kept-not-bad : (j : ℕ) → bad j ≡ parse c b → ⊥
+  kept-not-bad j e = rw (outcome-bad c b j (sym e)) at k
+
+  module _ (f : Fields) (e : fields f ≡ parse c b) where
+    kept-fault : faultOf Reading c f ≡ 0
+    kept-fault = go (eqb (faultOf Reading c f) 0) refl (rw (outcome-fields c b f (sym e)) at k)
+      where
+        go : (b : Bool) → eqb (faultOf Reading c f) 0 ≡ b → Kept (cond b (kept (keepOf c f)) (faulty (faultOf Reading c f))) → faultOf Reading c f ≡ 0
+        go true t h = eqb-true _ _ t
+        go false t h = absurd h
+
+    kept-octets : octetsIn c (outcomeOf c b) ≡ recordOf c (keepOf c f)
+    kept-octets = rw (outcome-fields c b f (sym e), yield-kept c f kept-fault)
+
+    kept-passed : Passed Reading c f
+    kept-passed = fault-passed Reading c f kept-fault
+
+-- ---- by the places
+
+-- the part of n octets at a place, as the code has it
+abbrev cut : List ℕ → ℕ → ℕ → List ℕ
+cut b i n = take (i + n - i) (drop i b)
+
+-- how far the parts reach
+pub name-only-inside : (b : List ℕ) {s : Places} {p t i n : ℕ} → s ≡ NameOnly p t i n → Inside b s → i + n ≤ length b
+name-only-inside b is h = rw is at h
+
+pub full-inside : (b : List ℕ) {s : Places} {p t i n j m q k : ℕ} → s ≡ Full p t i n j m q k → Inside b s
+    → (i + n ≤ length b) × (j + m ≤ length b) × (q + k ≤ length b)
+full-inside b is h = rw is at h
+
+module _ (c : Carrier) (b : List ℕ) {s : Places} (e : told b s ≡ parse c b) where
+  told-is : {x : Places} → s ≡ x → told b x ≡ parse c b
+  told-is is = sym (ap (λ (x : Places). told b x) is) ∙ e
+
+  pub examine-bad : {k : ℕ} {r : Examined} → s ≡ Bad k → r ≡ discarded k → Answer c b r
+  examine-bad {k} is h = answer-bad c b k (told-is is) h
+
+  pub put-bad : {k : ℕ} → s ≡ Bad k → Kept (outcomeOf c b) → ⊥
+  put-bad {k} is h = kept-not-bad c b h k (told-is is)
+
+module _ (c : Carrier) (b : List ℕ) {s : Places} (e : told b s ≡ parse c b) (h : Ranged c s) {p t i n : ℕ} (is : s ≡ NameOnly p t i n) where
+  abbrev nameFields : Fields
+  nameFields = nameOnly p t (cut b i n)
+
+  name-only-fields : fields nameFields ≡ parse c b
+  name-only-fields = rw (add-sub-cancel-left i n) (told-is c b e is)
+
+  name-only-numbers : Numbers c p t
+  name-only-numbers = (rw is at h) .0
+
+  pub examine-name-only : {r : Examined} → ((t : ℕ) → r ≡ examinedOf c (yieldOf c (nameOnly p t (cut b i n)))) → Answer c b r
+  examine-name-only a = answer-fields c b nameFields name-only-fields (name-only-numbers .priority) (a t)
+
+  module _ (k : Kept (outcomeOf c b)) (at : ℕ) (l : List ℕ) where
+    -- what `put_head` asks
+    pub name-only-asks : at + length (octetsIn c (outcomeOf c b)) ≤ length l → let name : List ℕ = nameIn c (cut b i n) in
+        ((p < 65536) × (t < 4294967296)) × ((length name ≤ 255) × (at + 8 + length name ≤ length l))
+    name-only-asks room =
+        let z = name-only-numbers in
+        let y = name-small c (cut b i n) (kept-passed c b k nameFields name-only-fields .named) in
+        let o : at + length (recordOf c (keepOf c nameFields)) ≤ length l = rw (kept-octets c b k nameFields name-only-fields) at room in
+        let m : length (recordOf c (keepOf c nameFields)) ≡ 8 + length (nameIn c (cut b i n)) + 0 = length-record c (keepOf c nameFields) in
+        ((z .priority, z .lifetime), (y, omega arith))
+
+    pub name-only-writes : {r : ℕ} {l′ : List ℕ} → Wrote at (headPart p t 0 (nameIn c (cut b i n))) l r l′ → Wrote at (octetsIn c (outcomeOf c b)) l r l′
+    name-only-writes w = rw (kept-octets c b k nameFields name-only-fields, record-name-only c p t (cut b i n)) w
+
+module _ (c : Carrier) (b : List ℕ) {s : Places} (e : told b s ≡ parse c b) (h : Ranged c s) {p t i n j m q k : ℕ} (is : s ≡ Full p t i n j m q k) where
+  abbrev fullFields : Fields
+  fullFields = whole p t (cut b i n) (cut b j m) (cut b q k)
+
+  full-fields : fields fullFields ≡ parse c b
+  full-fields = rw (add-sub-cancel-left i n, add-sub-cancel-left j m, add-sub-cancel-left q k) (told-is c b e is)
+
+  full-numbers : Numbers c p t
+  full-numbers = (rw is at h) .0
+
+  pub examine-full : {r : Examined} → ((t : ℕ) → r ≡ examinedOf c (yieldOf c (whole p t (cut b i n) (cut b j m) (cut b q k)))) → Answer c b r
+  examine-full a = answer-fields c b fullFields full-fields (full-numbers .priority) (a t)
+
+  module _ (kept-one : Kept (outcomeOf c b)) (at : ℕ) (l : List ℕ) (room : at + length (octetsIn c (outcomeOf c b)) ≤ length l) where
+    full-room : at + (8 + length (nameIn c (cut b i n)) + (3 + length (staying (addressWidth c) (cut b j m)) + length (cut b q k))) ≤ length l
+    full-room = rw (kept-octets c b kept-one fullFields full-fields, length-record) at room
+
+    -- what `put_head` asks
+    pub full-asks-head : let name : List ℕ = nameIn c (cut b i n) in
+        ((p < 65536) × (t < 4294967296)) × ((length name ≤ 255) × (at + 8 + length name ≤ length l))
+    full-asks-head =
+        let z = full-numbers in
+        let y = name-small c (cut b i n) (kept-passed c b kept-one fullFields full-fields .named) in
+        let o = full-room in
+        ((z .priority, z .lifetime), (y, omega arith))
+
+    module _ {w r : ℕ} {l′ : List ℕ} (ew : w ≡ addressWidth c) (head : Wrote at (headPart p t 1 (nameIn c (cut b i n))) l r l′) where
+      -- what `put_tail` asks
+      pub full-asks-tail : let a : List ℕ = cut b j m in
+          Width w
+          × (((length (keptOf w (listOf w a)) ≤ 63) × (length (cut b q k) ≤ 1024))
+          × (r + 3 + length (staying w a) + length (cut b q k) ≤ length l′))
+      full-asks-tail =
+          let y = kept-passed c b kept-one fullFields full-fields .tail refl in
+          let o = full-room in
+          let same : length l′ ≡ length l = ap length (head .laid) ∙ over-length at _ l (head .room) in
+          rw ew (carrier-width c, ((kept-count-small (addressWidth c) (cut b j m) (y .few), y .short), omega (arith, head .next)))
+
+      pub full-writes : {r′ : ℕ} {l″ : List ℕ} → Wrote r (tailPart w (cut b j m) (cut b q k)) l′ r′ l″ → Wrote at (octetsIn c (outcomeOf c b)) l r′ l″
+      full-writes v =
+          rw (kept-octets c b kept-one fullFields full-fields, record-full c p t (cut b i n) (cut b j m) (cut b q k))
+          (then head (rw ew at v))

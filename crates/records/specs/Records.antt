@@ -1,0 +1,66 @@
+-- A record as a sheet holds it, and what one body (in carrier 1 one instance) yields (01, The record sheet; Names; Addresses).
+-- Assumes nothing: these are definitions.
+use mathlib.Core.Bool.{Bool, cond}
+use mathlib.Core.List.{List, [], _++_}
+use Prim.Native.Nat.{ℕ, _/_}
+use lib.Dec.{eqb}
+use lib.ListN.{length}
+use Rattle.octets.specs.Numbers.{be}
+use Rattle.octets.specs.Lists.{flat}
+use Rattle.carriers.specs.declared.Carrier.{Carrier}
+use Rattle.carriers.specs.Carriers.{addressWidth, asText}
+use Rattle.texts.specs.Texts.{wireOf}
+use Rattle.addresses.specs.Addresses.{listOf, keptOf}
+use Rattle.blocks.specs.Block.{Fields, Parsed, bad, fields, parse}
+use Rattle.judge.specs.declared.Side.the-variants.{Reading}
+use Rattle.judge.specs.Judge.{faultOf}
+
+-- the addresses that stay, of w octets each
+abbrev pub staying : ℕ → List ℕ → List ℕ
+staying w addresses = flat (keptOf w (listOf w addresses))
+
+-- what reading keeps of the fields: the name in wire form, the addresses that stay
+abbrev pub keepOf : Carrier → Fields → Fields
+keepOf c f = record {
+  priority = f .priority;
+  lifetime = f .lifetime;
+  full = f .full;
+  name = cond (asText c) (wireOf (f .name)) (f .name);
+  addresses = staying (addressWidth c) (f .addresses);
+  parameters = f .parameters;
+}
+
+-- a body's fault, or its record
+pub data Outcome : Type 0 where
+  faulty : ℕ → Outcome
+  kept : Fields → Outcome
+
+abbrev pub onParsed : {A : Type 0} → Parsed → (ℕ → A) → (Fields → A) → A
+onParsed (bad k) short next = short k
+onParsed (fields f) short next = next f
+
+-- 20 and 29 by `parse`, then 21 to 28
+unfoldable pub outcomeOf : Carrier → List ℕ → Outcome
+outcomeOf c body =
+    onParsed (parse c body) faulty (λ f. cond (eqb (faultOf Reading c f) 0) (kept (keepOf c f)) (faulty (faultOf Reading c f)))
+
+-- ---- a record's octets
+
+-- mode 0 name only, 1 full
+abbrev pub modeOf : Bool → ℕ
+modeOf full = cond full 1 0
+
+-- in mode 1 also: address count, addresses of w octets, parameter length, parameters
+abbrev pub tailOf : ℕ → Bool → List ℕ → List ℕ → List ℕ
+tailOf w full addresses parameters =
+    cond full (be 1 (length addresses / w) ++ (addresses ++ (be 2 (length parameters) ++ parameters))) []
+
+-- priority 2, lifetime 4, mode 1, name length 1, name, and what mode 1 adds
+unfoldable pub recordOf : Carrier → Fields → List ℕ
+recordOf c r =
+    be 2 (r .priority)
+    ++ (be 4 (r .lifetime)
+    ++ (be 1 (modeOf (r .full))
+    ++ (be 1 (length (r .name))
+    ++ (r .name
+    ++ tailOf (addressWidth c) (r .full) (r .addresses) (r .parameters)))))

@@ -1,0 +1,232 @@
+// One body, in carrier 1 one instance: whether it yields a record, how many octets the record has in a sheet, and writing it there.
+// This is the one place where reading puts a record into a sheet, and where unusable addresses are dropped.
+ghost use mathlib.Core.Path.{_≡_};
+ghost use Prim.Native.Nat.{ℕ, _+_, _≤_, _<_};
+ghost use lib.ListN.{length};
+ghost use Rattle.octets.specs.Over.{Wrote};
+ghost use Rattle.addresses.specs.Addresses.{Width, listOf, keptOf};
+ghost use Rattle.blocks.specs.Block.{nameOnly, whole};
+ghost use Rattle.records.specs.Records.{outcomeOf, staying};
+ghost use Rattle.records.specs.Examined.{examinedOf, Kept, octetsIn};
+ghost use Rattle.records.specs.Parts.{yieldOf, discarded, nameIn, namePart, headPart, tailPart};
+use blocks::Places;
+use carriers::Carrier;
+use judge::Side;
+
+// A body's fault, or 0 with its record's priority and size in a sheet.
+pub struct Examined {
+    pub fault: usize,
+    pub priority: usize,
+    pub size: usize,
+}
+
+// Octets of a record before its name: priority, lifetime, mode and name length.
+const HEAD: usize = 8;
+
+// Octets that mode 1 adds to addresses and parameters: address count and parameter length.
+const TAIL: usize = 3;
+
+// What is answered of a body with a fault.
+fn faulty(fault: usize) -> Examined
+    ensures { λ r. ⌜ r ≡ discarded fault ⌝ }
+{
+    Examined {
+        fault,
+        priority: 0,
+        size: 0,
+    }
+}
+
+// Octets of a name in wire form.
+fn name_size(c: Carrier, name: &[u8]) -> usize
+    ensures { λ r. ⌜ r ≡ length (nameIn c (now (name .entry))) ⌝ }
+{
+    if c.as_text() {
+        return name.len() + 2;
+    }
+    name.len()
+}
+
+// A name-only body, whatever its lifetime.
+fn examine_name_only(c: Carrier, priority: usize, name: &[u8]) -> Examined
+    ensures { λ r. ⌜ ((lifetime : ℕ) → r ≡ examinedOf c (yieldOf c (nameOnly priority lifetime (now (name .entry))))) ⌝ }
+{
+    let none = &name[..0];
+    let judged = judge::judge_fields(Side::Reading, c, priority, name, false, none, none);
+    let fault = judged.fault;
+    if fault != 0 {
+        return faulty(fault);
+    }
+    let size = HEAD + name_size(c, name);
+    Examined {
+        fault: 0,
+        priority,
+        size,
+    }
+}
+
+// A body in full form, whatever its lifetime.
+fn examine_full(
+    c: Carrier,
+    priority: usize,
+    name: &[u8],
+    addresses: &[u8],
+    parameters: &[u8],
+) -> Examined
+    ensures { λ r. ⌜ ((lifetime : ℕ) → r ≡ examinedOf c (yieldOf c (whole priority lifetime (now (name .entry)) (now (addresses .entry)) (now (parameters .entry))))) ⌝ }
+{
+    let judged = judge::judge_fields(
+        Side::Reading,
+        c,
+        priority,
+        name,
+        true,
+        addresses,
+        parameters,
+    );
+    let fault = judged.fault;
+    if fault != 0 {
+        return faulty(fault);
+    }
+    let w = c.address_width();
+    let count = addresses::kept_count(w, addresses);
+    let staying = count * w;
+    let head = HEAD + name_size(c, name);
+    let size = head + TAIL + staying + parameters.len();
+    Examined {
+        fault: 0,
+        priority,
+        size,
+    }
+}
+
+// Writes a name's length and its wire form.
+fn put_name(out: &mut [u8], at: usize, c: Carrier, name: &[u8]) -> usize
+    requires { ⌜ length (nameIn c (now name)) ≤ 255 ⌝ }
+    requires { ⌜ at + 1 + length (nameIn c (now name)) ≤ length (now out) ⌝ }
+    ensures { λ r. ⌜ Wrote at (namePart (nameIn c (now (name .entry)))) (now (out .entry)) r (now (out .exit)) ⌝ }
+{
+    let size = name_size(c, name);
+    let next = octets::put8(out, at, size as u8);
+    if c.as_text() {
+        return texts::to_wire(out, next, name);
+    }
+    octets::copy(out, next, name)
+}
+
+// Writes a record to the end of its name.
+fn put_head(
+    out: &mut [u8],
+    at: usize,
+    c: Carrier,
+    priority: usize,
+    lifetime: usize,
+    mode: u8,
+    name: &[u8],
+) -> usize
+    requires { ⌜ (priority < 65536) × (lifetime < 4294967296) ⌝ }
+    requires { ⌜ length (nameIn c (now name)) ≤ 255 ⌝ }
+    requires { ⌜ at + 8 + length (nameIn c (now name)) ≤ length (now out) ⌝ }
+    ensures { λ r. ⌜ Wrote at (headPart priority lifetime mode (nameIn c (now (name .entry)))) (now (out .entry)) r (now (out .exit)) ⌝ }
+{
+    let after_priority = octets::put16(out, at, priority);
+    let after_lifetime = octets::put32(out, after_priority, lifetime);
+    let after_mode = octets::put8(out, after_lifetime, mode);
+    put_name(out, after_mode, c, name)
+}
+
+// Writes what mode 1 adds, with the addresses that stay, of `w` octets each.
+fn put_tail(out: &mut [u8], at: usize, w: usize, addresses: &[u8], parameters: &[u8]) -> usize
+    requires { ⌜ Width w ⌝ }
+    requires { ⌜ (length (keptOf w (listOf w (now addresses))) ≤ 63) × (length (now parameters) ≤ 1024) ⌝ }
+    requires { ⌜ at + 3 + length (staying w (now addresses)) + length (now parameters) ≤ length (now out) ⌝ }
+    ensures { λ r. ⌜ Wrote at (tailPart w (now (addresses .entry)) (now (parameters .entry))) (now (out .entry)) r (now (out .exit)) ⌝ }
+{
+    let count = addresses::kept_count(w, addresses);
+    let after_count = octets::put8(out, at, count as u8);
+    let after_addresses = addresses::put_kept(out, after_count, w, addresses);
+    let after_length = octets::put16(out, after_addresses, parameters.len());
+    octets::copy(out, after_length, parameters)
+}
+
+// Whether a body yields a record.
+pub fn examine(c: Carrier, body: &[u8]) -> Examined
+    ensures { λ r. ⌜ r ≡ examinedOf c (outcomeOf c (now (body .entry))) ⌝ }
+    ensures { λ r. ⌜ (r .priority < 65536) × (r .size ≤ 2298) ⌝ }
+{
+    match blocks::split(c, body) {
+        Places::Bad { fault } => faulty(fault),
+        Places::NameOnly {
+            priority,
+            lifetime: _,
+            name,
+            nlen,
+        } => {
+            let end = name + nlen;
+            examine_name_only(c, priority, &body[name..end])
+        }
+        Places::Full {
+            priority,
+            lifetime: _,
+            name,
+            nlen,
+            addresses,
+            alen,
+            parameters,
+            plen,
+        } => {
+            let name_end = name + nlen;
+            let addresses_end = addresses + alen;
+            let parameters_end = parameters + plen;
+            examine_full(
+                c,
+                priority,
+                &body[name..name_end],
+                &body[addresses..addresses_end],
+                &body[parameters..parameters_end],
+            )
+        }
+    }
+}
+
+// Writes the record that a body yields at `at`, and returns the index after it.
+pub fn put_record(out: &mut [u8], at: usize, c: Carrier, body: &[u8]) -> usize
+    requires { ⌜ Kept (outcomeOf c (now body)) ⌝ }
+    requires { ⌜ at + length (octetsIn c (outcomeOf c (now body))) ≤ length (now out) ⌝ }
+    ensures { λ r. ⌜ Wrote at (octetsIn c (outcomeOf c (now (body .entry)))) (now (out .entry)) r (now (out .exit)) ⌝ }
+{
+    match blocks::split(c, body) {
+        Places::Bad { fault: _ } => at,
+        Places::NameOnly {
+            priority,
+            lifetime,
+            name,
+            nlen,
+        } => {
+            let end = name + nlen;
+            put_head(out, at, c, priority, lifetime, 0, &body[name..end])
+        }
+        Places::Full {
+            priority,
+            lifetime,
+            name,
+            nlen,
+            addresses,
+            alen,
+            parameters,
+            plen,
+        } => {
+            let name_end = name + nlen;
+            let addresses_end = addresses + alen;
+            let parameters_end = parameters + plen;
+            let tail = put_head(out, at, c, priority, lifetime, 1, &body[name..name_end]);
+            put_tail(
+                out,
+                tail,
+                c.address_width(),
+                &body[addresses..addresses_end],
+                &body[parameters..parameters_end],
+            )
+        }
+    }
+}

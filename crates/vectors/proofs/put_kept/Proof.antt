@@ -1,0 +1,60 @@
+-- `vectors::put_kept` is safe: what is kept of at most 4,096 octets fits the buffer. Assumes nothing.
+use borrow.Author.Needs.{needs}
+use native.Mathlib.Omega.{arith}
+use mathlib.Core.Path.{ap}
+use Prim.Native.Nat.{_*_, _≤_, ℕ}
+use lib.ListN.{length, length-take}
+use mathlib.Core.List.{List}
+use native.Mathlib.Nat.{mul-le-mul-right, div-mul-le-self}
+use Rattle.octets.specs.Lists.{flat}
+use Rattle.addresses.specs.Addresses.{keptOf, listOf}
+use Rattle.addresses.specs.AddressesLaws.{flat-length, kept-wide, list-wide, kept-few, list-length}
+use Rattle.vectors.proofs.put_kept.Statement.{statement}
+use Rattle.vectors.proofs.put_kept.Tie as tie
+
+-- what is kept of a list of addresses is no longer than the list
+kept-short : (w : ℕ) (s : List ℕ) → length (flat (keptOf w (listOf w s))) ≤ length s
+kept-short w s =
+    let n = flat-length w (keptOf w (listOf w s)) (kept-wide w (listOf w s) (list-wide w s)) in
+    let k = mul-le-mul-right w (kept-few w (listOf w s)) in
+    let l = ap (λ (x : ℕ). x * w) (list-length w s) in
+    omega (arith, div-mul-le-self (length s) w)
+
+buffer-requires : tie.Need-buffer-requires
+buffer-requires c κs = search needs
+
+slice-aggregate-put-kept : tie.Need-slice-aggregate-put-kept
+slice-aggregate-put-kept c = search needs
+
+put-kept-requires : tie.Need-put-kept-requires
+put-kept-requires c κs =
+    let a = c .before .before .before .before .args in
+    (search needs, omega (arith, kept-short (a .w) (a .s .now)))
+
+array-share-prefix-kept : tie.Need-array-share-prefix-kept
+array-share-prefix-kept c = search needs
+
+slice-aggregate-put-hex : tie.Need-slice-aggregate-put-hex
+slice-aggregate-put-hex c = simp length-take (omega arith)
+
+put-hex-requires : tie.Need-put-hex-requires
+put-hex-requires c κs = search needs
+
+same-length : tie.Need-same-length
+same-length c = search needs
+
+returns : tie.Need-returns
+returns c = search needs
+
+pub put-kept-spec : {M : Type 1} → statement M
+put-kept-spec =
+    tie.close
+    (tie.spec
+    buffer-requires
+    slice-aggregate-put-kept
+    put-kept-requires
+    array-share-prefix-kept
+    slice-aggregate-put-hex
+    put-hex-requires
+    same-length
+    returns)

@@ -1,0 +1,298 @@
+// Answers test vectors over names, addresses and parameters, for comparison with an independent implementation (host/README.md).
+// A case is a line of standard input: a letter, a space, octets in hexadecimal. Its answer is the same line of standard output, and `?`
+// where the line is no case. At most 65,536 octets are read, and at most so many written: what has no room is left out.
+use libc::STDIN_FILENO;
+use libc::STDOUT_FILENO;
+use names::Name;
+use octets::wide;
+ghost use Prim.Native.Nat.{_≤_};
+ghost use lib.ListN.{length};
+ghost use Rattle.io.specs.Counts.{Counts};
+ghost use Rattle.names.specs.Names.{IsName};
+ghost use Rattle.texts.specs.Texts.{IsText};
+ghost use Rattle.addresses.specs.Addresses.{Width};
+
+// How many octets a case may have.
+const MOST: usize = 4096;
+
+// What `decode` answers of digits that it does not take.
+const REFUSED: usize = MOST + 1;
+
+// What `nibble` answers of an octet that is no digit, and `octet` where there are not two digits.
+const NO_DIGIT: usize = 16;
+
+const NO_OCTET: usize = 256;
+
+// Writes b at `at`, if there is room, and returns the index after it.
+fn put(out: &mut [u8], at: usize, b: u8) -> usize
+    ensures { λ r. ⌜ r ≤ length (now (out .exit)) ⌝ }
+{
+    if at < out.len() {
+        out[at] = b;
+        return at + 1;
+    }
+    out.len()
+}
+
+// Writes the octets of s.
+fn put_all(out: &mut [u8], at: usize, s: &[u8]) -> usize {
+    let mut o = at;
+    let mut i = 0;
+    while i < s.len() {
+        o = put(out, o, s[i]);
+        i += 1;
+    }
+    o
+}
+
+// Writes x in decimal, after a space.
+fn put_number(out: &mut [u8], at: usize, x: usize) -> usize {
+    let mut digits = [0u8; 20];
+    let n = io::decimal(x as u64, &mut digits);
+    let next = put(out, at, b' ');
+    put_all(out, next, &digits[..n])
+}
+
+// The hexadecimal digit of the lowest 4 bits of x.
+fn digit(x: u8) -> u8 {
+    let d = x % 16;
+    if d < 10 {
+        return b'0' + d;
+    }
+    b'a' + (d - 10)
+}
+
+// Writes the octets of s in hexadecimal, after a space; nothing where there are none.
+fn put_hex(out: &mut [u8], at: usize, s: &[u8]) -> usize {
+    if s.len() == 0 {
+        return at;
+    }
+    let mut o = put(out, at, b' ');
+    let mut i = 0;
+    while i < s.len() {
+        let b = s[i];
+        o = put(out, o, digit(b / 16));
+        o = put(out, o, digit(b));
+        i += 1;
+    }
+    o
+}
+
+// Writes that a name is good, and its other form.
+fn put_good(out: &mut [u8], at: usize, form: &[u8]) -> usize {
+    let next = put_all(out, at, b" ok");
+    put_hex(out, next, form)
+}
+
+// Writes that a name is bad, and where.
+fn put_bad(out: &mut [u8], at: usize, place: usize) -> usize {
+    let next = put_all(out, at, b" bad");
+    put_number(out, next, place)
+}
+
+// Writes that a name in wire form is good, and its text form.
+fn put_text(out: &mut [u8], at: usize, wire: &[u8]) -> usize
+    requires { ⌜ IsName (now wire) ⌝ }
+{
+    let mut text = [0u8; 256];
+    let n = texts::to_text(&mut text, 0, wire);
+    put_good(out, at, &text[..n])
+}
+
+// Writes that a name in text form is good, and its wire form.
+fn put_wire(out: &mut [u8], at: usize, text: &[u8]) -> usize
+    requires { ⌜ IsText (now text) ⌝ }
+{
+    let mut wire = [0u8; 256];
+    let n = texts::to_wire(&mut wire, 0, text);
+    put_good(out, at, &wire[..n])
+}
+
+// Writes the answer of a name in wire form.
+fn answer_wire(out: &mut [u8], at: usize, wire: &[u8]) -> usize {
+    match names::check_wire(wire) {
+        Name::Good => put_text(out, at, wire),
+        Name::Bad(place) => put_bad(out, at, place),
+    }
+}
+
+// Writes the answer of a name in text form.
+fn answer_text(out: &mut [u8], at: usize, text: &[u8]) -> usize {
+    match texts::check_text(text) {
+        Name::Good => put_wire(out, at, text),
+        Name::Bad(place) => put_bad(out, at, place),
+    }
+}
+
+// Writes the addresses of w octets that are kept.
+fn put_kept(out: &mut [u8], at: usize, w: usize, s: &[u8]) -> usize
+    requires { ⌜ Width w ⌝ }
+    requires { ⌜ length (now s) ≤ 4096 ⌝ }
+{
+    let mut kept = io::buffer();
+    let n = addresses::put_kept(&mut kept, 0, w, s);
+    put_hex(out, at, &kept[..n])
+}
+
+// 1 for an address list that has one to drop, and else 0.
+fn drops(w: usize, s: &[u8]) -> usize
+    requires { ⌜ Width w ⌝ }
+{
+    if addresses::any_unusable(w, s) {
+        return 1;
+    }
+    0
+}
+
+// Writes the answer of a list of addresses of w octets: how many are kept, whether one is dropped, and those that are kept.
+fn answer_addresses(out: &mut [u8], at: usize, w: usize, s: &[u8]) -> usize
+    requires { ⌜ Width w ⌝ }
+    requires { ⌜ length (now s) ≤ 4096 ⌝ }
+{
+    let mut o = put_number(out, at, addresses::kept_count(w, s));
+    o = put_number(out, o, drops(w, s));
+    put_kept(out, o, w, s)
+}
+
+// Writes what follows the letter in the answer of a case; nothing after `?`.
+fn answer(out: &mut [u8], at: usize, letter: u8, s: &[u8]) -> usize
+    requires { ⌜ length (now s) ≤ 4096 ⌝ }
+{
+    if letter == b'w' {
+        return answer_wire(out, at, s);
+    }
+    if letter == b't' {
+        return answer_text(out, at, s);
+    }
+    if letter == b'a' {
+        return answer_addresses(out, at, 4, s);
+    }
+    if letter == b'b' {
+        return answer_addresses(out, at, 16, s);
+    }
+    if letter == b'p' {
+        return put_number(out, at, svcparams::params_fault(s));
+    }
+    at
+}
+
+// The value of a hexadecimal digit, in lower case.
+fn nibble(d: u8) -> usize
+    ensures { λ r. ⌜ r ≤ 16 ⌝ }
+{
+    if d < b'0' {
+        return NO_DIGIT;
+    }
+    if d <= b'9' {
+        return wide(d - b'0');
+    }
+    if d < b'a' {
+        return NO_DIGIT;
+    }
+    if d <= b'f' {
+        return wide(d - b'a') + 10;
+    }
+    NO_DIGIT
+}
+
+// The octet of the two hexadecimal digits at `at`.
+fn octet(line: &[u8], at: usize) -> usize
+    requires { ⌜ at ≤ length (now line) ⌝ }
+{
+    if line.len() - at < 2 {
+        return NO_OCTET;
+    }
+    let upper = nibble(line[at]);
+    if upper == NO_DIGIT {
+        return NO_OCTET;
+    }
+    let lower = nibble(line[at + 1]);
+    if lower == NO_DIGIT {
+        return NO_OCTET;
+    }
+    upper * 16 + lower
+}
+
+// Writes the octets of a line, whose digits stand after a letter and a space, from the start of out, and returns how many they are; or
+// answers REFUSED where the digits are odd in number, too many or no digits.
+fn decode(out: &mut [u8], line: &[u8]) -> usize {
+    let mut n = 0;
+    let mut at = 2;
+    while at < line.len() {
+        let b = octet(line, at);
+        if NO_OCTET <= b {
+            return REFUSED;
+        }
+        if out.len() <= n {
+            return REFUSED;
+        }
+        out[n] = b as u8;
+        n += 1;
+        at += 2;
+    }
+    n
+}
+
+// The letter of a line that begins as a case does, and `?` for any other.
+fn letter_of(line: &[u8]) -> u8 {
+    if line.len() < 2 {
+        return b'?';
+    }
+    if line[1] != b' ' {
+        return b'?';
+    }
+    match line[0] {
+        b'w' | b't' | b'a' | b'b' | b'p' => line[0],
+        _ => b'?',
+    }
+}
+
+// Writes the answer of a line.
+fn put_line(out: &mut [u8], at: usize, line: &[u8]) -> usize {
+    let mut octets = io::buffer();
+    let n = decode(&mut octets, line);
+    if MOST < n {
+        return put(out, at, b'?');
+    }
+    let letter = letter_of(line);
+    let next = put(out, at, letter);
+    answer(out, next, letter, &octets[..n])
+}
+
+// The index of the first line end of s from `at` on, or the length of s.
+fn line_end(s: &[u8], at: usize) -> usize
+    requires { ⌜ at ≤ length (now s) ⌝ }
+    ensures { λ r. ⌜ (at ≤ r) × (r ≤ length (now (s .entry))) ⌝ }
+{
+    let mut end = at;
+    while end < s.len() {
+        if s[end] == b'\n' {
+            return end;
+        }
+        end += 1;
+    }
+    end
+}
+
+// Writes the answer of each line of s, and returns how many octets that is.
+fn run(s: &[u8], out: &mut [u8]) -> usize
+    ensures { λ r. ⌜ Counts r (now (out .exit)) ⌝ }
+{
+    let mut at = 0;
+    let mut o = 0;
+    while at < s.len() {
+        let end = line_end(s, at);
+        o = put_line(out, o, &s[at..end]);
+        o = put(out, o, b'\n');
+        at = end + 1;
+    }
+    o
+}
+
+fn main() {
+    let mut s = io::large_buffer();
+    let n = io::read_full(STDIN_FILENO, &mut s);
+    let mut out = io::large_buffer();
+    let m = run(&s[..n], &mut out);
+    io::write_all(STDOUT_FILENO, &out[..m]);
+}
