@@ -1,6 +1,7 @@
 #!/bin/sh
 # Runs every check of the repository and ends in 'N passed, M failed', each check counted; fails where one fails or did not run.
-# Checks: rt ci (each crate, must-fail edit and program run), the host tests (cargo), the vectors held against their generator.
+# Checks: the layout of the sources, rt ci (each crate, must-fail edit and program run), the library built from the proved crate, its header
+# held against the source, the host tests (cargo) and the vectors held against their generator.
 set -u
 cd "$(dirname "$0")/.."
 log=$(mktemp -d) || exit 2
@@ -55,6 +56,12 @@ host_tests() {
     failed=$((failed + $2))
 }
 
+# Compiles exactly when the header says what the source exports.
+header_held() {
+    python3 tools/header.py include/dnr.h crates/dnr/src/lib.rt >"$log/header.c" &&
+        gcc -std=gnu11 -fsyntax-only -Wall -Werror -I . "$log/header.c"
+}
+
 vectors_held() {
     mkdir "$log/vectors" &&
         cargo run --quiet --offline --release --manifest-path host/Cargo.toml -p vectors -- "$log/vectors" &&
@@ -63,6 +70,8 @@ vectors_held() {
 
 step "layout of the sources" rt fmt --check
 rt_ci
+step "libdnr.a" rt staticlib dnr
+step "include/dnr.h agrees with the source" header_held
 host_tests
 step "vectors are those of the reference" vectors_held
 echo "$passed passed, $failed failed"

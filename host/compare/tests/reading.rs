@@ -1,0 +1,139 @@
+//! The proved reader and the reference on generated areas: the same numbers, the same octets, and no octet outside the buffers.
+
+use compare::generate::{area, damage, Health};
+use compare::random::Random;
+use compare::{read, Reading};
+
+const GUARD: usize = 32;
+const MARK: u8 = 0xA5;
+
+/// Reads into a buffer of `room` octets with guards on both sides, and compares everything that came back.
+fn compared(carrier: u8, area: &[u8], room: usize) -> Reading {
+    let mut mine = vec![MARK; room + 2 * GUARD];
+    let mut theirs = vec![MARK; room];
+    let got = read(carrier, area, &mut mine[GUARD..GUARD + room]);
+    let wanted = dnr_reference::read(carrier, area, &mut theirs);
+    assert_eq!(got, wanted, "carrier {carrier}, room {room}, area {area:02x?}");
+    assert!(mine[GUARD..GUARD + room] == theirs[..], "carrier {carrier}, room {room}, area {area:02x?}");
+    assert!(mine[..GUARD].iter().chain(&mine[GUARD + room..]).all(|&o| o == MARK), "a guard was written");
+    if got.number != 0 {
+        assert_eq!(got, Reading { number: got.number, length: 0, found: 0, discarded: 0, fault: 0 });
+        assert!(mine.iter().all(|&o| o == MARK), "a refusal wrote");
+    }
+    got
+}
+
+/// Every room around the result's length, and none at all.
+fn every_room(carrier: u8, area: &[u8]) -> Reading {
+    let all = compared(carrier, area, 40_000);
+    if all.number == 0 {
+        for room in [0, 6, 7, all.length - 1, all.length, all.length + 1] {
+            let part = compared(carrier, area, room);
+            assert_eq!(part.number, if room < all.length { 5 } else { 0 });
+        }
+    } else {
+        compared(carrier, area, 0);
+    }
+    all
+}
+
+#[derive(Default)]
+struct Counts {
+    numbers: [usize; 6],
+    faults: [usize; 30],
+}
+
+impl Counts {
+    fn add(&mut self, r: Reading) {
+        self.numbers[r.number] += 1;
+        self.faults[r.fault] += 1;
+    }
+}
+
+fn run(carrier: u8, seed: u64, cases: usize) {
+    let mut r = Random::new(seed);
+    let mut counts = Counts::default();
+    for case in 0..cases {
+        let health = if r.once_in(3) { Health::Good } else { Health::Hurt };
+        let records = match r.below(10) {
+            0 => 0,
+            1..=6 => 1 + r.below(3),
+            7 => 15 + r.below(4),
+            _ => 1 + r.below(16),
+        };
+        let mut a = area(&mut r, carrier, records, health);
+        if r.once_in(8) {
+            damage(&mut r, &mut a);
+        }
+        let answer = if case % 8 == 0 { every_room(carrier, &a) } else { compared(carrier, &a, 40_000) };
+        counts.add(answer);
+    }
+    println!("carrier {carrier}: numbers {:?}, faults 20 to 29 {:?}", counts.numbers, &counts.faults[20..]);
+    for number in [0, 3, 4] {
+        assert!(counts.numbers[number] > 0, "carrier {carrier}: {number} was never answered");
+    }
+    for fault in [20, 21, 22, 23, 24, 25, 26, 27, 28] {
+        assert!(counts.faults[fault] > 0, "carrier {carrier}: fault {fault} was never met");
+    }
+    assert!(carrier != 3 || counts.faults[29] > 0, "fault 29 was never met");
+}
+
+#[test]
+fn dhcp4() {
+    run(1, 11, 30_000);
+}
+
+#[test]
+fn dhcp6() {
+    run(2, 12, 30_000);
+}
+
+#[test]
+fn router_advertisement() {
+    run(3, 13, 30_000);
+}
+
+#[test]
+fn ike4() {
+    run(4, 14, 30_000);
+}
+
+#[test]
+fn ike6() {
+    run(5, 15, 30_000);
+}
+
+#[test]
+fn carriers_that_are_none() {
+    for carrier in (0..=255).filter(|c| !(1..=5).contains(c)) {
+        assert_eq!(every_room(carrier, &[0; 9]).number, 1);
+        assert_eq!(compared(carrier, &vec![0; 40_961], 100).number, 1);
+    }
+}
+
+#[test]
+fn the_longest_input() {
+    for carrier in 1..=5 {
+        let fill: &[u8] = match carrier {
+            1 => &[0],
+            3 => &[1, 1, 0, 0, 0, 0, 0, 0],
+            _ => &[0, 1, 0, 4, 9, 9, 9, 9],
+        };
+        let longest: Vec<u8> = fill.iter().copied().cycle().take(40_960).collect();
+        assert_eq!(compared(carrier, &longest, 7).number, 0);
+        let longer: Vec<u8> = fill.iter().copied().cycle().take(40_961).collect();
+        assert_eq!(compared(carrier, &longer, 7).number, 2);
+    }
+}
+
+#[test]
+fn octets_without_any_order() {
+    let mut r = Random::new(16);
+    for _ in 0..20_000 {
+        let long = r.below(80);
+        let a: Vec<u8> = (0..long).map(|_| r.pick(&[0, 1, 2, 4, 8, 27, 28, 97, 128, 144, 162, 255])).collect();
+        for carrier in 1..=5 {
+            compared(carrier, &a, 200);
+        }
+    }
+}
