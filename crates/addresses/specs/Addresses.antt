@@ -44,3 +44,7 @@ keptOf w (a ∷ more) = cond (unusable w a) (keptOf w more) (a ∷ keptOf w more
 unfoldable pub anyOf : ℕ → List (List ℕ) → Bool
 anyOf w [] = false
 anyOf w (a ∷ more) = cond (unusable w a) true (anyOf w more)
+
+-- none of them stays
+abbrev pub noneOf : ℕ → List (List ℕ) → Bool
+noneOf w more = eqb (length (keptOf w more)) 0

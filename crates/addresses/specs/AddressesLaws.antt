@@ -7,14 +7,14 @@ use Prim.Native.Nat.{ℕ, zero, suc, _+_, _-_, _*_, _/_, _%_, _≤_, _<_}
 use native.Mathlib.Nat.{div-eq-sub-div, div-eq-of-lt, div-add-mod', div-mul-le-self, add-sub-cancel-left}
 use native.Mathlib.Numerals.{add-one}
 use native.Mathlib.Omega.{arith}
-use lib.Dec.{ltb}
+use lib.Dec.{ltb, eqb, eqb·suc-zero}
 use borrow.Author.Tests.{ne-eqb, lt-ltb, le-ltb}
 use lib.ListN.{length, getD, take, drop, length-append, length-drop, take-append-drop}
 use lib.Seq.{length-take-le, drop-drop, take-at, drop-at}
 use Rattle.octets.specs.Lists.{All, flat}
 use Rattle.octets.specs.Numbers.{Bytes, allZero}
 use Rattle.octets.specs.NumbersLaws.{bytes-append, bytes-take, bytes-drop}
-use Rattle.addresses.specs.Addresses.{Width, unusable, unusable4, unusable16, addressesOf, listOf, keptOf, anyOf}
+use Rattle.addresses.specs.Addresses.{Width, unusable, unusable4, unusable16, addressesOf, listOf, keptOf, anyOf, noneOf}
 
 pub wide-some : {w : ℕ} → Width w → 0 < w
 wide-some h = let e = h .is in omega arith
@@ -211,6 +211,12 @@ module _ (w : ℕ) (s : List ℕ) (at : ℕ) (p : 0 < w) (h : w ≤ length s - a
   unfolding keptOf
   kept-keep t = rw turn (simp t)
 
+  pub none-false : unusable w (take w (drop at s)) ≡ false → false ≡ noneOf w (listOf w (drop at s))
+  none-false t = sym (ap (λ (l : List (List ℕ)). eqb (length l) 0) (kept-keep t) ∙ eqb·suc-zero (length (keptOf w (listOf w (drop (at + w) s)))))
+
+  pub none-next : unusable w (take w (drop at s)) ≡ true → noneOf w (listOf w (drop (at + w) s)) ≡ noneOf w (listOf w (drop at s))
+  none-next t = sym (ap (λ (l : List (List ℕ)). eqb (length l) 0) (kept-drop t))
+
 pub any-end : (w : ℕ) (s : List ℕ) (at : ℕ) → length s - at < w → false ≡ anyOf w (listOf w (drop at s))
 unfolding anyOf
 any-end w s at h = let k : length (drop at s) < w = rw length-drop h in rw (list-nil w (drop at s) k)
@@ -218,3 +224,6 @@ any-end w s at h = let k : length (drop at s) < w = rw length-drop h in rw (list
 pub kept-end : (w : ℕ) (s : List ℕ) (at : ℕ) → length s - at < w → keptOf w (listOf w (drop at s)) ≡ []
 unfolding keptOf
 kept-end w s at h = let k : length (drop at s) < w = rw length-drop h in rw (list-nil w (drop at s) k)
+
+pub none-end : (w : ℕ) (s : List ℕ) (at : ℕ) → length s - at < w → true ≡ noneOf w (listOf w (drop at s))
+none-end w s at h = sym (ap (λ (l : List (List ℕ)). eqb (length l) 0) (kept-end w s at h))

@@ -13,7 +13,7 @@ use Rattle.names.specs.declared.Name.{Name}
 use Rattle.names.specs.declared.Name.the-variants.{Good, Bad}
 use Rattle.names.specs.Wire.{nameCheck}
 use Rattle.texts.specs.TextCheck.{textCheck}
-use Rattle.addresses.specs.Addresses.{listOf, keptOf, anyOf}
+use Rattle.addresses.specs.Addresses.{listOf, anyOf, noneOf}
 use Rattle.svcparams.specs.Params.{paramsFault}
 use Rattle.blocks.specs.Block.{Fields}
 use Rattle.judge.specs.declared.Side.{Side}
@@ -27,7 +27,7 @@ nameOf Reading c name = cond (asText c) (textCheck name) (nameCheck name)
 
 -- 25: reading asks whether no address is left, writing whether one is to be dropped
 abbrev pub refusedOf : Side → ℕ → List (List ℕ) → Bool
-refusedOf Reading w addresses = eqb (length (keptOf w addresses)) 0
+refusedOf Reading w addresses = noneOf w addresses
 refusedOf Writing w addresses = anyOf w addresses
 
 -- 23 to 28 of a record in full form, with addresses of w octets; 24 counts the addresses as carried

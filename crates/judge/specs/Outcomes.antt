@@ -13,7 +13,7 @@ use Rattle.names.specs.declared.Name.{Name}
 use Rattle.names.specs.declared.Name.the-variants.{Good, Bad}
 use Rattle.names.specs.Wire.{nameCheck}
 use Rattle.texts.specs.TextCheck.{textCheck}
-use Rattle.addresses.specs.Addresses.{listOf, keptOf, anyOf}
+use Rattle.addresses.specs.Addresses.{listOf, anyOf, noneOf}
 use Rattle.svcparams.specs.Params.{paramsFault}
 use Rattle.judge.specs.declared.Side.{Side}
 use Rattle.judge.specs.declared.Side.the-variants.{Reading, Writing}
@@ -31,8 +31,8 @@ module _ (side : Side) (c : Carrier) (name : List ℕ) (r : Name) where
   name-wire e t q = rw (e, t) q
 
 module _ (side : Side) (w : ℕ) (l : List (List ℕ)) where
-  pub refused-reading : (n : ℕ) → side ≡ Reading → n ≡ length (keptOf w l) → eqb n 0 ≡ refusedOf side w l
-  refused-reading n e q = rw (e, q)
+  pub refused-reading : (b : Bool) → side ≡ Reading → b ≡ noneOf w l → b ≡ refusedOf side w l
+  refused-reading b e q = rw e q
 
   pub refused-writing : (b : Bool) → side ≡ Writing → b ≡ anyOf w l → b ≡ refusedOf side w l
   refused-writing b e q = rw e q

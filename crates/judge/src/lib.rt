@@ -41,7 +41,7 @@ fn refused(side: Side, w: usize, addresses: &[u8]) -> bool
     ensures { λ r. ⌜ r ≡ refusedOf side w (listOf w (now (addresses .entry))) ⌝ }
 {
     match side {
-        Side::Reading => addresses::kept_count(w, addresses) == 0,
+        Side::Reading => addresses::none_kept(w, addresses),
         Side::Writing => addresses::any_unusable(w, addresses),
     }
 }

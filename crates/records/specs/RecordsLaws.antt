@@ -3,9 +3,9 @@ use mathlib.Core.Path.{_≡_, refl, sym, ap, _∙_}
 use mathlib.Core.Bool.{Bool, true, false, cond}
 use mathlib.Core.Logic.{_⊎_, inl, inr}
 use mathlib.Core.List.{List, _++_}
-use Prim.Native.Nat.{ℕ, _+_, _*_, _/_, _≤_, _<_}
+use Prim.Native.Nat.{ℕ, _+_, _*_, _/_, _≤_, _<_, _-_}
 use native.Mathlib.Omega.{arith}
-use native.Mathlib.Nat.{mul-le-mul, mul-div-cancel, mul-mod-left, mul-pos, pos-of-ne-zero}
+use native.Mathlib.Nat.{mul-le-mul, mul-div-cancel, mul-mod-left, mul-pos, pos-of-ne-zero, mul-div-cancel}
 use lib.Dec.{eqb}
 use lib.ListN.{length, length-append}
 use borrow.Author.Tests.{eq-eqb, ne-eqb, eqb-true, eqb-false}
@@ -111,6 +111,13 @@ length-record c r = go (r .full)
 -- the addresses that stay have w octets each
 pub staying-length : (w : ℕ) (a : List ℕ) → length (staying w a) ≡ length (keptOf w (listOf w a)) * w
 staying-length w a = flat-length w (keptOf w (listOf w a)) (kept-wide w (listOf w a) (list-wide w a))
+
+-- how many stay, by the octets that were written
+pub staying-count : (w : ℕ) (a : List ℕ) (from next : ℕ) → 0 < w → next ≡ from + length (staying w a)
+    → (next - from) / w ≡ length (keptOf w (listOf w a))
+staying-count w a from next p e =
+    let size : next - from ≡ length (keptOf w (listOf w a)) * w = omega (arith, staying-length w a) in
+    ap (λ (n : ℕ). n / w) size ∙ mul-div-cancel (length (keptOf w (listOf w a))) p
 
 -- a name that is read has at most 255 octets in wire form
 pub name-small : (c : Carrier) (name : List ℕ) → nameOf Reading c name ≡ Good → length (nameIn c name) ≤ 255

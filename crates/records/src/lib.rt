@@ -142,9 +142,10 @@ fn put_tail(out: &mut [u8], at: usize, w: usize, addresses: &[u8], parameters: &
     requires { ⌜ at + 3 + length (staying w (now addresses)) + length (now parameters) ≤ length (now out) ⌝ }
     ensures { λ r. ⌜ Wrote at (tailPart w (now (addresses .entry)) (now (parameters .entry))) (now (out .entry)) r (now (out .exit)) ⌝ }
 {
-    let count = addresses::kept_count(w, addresses);
-    let after_count = octets::put8(out, at, count as u8);
-    let after_addresses = addresses::put_kept(out, after_count, w, addresses);
+    let from = at + 1;
+    let after_addresses = addresses::put_kept(out, from, w, addresses);
+    let count = (after_addresses - from) / w;
+    octets::put8(out, at, count as u8);
     let after_length = octets::put16(out, after_addresses, parameters.len());
     octets::copy(out, after_length, parameters)
 }

@@ -1,6 +1,7 @@
 // Answers test vectors over names, addresses and parameters, for comparison with an independent implementation (host/README.md).
 // A case is a line of standard input: a letter, a space, octets in hexadecimal. Its answer is the same line of standard output, and `?`
 // where the line is no case. At most 65,536 octets are read, and at most so many written: what has no room is left out.
+// Each function that writes takes the index at which it starts, and returns the index after what it wrote.
 use libc::STDIN_FILENO;
 use libc::STDOUT_FILENO;
 use names::Name;
@@ -18,12 +19,13 @@ const MOST: usize = 4096;
 // What `decode` answers of digits that it does not take.
 const REFUSED: usize = MOST + 1;
 
-// What `nibble` answers of an octet that is no digit, and `octet` where there are not two digits.
+// What `nibble` answers of an octet that is no digit.
 const NO_DIGIT: usize = 16;
 
+// What `octet` answers where there are not two digits.
 const NO_OCTET: usize = 256;
 
-// Writes b at `at`, if there is room, and returns the index after it.
+// Writes b, if there is room.
 fn put(out: &mut [u8], at: usize, b: u8) -> usize
     ensures { λ r. ⌜ r ≤ length (now (out .exit)) ⌝ }
 {
@@ -213,7 +215,7 @@ fn octet(line: &[u8], at: usize) -> usize
     upper * 16 + lower
 }
 
-// Writes the octets of a line, whose digits stand after a letter and a space, from the start of out, and returns how many they are; or
+// Writes the octets of a line, whose digits stand after a letter and a space, to the start of out, and returns how many they are; or
 // answers REFUSED where the digits are odd in number, too many or no digits.
 fn decode(out: &mut [u8], line: &[u8]) -> usize {
     let mut n = 0;

@@ -1,20 +1,34 @@
--- `records::put_tail` meets its contract: its fields, one after another. Assumes nothing.
+-- `records::put_tail` meets its contract: the addresses that stay, their count before them, and the parameters. Assumes nothing.
 use borrow.Author.Needs.{needs}
-use Rattle.octets.specs.OverLaws.{then}
+use mathlib.Core.Path.{_≡_, refl}
+use mathlib.Core.List.{append-assoc}
+use native.Mathlib.Omega.{arith}
+use Rattle.octets.specs.OverLaws.{then, before}
+use Rattle.addresses.specs.AddressesLaws.{wide-some}
+use Rattle.records.specs.RecordsLaws.{staying-count}
 use Rattle.records.proofs.put_tail.Statement.{statement}
 use Rattle.records.proofs.put_tail.Tie as tie
 
-kept-count-requires : tie.Need-kept-count-requires
-kept-count-requires c κs = search needs
-
-cast-put8 : tie.Need-cast-put8
-cast-put8 c = search needs
-
-put8-requires : tie.Need-put8-requires
-put8-requires c κs = search needs
+add-from : tie.Need-add-from
+add-from c = search needs
 
 put-kept-requires : tie.Need-put-kept-requires
 put-kept-requires c κs = search needs
+
+sub-count : tie.Need-sub-count
+sub-count c = search needs
+
+div-count : tie.Need-div-count
+div-count c = search needs
+
+cast-put8 : tie.Need-cast-put8
+cast-put8 c =
+    let stayed = c .before .before .before in
+    let e = staying-count _ _ _ _ (wide-some (c .before .before .before .before .before .before .before .before .pre .0)) (stayed .put-kept .ensures .next) in
+    omega (arith, e)
+
+put8-requires : tie.Need-put8-requires
+put8-requires c κs = search needs
 
 put16-requires : tie.Need-put16-requires
 put16-requires c κs = search needs
@@ -29,19 +43,21 @@ returns : tie.Need-returns
 returns c =
     let copied = c .before .before in
     let sized = copied .before .before .before .before in
-    let stayed = sized .before .before .before .before in
-    let counted = stayed .before .before .before .before in
-    rw (← (counted .before .before .kept-count .ensures .0))
-    (then (counted .put8 .ensures) (then (stayed .put-kept .ensures) (then (sized .put16 .ensures) (copied .copy .ensures))))
+    let counted = sized .before .before .before .before in
+    let stayed = counted .before .before .before .before in
+    let e = staying-count _ _ _ _ (wide-some (stayed .before .before .before .before .before .pre .0)) (stayed .put-kept .ensures .next) in
+    rw (e, append-assoc) at (then (before refl (stayed .put-kept .ensures) (counted .put8 .ensures)) (then (sized .put16 .ensures) (copied .copy .ensures)))
 
 pub put-tail-spec : {M : Type 1} → statement M
 put-tail-spec =
     tie.close
     (tie.spec
-    kept-count-requires
+    add-from
+    put-kept-requires
+    sub-count
+    div-count
     cast-put8
     put8-requires
-    put-kept-requires
     put16-requires
     copy-requires
     same-length

@@ -1,0 +1,164 @@
+-- `addresses::put_each` meets its contract. The loop's invariant: what is written, with those kept of the addresses that are left, is
+-- the whole list of those kept. Assumes nothing.
+use borrow.Author.Tests.{not-true, not-false}
+use native.Mathlib.Omega.{arith}
+use mathlib.Core.Path.{_≡_, refl, sym, ap, _∙_}
+use mathlib.Core.Bool.{true, false}
+use mathlib.Core.List.{List, [], _++_, append-assoc, append-nil}
+use Prim.Native.Nat.{ℕ, _+_, _-_, _≤_, _<_}
+use native.Mathlib.Nat.{add-sub-cancel-left}
+use lib.ListN.{length, take, drop, length-append}
+use Rattle.octets.specs.Lists.{flat}
+use Rattle.octets.specs.Over.{Wrote}
+use Rattle.octets.specs.OverLaws.{then, wrote-none}
+use Rattle.addresses.specs.Addresses.{unusable, listOf, keptOf}
+use Rattle.addresses.specs.AddressesLaws.{wide-some, part-wide, part-tested, kept-drop, kept-keep, kept-end}
+use Rattle.addresses.proofs.put_each.Statement.{statement}
+use Rattle.addresses.proofs.put_each.Tie as tie
+
+-- up to `at`, the kept addresses of s are written from o to next
+record Keeping (w : ℕ) (s : List ℕ) (o : ℕ) (out₀ : List ℕ) (at next : ℕ) (out : List ℕ) : Type 0 where
+  passed : List ℕ
+  within : at ≤ length s
+  wrote : Wrote o passed out₀ next out
+  whole : flat (keptOf w (listOf w s)) ≡ passed ++ flat (keptOf w (listOf w (drop at s)))
+  same : length out ≡ length out₀
+
+module _ {w : ℕ} {s : List ℕ} {o : ℕ} {out₀ : List ℕ} where
+  keeping-start : o + length (flat (keptOf w (listOf w s))) ≤ length out₀ → Keeping w s o out₀ 0 o out₀
+  keeping-start h = record { passed = []; within = omega arith; wrote = wrote-none (omega arith); whole = refl; same = refl }
+
+  keeping-done : {at next : ℕ} {out : List ℕ} → length s - at < w → Keeping w s o out₀ at next out → Wrote o (flat (keptOf w (listOf w s))) out₀ next out
+  keeping-done {at} h k =
+      let e : flat (keptOf w (listOf w s)) ≡ k .passed = k .whole ∙ rw (kept-end w s at h) (append-nil (k .passed)) in
+      rw e (k .wrote)
+
+  module _ {at next : ℕ} {out : List ℕ} (p : 0 < w) (h : w ≤ length s - at) (k : Keeping w s o out₀ at next out) where
+    -- an address that is dropped
+    keeping-drop : unusable w (take w (drop at s)) ≡ true → Keeping w s o out₀ (at + w) next out
+    keeping-drop t =
+        record {
+          passed = k .passed;
+          within = omega (arith, k .within);
+          wrote = k .wrote;
+          whole = k .whole ∙ ap (λ (l : List (List ℕ)). k .passed ++ flat l) (kept-drop w s at p h t);
+          same = k .same;
+        }
+
+    module _ (t : unusable w (take w (drop at s)) ≡ false) where
+      keeping-whole : flat (keptOf w (listOf w s)) ≡ k .passed ++ take w (drop at s) ++ flat (keptOf w (listOf w (drop (at + w) s)))
+      keeping-whole =
+          k .whole
+          ∙ ap (λ (l : List (List ℕ)). k .passed ++ flat l) (kept-keep w s at p h t)
+          ∙ sym (append-assoc (k .passed) (take w (drop at s)) (flat (keptOf w (listOf w (drop (at + w) s)))))
+
+      -- an address that is kept has room
+      keeping-room : o + length (flat (keptOf w (listOf w s))) ≤ length out₀ → next + length (take w (drop at s)) ≤ length out
+      keeping-room r = omega (arith, k .wrote .next, k .same, simp length-append at (ap length keeping-whole))
+
+      -- an address that is kept, written
+      keeping-keep : {next′ : ℕ} {out′ : List ℕ} → Wrote next (take w (drop at s)) out next′ out′ → length out′ ≡ length out → Keeping w s o out₀ (at + w) next′ out′
+      keeping-keep v l =
+          record {
+            passed = k .passed ++ take w (drop at s);
+            within = omega (arith, k .within);
+            wrote = then (k .wrote) v;
+            whole = keeping-whole;
+            same = l ∙ k .same;
+          }
+
+abbrev Inv-loop : tie.InvT-loop
+Inv-loop out₀ o w s next-out₀ at₀ out next-out at = Keeping w s o out₀ at next-out out
+
+abbrev μ-loop : tie.MeasureT-loop
+μ-loop out₀ o w s next-out₀ at₀ out next-out at = length s - at
+
+loop-holds : tie.Need-loop-holds Inv-loop μ-loop
+loop-holds c = keeping-start (c .before .before .pre .1)
+
+sub-loop : tie.Need-sub-loop Inv-loop μ-loop
+sub-loop c = omega arith
+
+add-next : tie.Need-add-next Inv-loop μ-loop
+add-next c = omega arith
+
+sub-a : tie.Need-sub-a Inv-loop μ-loop
+sub-a c = omega arith
+
+part-a-start : tie.Need-part-a-start Inv-loop μ-loop
+part-a-start c = omega arith
+
+part-a-end : tie.Need-part-a-end Inv-loop μ-loop
+part-a-end c = omega arith
+
+dropped-requires : tie.Need-dropped-requires Inv-loop μ-loop
+dropped-requires c κs =
+    let at-loop = c .before .before in
+    let wide = at-loop .before .before .before .pre .0 in
+    (wide, part-wide _ _ (at-loop .loop .at) (wide-some wide) (c .before .loop-test .taken))
+
+copy-requires : tie.Need-copy-requires Inv-loop μ-loop
+copy-requires c κs =
+    let tested = c .before .before in
+    let in-loop = tested .before .before in
+    let at-loop = in-loop .before in
+    let pre = at-loop .before .before .before .pre in
+    let some = wide-some (pre .0) in
+    let h = in-loop .loop-test .taken in
+    let stays : tested .dropped .result ≡ false = search not-true in
+    let t = part-tested _ _ (at-loop .loop .at) some h (tested .dropped .ensures) stays in
+    rw add-sub-cancel-left (omega (arith, keeping-room some h (at-loop .loop .inv) t (pre .1)))
+
+loop-less : tie.Need-loop-less Inv-loop μ-loop
+loop-less c = omega arith
+
+loop-again : tie.Need-loop-again Inv-loop μ-loop
+loop-again c =
+    let copied = c .before .before in
+    let tested = copied .before .before .before in
+    let in-loop = tested .before .before in
+    let at-loop = in-loop .before in
+    let some = wide-some (at-loop .before .before .before .pre .0) in
+    let h = in-loop .loop-test .taken in
+    let stays : tested .dropped .result ≡ false = search not-true in
+    let t = part-tested _ _ (at-loop .loop .at) some h (tested .dropped .ensures) stays in
+    keeping-keep some h (at-loop .loop .inv) t (rw add-sub-cancel-left at (copied .copy .ensures)) (omega arith)
+
+loop-less-2 : tie.Need-loop-less-2 Inv-loop μ-loop
+loop-less-2 c = omega arith
+
+loop-again-2 : tie.Need-loop-again-2 Inv-loop μ-loop
+loop-again-2 c =
+    let in-loop = c .before .before .before in
+    let at-loop = in-loop .before in
+    let some = wide-some (at-loop .before .before .before .pre .0) in
+    let h = in-loop .loop-test .taken in
+    let goes : c .before .dropped .result ≡ true = search not-false in
+    keeping-drop some h (at-loop .loop .inv) (part-tested _ _ (at-loop .loop .at) some h (c .before .dropped .ensures) goes)
+
+same-length : tie.Need-same-length Inv-loop μ-loop
+same-length c = omega arith
+
+returns : tie.Need-returns Inv-loop μ-loop
+returns c = keeping-done (c .loop-test .left) (c .before .loop .inv)
+
+pub put-each-spec : {M : Type 1} → statement M
+put-each-spec =
+    tie.close
+    (tie.spec
+    Inv-loop
+    μ-loop
+    loop-holds
+    sub-loop
+    add-next
+    sub-a
+    part-a-start
+    part-a-end
+    dropped-requires
+    copy-requires
+    loop-less
+    loop-again
+    loop-less-2
+    loop-again-2
+    same-length
+    returns)

@@ -1,0 +1,134 @@
+-- Fields are allowed exactly if they pass the judge when read; and the octets of a layout's parameters. Assumes nothing.
+use mathlib.Core.Path.{_≡_, refl}
+use mathlib.Core.Bool.{Bool, true, false, cond, true≢false}
+use mathlib.Core.Logic.{_↔_}
+use mathlib.Core.List.{List, [], _∷_, _++_}
+use Prim.Native.Nat.{ℕ, _/_}
+use native.Mathlib.Omega.{arith}
+use borrow.Author.Tests.{ne-eqb}
+use lib.Dec.{eqb}
+use lib.ListN.{length}
+use Rattle.octets.specs.Numbers.{be, Bytes}
+use Rattle.octets.specs.Fields.{putCounted}
+use Rattle.carriers.specs.declared.Carrier.{Carrier}
+use Rattle.carriers.specs.declared.Carrier.the-variants.{Dhcp4, Dhcp6, Router, Ike4, Ike6}
+use Rattle.carriers.specs.Carriers.{lengthWidth, lifetimeWidth, addressWidth, asText}
+use Rattle.names.specs.declared.Name.the-variants.{Good}
+use Rattle.names.specs.Wire.{nameCheck}
+use Rattle.names.specs.Exact as names
+use Rattle.texts.specs.TextCheck.{textCheck}
+use Rattle.texts.specs.Exact as texts
+use Rattle.addresses.specs.Addresses.{listOf, keptOf}
+use Rattle.svcparams.specs.Exactly.{params-exactly}
+use Rattle.blocks.specs.Block.{Fields, putOpening, putAfterName, putAfterNamePadded, putAttribute, padding, layout}
+use Rattle.judge.specs.declared.Side.the-variants.{Reading}
+use Rattle.judge.specs.Passed.{PassedTail, Passed}
+use Rattle.exactly.specs.Allowed.{NameAllowed, TailAllowed, Allowed}
+
+-- ---- octets of a part
+
+pub bytes-left : (a b : List ℕ) → Bytes (a ++ b) → Bytes a
+bytes-left [] b h = tt
+bytes-left (x ∷ xs) b h = (h .0, bytes-left xs b (h .1))
+
+pub bytes-right : (a b : List ℕ) → Bytes (a ++ b) → Bytes b
+bytes-right [] b h = h
+bytes-right (x ∷ xs) b h = bytes-right xs b (h .1)
+
+counted-left : (w : ℕ) (x l : List ℕ) → Bytes (putCounted w x l) → Bytes x
+counted-left w x l h = bytes-left x l (bytes-right (be w (length x)) (x ++ l) h)
+
+counted-right : (w : ℕ) (x l : List ℕ) → Bytes (putCounted w x l) → Bytes l
+counted-right w x l h = bytes-right x l (bytes-right (be w (length x)) (x ++ l) h)
+
+opening-right : (c : Carrier) (f : Fields) (l : List ℕ) → Bytes (putOpening c f l) → Bytes l
+opening-right c f l h =
+    let named : List ℕ = putCounted (lengthWidth c) (f .name) l in
+    let timed : List ℕ = be (lifetimeWidth c) (f .lifetime) ++ named in
+    counted-right (lengthWidth c) (f .name) l (bytes-right (be (lifetimeWidth c) (f .lifetime)) named (bytes-right (be 2 (f .priority)) timed h))
+
+named-parameters : (c : Carrier) (f : Fields) → f .full ≡ true → Bytes (putOpening c f (putAfterName c f)) → Bytes (f .parameters)
+named-parameters c f e h = counted-right (lengthWidth c) (f .addresses) (f .parameters) (rw e at (opening-right c f (putAfterName c f) h))
+
+-- z is the padding
+padded-parameters : (f : Fields) (z : List ℕ) → f .full ≡ true → let v : ℕ = lengthWidth Router in
+    Bytes (cond (f .full) (putCounted v (f .addresses) (putCounted v (f .parameters) z)) z) → Bytes (f .parameters)
+padded-parameters f z e h =
+    let v : ℕ = lengthWidth Router in
+    counted-left v (f .parameters) z (counted-right v (f .addresses) (putCounted v (f .parameters) z) (rw e at h))
+
+router-parameters : (f : Fields) → f .full ≡ true → Bytes (putOpening Router f (putAfterNamePadded f)) → Bytes (f .parameters)
+router-parameters f e h = padded-parameters f (padding f) e (opening-right Router f (putAfterNamePadded f) h)
+
+attribute-parameters : (c : Carrier) (f : Fields) → Bytes (putAttribute c f) → Bytes (f .parameters)
+attribute-parameters c f h =
+    let named : List ℕ = f .name ++ f .parameters in
+    let addressed : List ℕ = f .addresses ++ named in
+    let sized : List ℕ = be (lengthWidth c) (length (f .name)) ++ addressed in
+    let numbered : List ℕ = be 1 (length (f .addresses) / addressWidth c) ++ sized in
+    let a : Bytes numbered = bytes-right (be 2 (f .priority)) numbered h in
+    let b : Bytes sized = bytes-right (be 1 (length (f .addresses) / addressWidth c)) sized a in
+    let d : Bytes addressed = bytes-right (be (lengthWidth c) (length (f .name))) addressed b in
+    bytes-right (f .name) (f .parameters) (bytes-right (f .addresses) named d)
+
+-- the parameters of a layout of octets are octets
+pub parameters-bytes : (c : Carrier) (f : Fields) → f .full ≡ true → Bytes (layout c f) → Bytes (f .parameters)
+unfolding layout
+parameters-bytes Dhcp4 f e h = named-parameters Dhcp4 f e h
+parameters-bytes Dhcp6 f e h = named-parameters Dhcp6 f e h
+parameters-bytes Router f e h = router-parameters f e h
+parameters-bytes Ike4 f e h = attribute-parameters Ike4 f h
+parameters-bytes Ike6 f e h = attribute-parameters Ike6 f h
+
+-- ---- passed when read, and allowed
+
+name-exactly : (text : Bool) (name : List ℕ) → (cond text (textCheck name) (nameCheck name) ≡ Good) ↔ NameAllowed text name
+name-exactly true name = texts.good name
+name-exactly false name = names.good name
+
+some-stay : (l : List (List ℕ)) → (eqb (length l) 0 ≡ false) ↔ (l ≡ [] → ⊥)
+some-stay [] = (λ e _. true≢false e, λ n. absurd (n refl))
+some-stay (x ∷ xs) = (λ e q. let z : _≡_ {A = ℕ} 0 1 = cc in omega arith, λ n. ne-eqb (length (x ∷ xs)) 0 (λ e. omega arith))
+
+module _ (w : ℕ) (a p : List ℕ) (octets : Bytes p) where
+  tail-allowed : PassedTail Reading w a p → TailAllowed w a p
+  tail-allowed t =
+      record {
+        some = t .some;
+        whole = t .whole;
+        few = t .few;
+        stays = some-stay (keptOf w (listOf w a)) .0 (t .usable);
+        short = t .short;
+        parameters-allowed = params-exactly p octets .0 (t .sound);
+      }
+
+  allowed-tail : TailAllowed w a p → PassedTail Reading w a p
+  allowed-tail t =
+      record {
+        some = t .some;
+        whole = t .whole;
+        few = t .few;
+        short = t .short;
+        usable = some-stay (keptOf w (listOf w a)) .1 (t .stays);
+        sound = params-exactly p octets .1 (t .parameters-allowed);
+      }
+
+-- fields of a layout of octets pass exactly if they are allowed
+module _ (c : Carrier) (f : Fields) (octets : Bytes (layout c f)) where
+  pub passed-allowed : Passed Reading c f → Allowed c f
+  passed-allowed k =
+      record {
+        service = k .service;
+        name-allowed = name-exactly (asText c) (f .name) .0 (k .named);
+        full-form = λ e. tail-allowed (addressWidth c) (f .addresses) (f .parameters) (parameters-bytes c f e octets) (k .tail e);
+        name-only = k .name-only;
+      }
+
+  pub allowed-passed : Allowed c f → Passed Reading c f
+  allowed-passed k =
+      record {
+        service = k .service;
+        named = name-exactly (asText c) (f .name) .1 (k .name-allowed);
+        tail = λ e. allowed-tail (addressWidth c) (f .addresses) (f .parameters) (parameters-bytes c f e octets) (k .full-form e);
+        name-only = k .name-only;
+      }

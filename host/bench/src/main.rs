@@ -1,0 +1,169 @@
+//! One table: the proved library against the reference implementation and against memcpy of the same octets, in one run.
+//!
+//! Each row takes the best of many rounds, the three timed in turn within each round, so that they meet the same machine. The buffers are
+//! not cleared between calls. Growth is the library's time on input of twice the size, divided by its time here.
+
+use std::hint::black_box;
+use std::time::{Duration, Instant};
+
+const ROUNDS: usize = 60;
+const ROUND: Duration = Duration::from_micros(1500);
+
+/// The best time of one call, in nanoseconds, of each of three functions.
+fn best(mut calls: [&mut dyn FnMut(); 3]) -> [f64; 3] {
+    let mut best = [f64::MAX; 3];
+    for _ in 0..ROUNDS {
+        for (call, best) in calls.iter_mut().zip(&mut best) {
+            let start = Instant::now();
+            let mut n = 0u32;
+            while start.elapsed() < ROUND {
+                for _ in 0..16 {
+                    call();
+                }
+                n += 16;
+            }
+            *best = best.min(start.elapsed().as_nanos() as f64 / f64::from(n));
+        }
+    }
+    best
+}
+
+fn timed(carrier: u8, area: &[u8]) -> [f64; 3] {
+    let (mut one, mut two, mut three) = (vec![0u8; 36_775], vec![0u8; 36_775], vec![0u8; 40_960]);
+    let check = compare::read(carrier, area, &mut one);
+    assert_eq!(check, dnr_reference::read(carrier, area, &mut two));
+    best([
+        &mut || { black_box(compare::read(carrier, black_box(area), black_box(&mut one))); },
+        &mut || { black_box(dnr_reference::read(carrier, black_box(area), black_box(&mut two))); },
+        &mut || { black_box(&mut three[..area.len()]).copy_from_slice(black_box(area)); },
+    ])
+}
+
+fn row(what: &str, carrier: u8, area: &[u8], doubled: Option<&[u8]>) {
+    let [library, reference, copy] = timed(carrier, area);
+    let growth = doubled.map_or("-".into(), |d| format!("{:.2}", timed(carrier, d)[0] / library));
+    println!(
+        "| {what} | {} | {library:.0} | {reference:.0} | {:.2} | {:.0} | {:.1} | {growth} |",
+        area.len(),
+        library / reference,
+        area.len() as f64 / library * 1000.0,
+        library / copy,
+    );
+}
+
+const NAME: &[u8] = b"\x04doh1\x07example\x03com\x00";
+const TEXT: &[u8] = b"doh1.example.com";
+
+fn hints() -> Vec<u8> {
+    let mut p = b"\x00\x01\x00\x07\x02h2\x03dot\x00\x03\x00\x02\x01\xbb\x00\x07\x00\x10/dns-query{?dns}".to_vec();
+    p.extend([0xff, 0x00, 0x03, 0x00]);
+    p.extend([7; 768]);
+    p
+}
+
+/// A body in full form with `many` addresses.
+fn body(carrier: u8, priority: u16, name: &[u8], many: usize, params: &[u8]) -> Vec<u8> {
+    let address: &[u8] = if carrier == 1 || carrier == 4 { &[192, 0, 2, 1] } else { &[0x20, 1, 0xd, 0xb8, 1, 0x22, 3, 0, 0, 0, 0, 0, 0, 0, 0, 1] };
+    let addresses = address.repeat(many);
+    let mut b = priority.to_be_bytes().to_vec();
+    match carrier {
+        1 => {
+            b.push(name.len() as u8);
+            b.extend(name);
+            b.push(addresses.len() as u8);
+            b.extend(addresses);
+            b.extend(params);
+        }
+        4 | 5 => {
+            b.push(many as u8);
+            b.push(name.len() as u8);
+            b.extend(addresses);
+            b.extend(name);
+            b.extend(params);
+        }
+        _ => {
+            if carrier == 3 {
+                b.extend(3600u32.to_be_bytes());
+            }
+            b.extend((name.len() as u16).to_be_bytes());
+            b.extend(name);
+            b.extend((addresses.len() as u16).to_be_bytes());
+            b.extend(addresses);
+            if carrier == 3 {
+                b.extend((params.len() as u16).to_be_bytes());
+            }
+            b.extend(params);
+            while carrier == 3 && (b.len() + 2) % 8 != 0 {
+                b.push(0);
+            }
+        }
+    }
+    b
+}
+
+fn option(carrier: u8, body: &[u8]) -> Vec<u8> {
+    let mut o = match carrier {
+        1 => vec![162, body.len() as u8],
+        2 => [&144u16.to_be_bytes()[..], &(body.len() as u16).to_be_bytes()].concat(),
+        3 => vec![144, ((body.len() + 2) / 8) as u8],
+        4 => [&27u16.to_be_bytes()[..], &(body.len() as u16).to_be_bytes()].concat(),
+        _ => [&28u16.to_be_bytes()[..], &(body.len() as u16).to_be_bytes()].concat(),
+    };
+    o.extend(body);
+    o
+}
+
+/// `records` records of falling priority: every pair is exchanged.
+fn area(carrier: u8, records: usize, many: usize, params: &[u8]) -> Vec<u8> {
+    let name = if carrier >= 4 { TEXT } else { NAME };
+    let bodies = (0..records).map(|i| body(carrier, (100 - i) as u16, name, many, params));
+    if carrier > 1 {
+        return bodies.flat_map(|b| option(carrier, &b)).collect();
+    }
+    let joined: Vec<u8> = bodies.flat_map(|b| [&(b.len() as u16).to_be_bytes()[..], &b].concat()).collect();
+    joined.chunks(255).flat_map(|c| option(1, c)).collect()
+}
+
+/// The longest name: labels of 63, 63, 63 and 61 octets.
+fn longest() -> Vec<u8> {
+    let mut n = Vec::new();
+    for l in [63u8, 63, 63, 61] {
+        n.push(l);
+        n.extend(vec![b'a'; l as usize]);
+    }
+    n.push(0);
+    n
+}
+
+/// A list of `keys` mandatory keys, each present and empty.
+fn mandatory(keys: u16) -> Vec<u8> {
+    let named: Vec<u8> = (0..keys).flat_map(|k| (1000 + k).to_be_bytes()).collect();
+    let mut p = vec![0, 0];
+    p.extend((named.len() as u16).to_be_bytes());
+    p.extend(&named);
+    for k in 0..keys {
+        p.extend((1000 + k).to_be_bytes());
+        p.extend([0, 0]);
+    }
+    p
+}
+
+fn main() {
+    println!("| reading | octets | library ns | reference ns | ratio | octets/µs | against memcpy | growth ×2 |");
+    println!("|---|---|---|---|---|---|---|---|");
+    let dot = b"\x00\x01\x00\x04\x03dot";
+    row("K1", 2, &option(2, &body(2, 1, NAME, 1, dot)), None);
+    for (carrier, what) in [(1, "DHCPv4"), (2, "DHCPv6"), (3, "router advertisement"), (4, "ENCDNS_IP4"), (5, "ENCDNS_IP6")] {
+        let p = hints();
+        let many = if carrier == 3 { 40 } else { 63 };
+        row(&format!("16 full records, {what}"), carrier, &area(carrier, 16, many, &p), None);
+        row(&format!("8 full records, {what}"), carrier, &area(carrier, 8, many, &p), Some(&area(carrier, 16, many, &p)));
+    }
+    let foreign = |n: usize| [0u8, 1, 0, 4, 9, 9, 9, 9].repeat(n / 8);
+    row("foreign options", 2, &foreign(40_960), None);
+    row("foreign options", 2, &foreign(20_480), Some(&foreign(40_960)));
+    let small = |n: usize| option(2, &body(2, 0, NAME, 1, dot)).repeat(n);
+    row("787 blocks with a fault", 2, &small(787), None);
+    row("a 255-octet name", 2, &option(2, &body(2, 1, &longest(), 1, dot)), None);
+    row("168 mandatory keys", 2, &option(2, &body(2, 1, NAME, 1, &mandatory(168))), None);
+}
