@@ -1,5 +1,5 @@
 // The numbers given back (document 01, "Numbers given back"), each under a name. This is the one place where they stand as digits;
-// `specs/Numbers.antt` has the same names for definitions and contracts.
+// `specs/` has the same names for definitions and contracts.
 
 // What a call answers instead of a result.
 pub struct Refusal();

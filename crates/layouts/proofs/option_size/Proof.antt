@@ -1,0 +1,27 @@
+-- `layouts::option_size` meets its contract: the header and the body. Assumes nothing.
+use borrow.Author.Needs.{needs}
+use native.Mathlib.Omega.{arith}
+use Rattle.layouts.specs.LayoutsLaws.{header-small}
+use Rattle.layouts.proofs.option_size.Statement.{statement}
+use Rattle.layouts.proofs.option_size.Tie as tie
+
+header-size-requires : tie.Need-header-size-requires
+header-size-requires c κs = search needs
+
+body-size-requires : tie.Need-body-size-requires
+body-size-requires c κs = search needs
+
+add-result : tie.Need-add-result
+add-result c = omega (arith, header-small (c .before .before .args .c))
+
+returns : tie.Need-returns
+returns c = (omega arith, omega (arith, header-small (c .before .before .args .c)))
+
+pub option-size-spec : {M : Type 1} → statement M
+option-size-spec =
+    tie.close
+    (tie.spec
+    header-size-requires
+    body-size-requires
+    add-result
+    returns)

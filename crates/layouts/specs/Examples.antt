@@ -1,0 +1,88 @@
+-- Options of document 01, "Boundary pieces", by computation, and the sizes of K8 and K9 by law. Assumes nothing.
+use mathlib.Core.Path.{_≡_, refl, ap, _∙_}
+use mathlib.Core.Bool.{true, false}
+use mathlib.Core.List.{List, [], _∷_, _++_, map}
+use Prim.Native.Nat.{ℕ, _+_}
+use native.Mathlib.Omega.{arith}
+use lib.ListN.{length, length-replicate}
+use Rattle.octets.specs.Numbers.{be, zeros}
+use Rattle.carriers.specs.declared.Carrier.the-variants.{Dhcp6, Router, Ike6}
+use Rattle.texts.specs.Texts.{dotsFrom, textOf}
+use Rattle.blocks.specs.Block.{Fields, layout}
+use Rattle.layouts.specs.Layouts.{ownOption, joinedOf, cutOf}
+use Rattle.layouts.specs.Writable.{fieldsOf, cutOctets}
+use Rattle.layouts.specs.LayoutsLaws.{joined-length}
+use Rattle.layouts.specs.Pieces.{pieces}
+use Rattle.layouts.specs.PiecesLaws.{cut-length}
+
+-- doh1.example.com in wire form, and as text
+abbrev N : List ℕ
+N = 4 ∷ 100 ∷ 111 ∷ 104 ∷ 49 ∷ 7 ∷ 101 ∷ 120 ∷ 97 ∷ 109 ∷ 112 ∷ 108 ∷ 101 ∷ 3 ∷ 99 ∷ 111 ∷ 109 ∷ 0 ∷ []
+
+abbrev T : List ℕ
+T = 100 ∷ 111 ∷ 104 ∷ 49 ∷ 46 ∷ 101 ∷ 120 ∷ 97 ∷ 109 ∷ 112 ∷ 108 ∷ 101 ∷ 46 ∷ 99 ∷ 111 ∷ 109 ∷ []
+
+-- alpn "dot"
+abbrev P : List ℕ
+P = 0 ∷ 1 ∷ 0 ∷ 4 ∷ 3 ∷ 100 ∷ 111 ∷ 116 ∷ []
+
+-- 2001:db8:122:300::1
+abbrev A : List ℕ
+A = 32 ∷ 1 ∷ 13 ∷ 184 ∷ 1 ∷ 34 ∷ 3 ∷ 0 ∷ 0 ∷ 0 ∷ 0 ∷ 0 ∷ 0 ∷ 0 ∷ 0 ∷ 1 ∷ []
+
+-- ---- K1 to K5
+
+abbrev option1 : List ℕ
+option1 = 0 ∷ 144 ∷ 0 ∷ 48 ∷ 0 ∷ 1 ∷ 0 ∷ 18 ∷ (N ++ (0 ∷ 16 ∷ (A ++ P)))
+
+k1 : (ownOption Dhcp6 (fieldsOf 1 0 true N A P) ≡ option1) × (length option1 ≡ 52)
+unfolding layout
+k1 = (refl, refl)
+
+abbrev option2 : List ℕ
+option2 = 162 ∷ 23 ∷ 0 ∷ 21 ∷ 0 ∷ 1 ∷ 18 ∷ N
+
+k2 : (cutOf (joinedOf (fieldsOf 1 0 false N [] [] ∷ [])) ≡ option2) × (length option2 ≡ 25)
+unfolding layout cutOf
+k2 = (refl, refl)
+
+abbrev option3 : List ℕ
+option3 = 144 ∷ 4 ∷ 0 ∷ 1 ∷ 0 ∷ 0 ∷ 14 ∷ 16 ∷ 0 ∷ 18 ∷ (N ++ (0 ∷ 0 ∷ 0 ∷ 0 ∷ []))
+
+k3 : (ownOption Router (fieldsOf 1 3600 false N [] []) ≡ option3) × (length option3 ≡ 32)
+unfolding layout
+k3 = (refl, refl)
+
+-- length octet 7, no padding
+k4 : ownOption Router (fieldsOf 1 3600 true N A P) ≡ 144 ∷ 7 ∷ 0 ∷ 1 ∷ 0 ∷ 0 ∷ 14 ∷ 16 ∷ 0 ∷ 18 ∷ (N ++ (0 ∷ 16 ∷ (A ++ (0 ∷ 8 ∷ P))))
+unfolding layout
+k4 = refl
+
+-- length 44, ADN length 16
+k5 : ownOption Ike6 (fieldsOf 1 0 true N A P) ≡ 0 ∷ 28 ∷ 0 ∷ 44 ∷ 0 ∷ 1 ∷ 1 ∷ 16 ∷ (A ++ (T ++ P))
+unfolding layout textOf dotsFrom
+k5 = refl
+
+-- ---- K8 and K9
+
+-- address 192.0.2.1, and one parameter with key 65,280 and n zero octets
+abbrev long : ℕ → Fields
+long n = fieldsOf 1 0 true N (192 ∷ 0 ∷ 2 ∷ 1 ∷ []) (be 2 65280 ++ (be 2 n ++ zeros n))
+
+long-length : (n : ℕ) → length (joinedOf (long n ∷ [])) ≡ 32 + n
+long-length n = joined-length (long n ∷ []) ∙ omega (arith, length-replicate {A = ℕ} n 0)
+
+k8 : (length (joinedOf (long 268 ∷ [])) ≡ 300) × (length (cutOf (joinedOf (long 268 ∷ []))) ≡ 304)
+k8 = (long-length 268, cut-length (joinedOf (long 268 ∷ [])) ∙ ap cutOctets (long-length 268))
+
+k8-pieces : map length (pieces (joinedOf (long 268 ∷ []))) ≡ 255 ∷ 45 ∷ []
+unfolding layout pieces
+k8-pieces = refl
+
+k9 : (length (joinedOf (long 223 ∷ [])) ≡ 255) × (length (cutOf (joinedOf (long 223 ∷ []))) ≡ 257)
+k9 = (long-length 223, cut-length (joinedOf (long 223 ∷ [])) ∙ ap cutOctets (long-length 223))
+
+-- nothing for no records
+none : cutOf (joinedOf []) ≡ []
+unfolding cutOf
+none = refl

@@ -1,0 +1,46 @@
+-- The octets of a record's option in each carrier, and of joined instances cut into options 162 (01, Block layouts; "Writing emits records
+-- in sheet order"). A record here is as a sheet holds it: the name in wire form. Assumes nothing: these are definitions.
+use mathlib.Core.Bool.{cond}
+use mathlib.Core.List.{List, [], _++_, map}
+use Prim.Native.Nat.{ℕ, zero, suc, _+_, _/_}
+use lib.ListN.{length, take, drop}
+use Rattle.octets.specs.Lists.{flat}
+use Rattle.octets.specs.Fields.{putCounted}
+use Rattle.carriers.specs.declared.Carrier.{Carrier}
+use Rattle.carriers.specs.declared.Carrier.the-variants.{Dhcp4}
+use Rattle.carriers.specs.Carriers.{asText}
+use Rattle.texts.specs.Texts.{textOf}
+use Rattle.blocks.specs.Block.{Fields, layout}
+use Rattle.frames.specs.Emit.{optionOf}
+
+-- the fields as the carrier has them: in carriers 4 and 5 the name is text
+abbrev pub carriedOf : Carrier → Fields → Fields
+carriedOf c r = record {
+  priority = r .priority;
+  lifetime = r .lifetime;
+  full = r .full;
+  name = cond (asText c) (textOf (r .name)) (r .name);
+  addresses = r .addresses;
+  parameters = r .parameters;
+}
+
+-- carriers 2 to 5: the option or attribute of a record
+abbrev pub ownOption : Carrier → Fields → List ℕ
+ownOption c r = optionOf c (layout c (carriedOf c r))
+
+-- carrier 1: the instance of a record, after its 16-bit length
+abbrev pub instanceOf : Fields → List ℕ
+instanceOf r = putCounted 2 (layout Dhcp4 r) []
+
+-- the instances of the records one after another
+abbrev pub joinedOf : List Fields → List ℕ
+joinedOf rs = flat (map instanceOf rs)
+
+-- the first n options of joined data: 255 octets each, the last what is left
+abbrev pub piecesOf : ℕ → List ℕ → List ℕ
+piecesOf zero l = []
+piecesOf (suc n) l = optionOf Dhcp4 (take 255 l) ++ piecesOf n (drop 255 l)
+
+-- options 162 of 255 octets each and a last one of 1 to 255; nothing for no octets
+unfoldable pub cutOf : List ℕ → List ℕ
+cutOf l = piecesOf ((length l + 254) / 255) l

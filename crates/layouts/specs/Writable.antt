@@ -1,0 +1,90 @@
+-- Records that can be written, the octets that they take by their lengths alone, and an option's header (01, "The record sheet", "Block
+-- layouts", "Area walk"). Assumes nothing: these are definitions.
+use mathlib.Core.Path.{_≡_}
+use mathlib.Core.Bool.{Bool, true, false, cond}
+use mathlib.Core.List.{List, [], _∷_, _++_}
+use Prim.Native.Nat.{ℕ, _+_, _-_, _*_, _/_, _%_, _^_, _≤_, _<_}
+use lib.ListN.{length}
+use Rattle.octets.specs.Numbers.{be}
+use Rattle.numbers.specs.Limit as limit
+use Rattle.carriers.specs.declared.Carrier.{Carrier}
+use Rattle.carriers.specs.declared.Carrier.the-variants.{Dhcp4, Dhcp6, Router, Ike4, Ike6}
+use Rattle.carriers.specs.Carriers.{codeOf, headerOf, addressWidth, lifetimeWidth, asText}
+use Rattle.blocks.specs.Block.{Fields, gap, optionSize}
+
+-- the record of these parts
+abbrev pub fieldsOf : ℕ → ℕ → Bool → List ℕ → List ℕ → List ℕ → Fields
+fieldsOf priority lifetime full name addresses parameters = record {
+  priority = priority;
+  lifetime = lifetime;
+  full = full;
+  name = name;
+  addresses = addresses;
+  parameters = parameters;
+}
+
+-- the full form, with addresses of w octets: one address or more, and both within their limits (01, 23 and 24)
+pub record WritableTail (w : ℕ) (r : Fields) : Type 0 where
+  pub some : 0 < length (r .addresses)
+  pub whole : length (r .addresses) % w ≡ 0
+  pub few : length (r .addresses) / w ≤ limit.addresses
+  pub short : length (r .parameters) ≤ limit.parameters
+
+-- a record that has room in its carrier, the name in wire form; a lifetime is 0 but in carrier 3
+pub record Writable (c : Carrier) (r : Fields) : Type 0 where
+  pub priority : r .priority < 65536
+  pub lifetime : r .lifetime < 256 ^ lifetimeWidth c
+  pub some : 2 ≤ length (r .name)
+  pub short : length (r .name) ≤ 255
+  pub tail : r .full ≡ true → WritableTail (addressWidth c) r
+  pub name-only : r .full ≡ false → (r .addresses ≡ []) × (r .parameters ≡ []) × (asText c ≡ false)
+  pub units : c ≡ Router → optionSize r + gap (optionSize r) ≤ limit.option  -- 44
+
+-- ---- octets by lengths: a name of n octets in wire form, a of addresses, p of parameters
+
+-- carrier 3, type and length counted, before the padding (01, "10 + name octets, or 14 + name + addresses + parameters")
+abbrev pub unpaddedOctets : Bool → ℕ → ℕ → ℕ → ℕ
+unpaddedOctets full n a p = cond full (14 + n + a + p) (10 + n)
+
+-- the body; as text the name is 2 octets shorter
+abbrev pub bodyOctets : Carrier → Bool → ℕ → ℕ → ℕ → ℕ
+bodyOctets Dhcp4 full n a p = cond full (4 + n + a + p) (3 + n)
+bodyOctets Dhcp6 full n a p = cond full (6 + n + a + p) (4 + n)
+bodyOctets Router full n a p = unpaddedOctets full n a p + gap (unpaddedOctets full n a p) - 2
+bodyOctets Ike4 full n a p = 4 + a + (n - 2) + p
+bodyOctets Ike6 full n a p = 4 + a + (n - 2) + p
+
+-- carriers 2 to 5: the option or attribute
+abbrev pub optionOctets : Carrier → Bool → ℕ → ℕ → ℕ → ℕ
+optionOctets c full n a p = headerOf c + bodyOctets c full n a p
+
+-- carrier 1: the instance with its length
+abbrev pub instanceOctets : Bool → ℕ → ℕ → ℕ → ℕ
+instanceOctets full n a p = 2 + bodyOctets Dhcp4 full n a p
+
+-- carrier 1: the instances of the records
+abbrev pub joinedOctets : List Fields → ℕ
+joinedOctets [] = 0
+joinedOctets (r ∷ rs) = instanceOctets (r .full) (length (r .name)) (length (r .addresses)) (length (r .parameters)) + joinedOctets rs
+
+-- carrier 1: the options of n joined octets
+abbrev pub cutOctets : ℕ → ℕ
+cutOctets n = n + 2 * ((n + 254) / 255)
+
+-- ---- headers
+
+-- code and length have half of the header each
+abbrev pub headWidth : Carrier → ℕ
+headWidth c = headerOf c / 2
+
+-- the length that says a body of n octets: in carrier 3 with type and length, in units of eight
+abbrev pub lengthIn : Carrier → ℕ → ℕ
+lengthIn Dhcp4 n = n
+lengthIn Dhcp6 n = n
+lengthIn Router n = (n + 2) / 8
+lengthIn Ike4 n = n
+lengthIn Ike6 n = n
+
+-- the header in front of a body of n octets
+abbrev pub headOf : Carrier → ℕ → List ℕ
+headOf c n = be (headWidth c) (codeOf c) ++ be (headWidth c) (lengthIn c n)

@@ -1,0 +1,375 @@
+// Layouts: a record's option or attribute written into a lent buffer, in each carrier, and carrier 1's joined instances cut into
+// options 162 (document 01, "Block layouts", "Writing emits records in sheet order").
+// A record comes as a sheet holds it, the name in wire form, within the limits. Nothing is judged here: a record that may not be
+// written, or has no room, is kept away by the contracts.
+ghost use mathlib.Core.Path.{_≡_};
+ghost use mathlib.Core.Bool.{true, cond};
+ghost use mathlib.Core.List.{_++_};
+ghost use Prim.Native.Nat.{_+_, _*_, _/_, _^_, _≤_, _<_, min};
+ghost use lib.ListN.{length};
+ghost use Rattle.octets.specs.Numbers.{be, zeros};
+ghost use Rattle.octets.specs.Over.{Wrote};
+ghost use Rattle.carriers.specs.declared.Carrier.the-variants.{Dhcp4, Router};
+ghost use Rattle.carriers.specs.Carriers.{headerOf, asText};
+ghost use Rattle.blocks.specs.Block.{gap, layout, Fits};
+ghost use Rattle.blocks.specs.Places.{Named};
+ghost use Rattle.frames.specs.Walk.{Plain};
+ghost use Rattle.layouts.specs.Layouts.{carriedOf, ownOption, instanceOf, cutOf};
+ghost use Rattle.layouts.specs.Writable.{fieldsOf, Writable, unpaddedOctets, bodyOctets, optionOctets, instanceOctets, cutOctets, headWidth, lengthIn, headOf};
+use carriers::Carrier;
+use carriers::Eights;
+use carriers::Octets;
+
+// The most octets that an option 162 has after its header.
+const PIECE: usize = 255;
+
+// ---- sizes
+
+// One of two numbers, by a record's form: the full one, or with a name only.
+fn by_form(full: bool, whole: usize, bare: usize) -> usize
+    ensures { λ r. ⌜ r ≡ cond full whole bare ⌝ }
+{
+    if full { whole } else { bare }
+}
+
+// How many zeros bring n octets to the next multiple of 8.
+fn gap_after(n: usize) -> usize
+    ensures { λ r. ⌜ r ≡ gap n ⌝ }
+    ensures { λ r. ⌜ r < 8 ⌝ }
+{
+    (8 - n % 8) % 8
+}
+
+// Octets of a carrier 3 option before its padding, type and length counted.
+fn unpadded_size(full: bool, nlen: usize, alen: usize, plen: usize) -> usize
+    requires { ⌜ nlen + alen + plen < 65536 ⌝ }
+    ensures { λ r. ⌜ r ≡ unpaddedOctets full nlen alen plen ⌝ }
+    ensures { λ r. ⌜ (2 ≤ r) × (r < 65550) ⌝ }
+{
+    by_form(full, 14 + nlen + alen + plen, 10 + nlen)
+}
+
+// Octets of a carrier 3 body, its padding counted.
+fn padded_size(full: bool, nlen: usize, alen: usize, plen: usize) -> usize
+    requires { ⌜ nlen + alen + plen < 65536 ⌝ }
+    ensures { λ r. ⌜ r ≡ bodyOctets Router full nlen alen plen ⌝ }
+    ensures { λ r. ⌜ r < 65558 ⌝ }
+{
+    let size = unpadded_size(full, nlen, alen, plen);
+    size + gap_after(size) - 2
+}
+
+// Octets of a record's body, with a name of `nlen` octets in wire form.
+fn body_size(c: Carrier, full: bool, nlen: usize, alen: usize, plen: usize) -> usize
+    requires { ⌜ (2 ≤ nlen) × (nlen + alen + plen < 65536) ⌝ }
+    ensures { λ r. ⌜ r ≡ bodyOctets c full nlen alen plen ⌝ }
+    ensures { λ r. ⌜ r < 65558 ⌝ }
+{
+    match c {
+        Carrier::Dhcp4 => by_form(full, 4 + nlen + alen + plen, 3 + nlen),
+        Carrier::Dhcp6 => by_form(full, 6 + nlen + alen + plen, 4 + nlen),
+        Carrier::Router => padded_size(full, nlen, alen, plen),
+        Carrier::Ike4 => 4 + alen + (nlen - 2) + plen,
+        Carrier::Ike6 => 4 + alen + (nlen - 2) + plen,
+    }
+}
+
+// Octets of a record's option or attribute.
+pub fn option_size(c: Carrier, full: bool, nlen: usize, alen: usize, plen: usize) -> usize
+    requires { ⌜ (2 ≤ nlen) × (nlen + alen + plen < 65536) ⌝ }
+    ensures { λ r. ⌜ r ≡ optionOctets c full nlen alen plen ⌝ }
+    ensures { λ r. ⌜ r < 65562 ⌝ }
+{
+    c.header_size() + body_size(c, full, nlen, alen, plen)
+}
+
+// Octets of a record's instance in carrier 1, its length counted.
+pub fn instance_size(full: bool, nlen: usize, alen: usize, plen: usize) -> usize
+    requires { ⌜ (2 ≤ nlen) × (nlen + alen + plen < 65536) ⌝ }
+    ensures { λ r. ⌜ r ≡ instanceOctets full nlen alen plen ⌝ }
+    ensures { λ r. ⌜ r < 65562 ⌝ }
+{
+    2 + body_size(Carrier::Dhcp4, full, nlen, alen, plen)
+}
+
+// Octets of the options of n joined octets.
+pub fn cut_size(n: usize) -> usize
+    requires { ⌜ n < 4294967296 ⌝ }
+    ensures { λ r. ⌜ r ≡ cutOctets n ⌝ }
+{
+    n + 2 * ((n + (PIECE - 1)) / PIECE)
+}
+
+// ---- parts
+
+// Writes v in one or two octets at `at`, and returns the index after them.
+fn put_number(out: &mut [u8], at: usize, width: usize, v: usize) -> usize
+    requires { ⌜ at + width ≤ length (now out) ⌝ }
+    requires { ⌜ (0 < width) × (width ≤ 2) × (v < 256 ^ width) ⌝ }
+    ensures { λ r. ⌜ Wrote at (be width v) (now (out .entry)) r (now (out .exit)) ⌝ }
+{
+    if width == 1 {
+        return octets::put8(out, at, v as u8);
+    }
+    octets::put16(out, at, v)
+}
+
+// Writes src after its length, in one or two octets.
+fn put_counted(out: &mut [u8], at: usize, width: usize, src: &[u8]) -> usize
+    requires { ⌜ at + width + length (now src) ≤ length (now out) ⌝ }
+    requires { ⌜ (0 < width) × (width ≤ 2) × (length (now src) < 256 ^ width) ⌝ }
+    ensures { λ r. ⌜ Wrote at (be width (length (now (src .entry))) ++ now (src .entry)) (now (out .entry)) r (now (out .exit)) ⌝ }
+{
+    let from = put_number(out, at, width, src.len());
+    octets::copy(out, from, src)
+}
+
+// Writes n zeros.
+fn put_zeros(out: &mut [u8], at: usize, n: usize) -> usize
+    requires { ⌜ (at + n ≤ length (now out)) × (n < 8) ⌝ }
+    ensures { λ r. ⌜ Wrote at (zeros n) (now (out .entry)) r (now (out .exit)) ⌝ }
+{
+    let padding = [0u8; 8];
+    octets::copy(out, at, &padding[..n])
+}
+
+// ---- headers
+
+// The one place where octets become units of eight.
+fn eights_of(o: Octets) -> Eights
+    requires { ⌜ o .0 < 2048 ⌝ }
+    ensures { λ r. ⌜ r .0 ≡ o .0 / 8 ⌝ }
+{
+    let n = o.0;
+    Eights((n / 8) as u8)
+}
+
+// The length that a header says of a body of `size` octets.
+fn length_in(c: Carrier, size: usize) -> usize
+    requires { ⌜ (size < 65536) × (lengthIn c size < 256 ^ headWidth c) ⌝ }
+    ensures { λ r. ⌜ r ≡ lengthIn c size ⌝ }
+{
+    match c {
+        Carrier::Dhcp4 => size,
+        Carrier::Dhcp6 => size,
+        Carrier::Router => {
+            let units = eights_of(Octets(size + 2));
+            octets::wide(units.0)
+        }
+        Carrier::Ike4 => size,
+        Carrier::Ike6 => size,
+    }
+}
+
+// Writes the header of an option whose body has `size` octets.
+fn put_header(out: &mut [u8], at: usize, c: Carrier, size: usize) -> usize
+    requires { ⌜ at + headerOf c ≤ length (now out) ⌝ }
+    requires { ⌜ (size < 65536) × (lengthIn c size < 256 ^ headWidth c) ⌝ }
+    ensures { λ r. ⌜ Wrote at (headOf c size) (now (out .entry)) r (now (out .exit)) ⌝ }
+{
+    let width = c.header_size() / 2;
+    let length = length_in(c, size);
+    let next = put_number(out, at, width, c.code());
+    put_number(out, next, width, length)
+}
+
+// ---- bodies
+
+// A body of carrier 1 or 2.
+fn put_named(
+    out: &mut [u8],
+    at: usize,
+    c: Carrier,
+    priority: usize,
+    full: bool,
+    name: &[u8],
+    addresses: &[u8],
+    parameters: &[u8],
+) -> usize
+    requires { ⌜ Named c ⌝ }
+    requires { ⌜ Fits c (fieldsOf priority 0 full (now name) (now addresses) (now parameters)) ⌝ }
+    requires { ⌜ at + length (layout c (fieldsOf priority 0 full (now name) (now addresses) (now parameters))) ≤ length (now out) ⌝ }
+    ensures { λ r. ⌜ Wrote at (layout c (fieldsOf priority 0 full (now (name .entry)) (now (addresses .entry)) (now (parameters .entry))))
+        (now (out .entry)) r (now (out .exit)) ⌝ }
+{
+    let width = c.length_width();
+    let at_name = octets::put16(out, at, priority);
+    let end = put_counted(out, at_name, width, name);
+    if full {
+        let at_parameters = put_counted(out, end, width, addresses);
+        return octets::copy(out, at_parameters, parameters);
+    }
+    end
+}
+
+// A body of carrier 3.
+fn put_router(
+    out: &mut [u8],
+    at: usize,
+    priority: usize,
+    lifetime: usize,
+    full: bool,
+    name: &[u8],
+    addresses: &[u8],
+    parameters: &[u8],
+) -> usize
+    requires { ⌜ Fits Router (fieldsOf priority lifetime full (now name) (now addresses) (now parameters)) ⌝ }
+    requires { ⌜ length (now name) + length (now addresses) + length (now parameters) < 65536 ⌝ }
+    requires { ⌜ at + length (layout Router (fieldsOf priority lifetime full (now name) (now addresses) (now parameters))) ≤ length (now out) ⌝ }
+    ensures { λ r. ⌜ Wrote at (layout Router (fieldsOf priority lifetime full (now (name .entry)) (now (addresses .entry)) (now (parameters .entry))))
+        (now (out .entry)) r (now (out .exit)) ⌝ }
+{
+    let zeros = gap_after(unpadded_size(full, name.len(), addresses.len(), parameters.len()));
+    let at_lifetime = octets::put16(out, at, priority);
+    let at_name = octets::put32(out, at_lifetime, lifetime);
+    let end = put_counted(out, at_name, 2, name);
+    if full {
+        let at_parameters = put_counted(out, end, 2, addresses);
+        let at_padding = put_counted(out, at_parameters, 2, parameters);
+        return put_zeros(out, at_padding, zeros);
+    }
+    put_zeros(out, end, zeros)
+}
+
+// A body of carrier 4 or 5: the name as text.
+fn put_attribute(
+    out: &mut [u8],
+    at: usize,
+    c: Carrier,
+    priority: usize,
+    name: &[u8],
+    addresses: &[u8],
+    parameters: &[u8],
+) -> usize
+    requires { ⌜ asText c ≡ true ⌝ }
+    requires { ⌜ 2 ≤ length (now name) ⌝ }
+    requires { ⌜ Fits c (carriedOf c (fieldsOf priority 0 true (now name) (now addresses) (now parameters))) ⌝ }
+    requires { ⌜ at + length (layout c (carriedOf c (fieldsOf priority 0 true (now name) (now addresses) (now parameters)))) ≤ length (now out) ⌝ }
+    ensures { λ r. ⌜ Wrote at (layout c (carriedOf c (fieldsOf priority 0 true (now (name .entry)) (now (addresses .entry)) (now (parameters .entry)))))
+        (now (out .entry)) r (now (out .exit)) ⌝ }
+{
+    let count = addresses.len() / c.address_width();
+    let at_count = octets::put16(out, at, priority);
+    let at_nlen = octets::put8(out, at_count, count as u8);
+    let at_addresses = octets::put8(out, at_nlen, (name.len() - 2) as u8);
+    let at_name = octets::copy(out, at_addresses, addresses);
+    let at_parameters = texts::to_text(out, at_name, name);
+    octets::copy(out, at_parameters, parameters)
+}
+
+// The body of a record.
+fn put_body(
+    out: &mut [u8],
+    at: usize,
+    c: Carrier,
+    priority: usize,
+    lifetime: usize,
+    full: bool,
+    name: &[u8],
+    addresses: &[u8],
+    parameters: &[u8],
+) -> usize
+    requires { ⌜ Writable c (fieldsOf priority lifetime full (now name) (now addresses) (now parameters)) ⌝ }
+    requires { ⌜ at + length (layout c (carriedOf c (fieldsOf priority lifetime full (now name) (now addresses) (now parameters)))) ≤ length (now out) ⌝ }
+    ensures { λ r. ⌜ Wrote at (layout c (carriedOf c (fieldsOf priority lifetime full (now (name .entry)) (now (addresses .entry)) (now (parameters .entry)))))
+        (now (out .entry)) r (now (out .exit)) ⌝ }
+{
+    match c {
+        Carrier::Dhcp4 => put_named(out, at, c, priority, full, name, addresses, parameters),
+        Carrier::Dhcp6 => put_named(out, at, c, priority, full, name, addresses, parameters),
+        Carrier::Router => put_router(
+            out,
+            at,
+            priority,
+            lifetime,
+            full,
+            name,
+            addresses,
+            parameters,
+        ),
+        Carrier::Ike4 => put_attribute(out, at, c, priority, name, addresses, parameters),
+        Carrier::Ike6 => put_attribute(out, at, c, priority, name, addresses, parameters),
+    }
+}
+
+// ---- options and instances
+
+// Writes a record's option or attribute at `at`, in carriers 2 to 5, and returns the index after it.
+pub fn put_option(
+    out: &mut [u8],
+    at: usize,
+    c: Carrier,
+    priority: usize,
+    lifetime: usize,
+    full: bool,
+    name: &[u8],
+    addresses: &[u8],
+    parameters: &[u8],
+) -> usize
+    requires { ⌜ Plain c ⌝ }
+    requires { ⌜ Writable c (fieldsOf priority lifetime full (now name) (now addresses) (now parameters)) ⌝ }
+    requires { ⌜ at + length (ownOption c (fieldsOf priority lifetime full (now name) (now addresses) (now parameters))) ≤ length (now out) ⌝ }
+    ensures { λ r. ⌜ Wrote at (ownOption c (fieldsOf priority lifetime full (now (name .entry)) (now (addresses .entry)) (now (parameters .entry))))
+        (now (out .entry)) r (now (out .exit)) ⌝ }
+{
+    let size = body_size(c, full, name.len(), addresses.len(), parameters.len());
+    let from = put_header(out, at, c, size);
+    put_body(
+        out,
+        from,
+        c,
+        priority,
+        lifetime,
+        full,
+        name,
+        addresses,
+        parameters,
+    )
+}
+
+// Writes a record's instance after its 16-bit length, in carrier 1.
+pub fn put_instance(
+    out: &mut [u8],
+    at: usize,
+    priority: usize,
+    full: bool,
+    name: &[u8],
+    addresses: &[u8],
+    parameters: &[u8],
+) -> usize
+    requires { ⌜ Writable Dhcp4 (fieldsOf priority 0 full (now name) (now addresses) (now parameters)) ⌝ }
+    requires { ⌜ at + length (instanceOf (fieldsOf priority 0 full (now name) (now addresses) (now parameters))) ≤ length (now out) ⌝ }
+    ensures { λ r. ⌜ Wrote at (instanceOf (fieldsOf priority 0 full (now (name .entry)) (now (addresses .entry)) (now (parameters .entry))))
+        (now (out .entry)) r (now (out .exit)) ⌝ }
+{
+    let c = Carrier::Dhcp4;
+    let size = body_size(c, full, name.len(), addresses.len(), parameters.len());
+    let from = octets::put16(out, at, size);
+    put_body(out, from, c, priority, 0, full, name, addresses, parameters)
+}
+
+// ---- joined instances
+
+// The shorter of n and the most that one option has.
+fn piece_size(n: usize) -> usize
+    ensures { λ r. ⌜ r ≡ min 255 n ⌝ }
+{
+    if n < PIECE { n } else { PIECE }
+}
+
+// Writes `joined` as options 162 of 255 octets and a last one of 1 to 255, and returns the index after them.
+pub fn put_cut(out: &mut [u8], at: usize, joined: &[u8]) -> usize
+    requires { ⌜ at + length (cutOf (now joined)) ≤ length (now out) ⌝ }
+    ensures { λ r. ⌜ Wrote at (cutOf (now (joined .entry))) (now (out .entry)) r (now (out .exit)) ⌝ }
+{
+    let mut i = 0;
+    let mut o = at;
+    while i < joined.len() {
+        let n = piece_size(joined.len() - i);
+        let e = i + n;
+        let from = put_header(out, o, Carrier::Dhcp4, n);
+        o = octets::copy(out, from, &joined[i..e]);
+        i = e;
+    }
+    o
+}

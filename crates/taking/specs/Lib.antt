@@ -1,0 +1,13 @@
+pub mod Taking
+pub mod Sheet
+pub mod Took
+pub mod Spot
+pub mod SpotLaws
+pub mod WalkLaws
+pub mod TakenLaws
+pub mod Standing
+pub mod StandingLaws
+pub mod TookLaws
+pub mod RecordLaws
+pub mod Exactly
+pub mod Examples

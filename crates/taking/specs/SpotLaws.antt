@@ -1,0 +1,180 @@
+-- Where a record's fields stand: they lie within the sheet, and each way out of the code that finds them agrees with `spotOf`.
+-- Assumes nothing.
+use mathlib.Core.Path.{_≡_, refl}
+use mathlib.Core.Bool.{Bool, true, false, cond, false≢true}
+use mathlib.Core.List.{List}
+use Prim.Native.Nat.{ℕ, _+_, _-_, _*_, _≤_, _<_}
+use native.Mathlib.Nat.{mul-le-mul}
+use native.Mathlib.Omega.{arith}
+use borrow.Author.Tests.{lt-ltb, le-ltb, ltb-true, ltb-false, eq-eqb, ne-eqb, eqb-true, eqb-false}
+use lib.Dec.{ltb, eqb}
+use lib.ListN.{length, getD}
+use Rattle.octets.specs.Numbers.{at16, at32, Bytes}
+use Rattle.octets.specs.NumbersLaws.{bytes-at, bytes-getD}
+use Rattle.carriers.specs.declared.Carrier.{Carrier}
+use Rattle.carriers.specs.declared.Carrier.the-variants.{Dhcp4, Dhcp6, Router, Ike4, Ike6}
+use Rattle.carriers.specs.Carriers.{addressWidth}
+use Rattle.taking.specs.declared.Spot.{Spot}
+use Rattle.taking.specs.Spot.{nowhere, namedAt, withParts, parametersAt, addressesAt, fullAt, byMode, spotOf, Inside, Sized}
+
+-- ---- a test decides between two answers
+
+pub by-less : {A : Type 0} (P : A → Type 0) (m n : ℕ) (x y : A) → (m < n → P x) → (n ≤ m → P y) → P (cond (ltb m n) x y)
+by-less P m n x y h k = go (ltb m n) refl
+  where
+    go : (b : Bool) → ltb m n ≡ b → P (cond b x y)
+    go true t = h (ltb-true _ _ t)
+    go false t = k (ltb-false _ _ t)
+
+pub by-equal : {A : Type 0} (P : A → Type 0) (m n : ℕ) (x y : A) → (m ≡ n → P x) → ((m ≡ n → ⊥) → P y) → P (cond (eqb m n) x y)
+by-equal P m n x y h k = go (eqb m n) refl
+  where
+    go : (b : Bool) → eqb m n ≡ b → P (cond b x y)
+    go true t = h (eqb-true _ _ t)
+    go false t = k (eqb-false _ _ t)
+
+-- ---- what holds of every spot: of none, of a name, of a name with parts, and so of `spotOf`
+
+module _ (P : Spot → Type 0) (none : P nowhere) (c : Carrier) (s : List ℕ) where
+  pub by-full : (p : Spot)
+      → ((a n q m : ℕ) → p .next < a → n ≡ getD s (p .next) 0 * addressWidth c → a + n + 2 ≡ q → m ≡ at16 s (a + n) → q + m ≤ length s
+      → P (withParts p a n q m))
+      → p .next ≤ length s → P (fullAt c s p)
+  unfolding fullAt
+  by-full p whole h =
+      let a : ℕ = p .next + 1 in
+      let n : ℕ = getD s (p .next) 0 * addressWidth c in
+      let q : ℕ = a + n + 2 in
+      let m : ℕ = at16 s (a + n) in
+      by-less P (length s - p .next) 1 nowhere (addressesAt s p a n) (λ _. none) (λ k.
+      by-less P (length s - a) n nowhere (cond (ltb (length s - (a + n)) 2) nowhere (parametersAt s p a n q m)) (λ _. none) (λ j.
+      by-less P (length s - (a + n)) 2 nowhere (parametersAt s p a n q m) (λ _. none) (λ i.
+      by-less P (length s - q) m nowhere (withParts p a n q m) (λ _. none) (λ l.
+      whole a n q m (omega arith) refl refl refl (omega arith)))))
+
+  pub by-spot : (at : ℕ)
+      → ((n : ℕ) → n ≡ getD s (at + 7) 0 → at + 8 + n ≤ length s → P (namedAt s at n))
+      → ((n : ℕ) → n ≡ getD s (at + 7) 0 → at + 8 + n ≤ length s → P (fullAt c s (namedAt s at n)))
+      → at ≤ length s → P (spotOf c s at)
+  unfolding spotOf
+  by-spot at named full h =
+      let n : ℕ = getD s (at + 7) 0 in
+      let mode : ℕ = getD s (at + 6) 0 in
+      let p : Spot = namedAt s at n in
+      by-less P (length s - at) 8 nowhere (cond (ltb (length s - at - 8) n) nowhere (byMode c s mode p)) (λ _. none) (λ k.
+      by-less P (length s - at - 8) n nowhere (byMode c s mode p) (λ _. none) (λ j.
+      by-equal P mode 0 p (cond (eqb mode 1) (fullAt c s p) nowhere) (λ _. named n refl (omega arith)) (λ _.
+      by-equal P mode 1 (fullAt c s p) nowhere (λ _. full n refl (omega arith)) (λ _. none))))
+
+-- ---- the parts lie within the sheet
+
+nowhere-inside : (n at : ℕ) → Inside n at nowhere
+nowhere-inside n at =
+    record { name = omega arith; addresses = omega arith; parameters = omega arith; next = omega arith; further = λ e. absurd (false≢true e) }
+
+pub spot-inside : (c : Carrier) (s : List ℕ) (at : ℕ) → at ≤ length s → Inside (length s) at (spotOf c s at)
+spot-inside c s at h =
+    let P : Spot → Type 0 = Inside (length s) at in
+    let none : P nowhere = nowhere-inside (length s) at in
+    by-spot P none c s at
+    (λ n e k. record { name = k; addresses = omega arith; parameters = omega arith; next = k; further = λ _. omega arith })
+    (λ n e k. by-full P none c s (namedAt s at n)
+    (λ a b q m i j f g l. record { name = k; addresses = omega arith; parameters = l; next = l; further = λ _. omega arith }) k)
+    h
+
+-- ---- the numbers are of their widths
+
+pub width-small : (c : Carrier) → addressWidth c ≤ 16
+width-small Dhcp4 = omega arith
+width-small Dhcp6 = omega arith
+width-small Router = omega arith
+width-small Ike4 = omega arith
+width-small Ike6 = omega arith
+
+module _ (s : List ℕ) (bytes : Bytes s) where
+  at16-small : (i : ℕ) → at16 s i < 65536
+  at16-small i = omega (arith, bytes-getD s i bytes, bytes-getD s (i + 1) bytes)
+
+  at32-small : (i : ℕ) → at32 s i < 4294967296
+  at32-small i = omega (arith, at16-small i, at16-small (i + 2))
+
+  pub spot-sized : (c : Carrier) (at : ℕ) → at ≤ length s → Sized (spotOf c s at)
+  spot-sized c at h =
+      let none : Sized nowhere = record { priority = omega arith; lifetime = omega arith; nlen = omega arith; alen = omega arith; plen = omega arith } in
+      by-spot Sized none c s at
+      (λ n e k.
+      record {
+        priority = at16-small at;
+        lifetime = at32-small (at + 2);
+        nlen = rw e (bytes-getD s (at + 7) bytes);
+        alen = omega arith;
+        plen = omega arith;
+      })
+      (λ n e k. by-full Sized none c s (namedAt s at n)
+      (λ a b q m i j f g l.
+      let x : getD s (at + 8 + n) 0 ≤ 255 = omega (arith, bytes-getD s (at + 8 + n) bytes) in
+      record {
+        priority = at16-small at;
+        lifetime = at32-small (at + 2);
+        nlen = rw e (bytes-getD s (at + 7) bytes);
+        alen = rw j (mul-le-mul x (width-small c));
+        plen = rw g (at16-small (a + b));
+      }) k)
+      h
+
+-- what `record_at` ensures
+pub spot-ensures : (c : Carrier) (s : List ℕ) (at : ℕ) {r : Spot} → ((i : ℕ) → getD s i 0 < 256) → at ≤ length s → r ≡ spotOf c s at
+    → (r ≡ spotOf c s at) × (Inside (length s) at r × Sized r)
+spot-ensures c s at b h e = (e, (rw e (spot-inside c s at h), rw e (spot-sized s (bytes-at s b) c at h)))
+
+-- ---- the ways out of `full_at`
+
+module _ (c : Carrier) (s : List ℕ) (p : Spot) {r : Spot} where
+  pub full-1 : length s - p .next < 1 → r ≡ nowhere → r ≡ fullAt c s p
+  unfolding fullAt
+  full-1 h e = rw (lt-ltb _ _ h) e
+
+  module _ (h : 1 ≤ length s - p .next) {x w : ℕ} (ex : x ≡ getD s (p .next) 0) (ew : w ≡ addressWidth c) where
+    pub full-2 : length s - (p .next + 1) < x * w → r ≡ nowhere → r ≡ fullAt c s p
+    unfolding fullAt
+    full-2 k e = rw (le-ltb _ _ h, lt-ltb _ _ (rw (ex, ew) at k)) e
+
+    module _ (k : x * w ≤ length s - (p .next + 1)) where
+      pub full-3 : length s - (p .next + 1 + x * w) < 2 → r ≡ nowhere → r ≡ fullAt c s p
+      unfolding fullAt
+      full-3 j e = rw (le-ltb _ _ h, le-ltb _ _ (rw (ex, ew) at k), lt-ltb _ _ (rw (ex, ew) at j)) e
+
+      module _ (j : 2 ≤ length s - (p .next + 1 + x * w)) {m : ℕ} (em : m ≡ at16 s (p .next + 1 + x * w)) where
+        pub full-4 : length s - (p .next + 1 + x * w + 2) < m → r ≡ nowhere → r ≡ fullAt c s p
+        unfolding fullAt
+        full-4 l e = rw (le-ltb _ _ h, le-ltb _ _ (rw (ex, ew) at k), le-ltb _ _ (rw (ex, ew) at j), lt-ltb _ _ (rw (em, ex, ew) at l)) e
+
+        pub full-5 : m ≤ length s - (p .next + 1 + x * w + 2) → r ≡ withParts p (p .next + 1) (x * w) (p .next + 1 + x * w + 2) m → r ≡ fullAt c s p
+        unfolding fullAt
+        full-5 l e =
+            rw (le-ltb _ _ h, le-ltb _ _ (rw (ex, ew) at k), le-ltb _ _ (rw (ex, ew) at j), le-ltb _ _ (rw (em, ex, ew) at l)) (rw (em, ex, ew) at e)
+
+-- ---- the ways out of `record_at`
+
+module _ (c : Carrier) (s : List ℕ) (at : ℕ) {r : Spot} where
+  pub spot-1 : length s - at < 8 → r ≡ nowhere → r ≡ spotOf c s at
+  unfolding spotOf
+  spot-1 h e = rw (lt-ltb _ _ h) e
+
+  module _ (h : 8 ≤ length s - at) {n : ℕ} (en : n ≡ getD s (at + 7) 0) where
+    pub spot-2 : length s - at - 8 < n → r ≡ nowhere → r ≡ spotOf c s at
+    unfolding spotOf
+    spot-2 k e = rw (le-ltb _ _ h, lt-ltb _ _ (rw en at k)) e
+
+    module _ (k : n ≤ length s - at - 8) where
+      pub spot-3 : getD s (at + 6) 0 ≡ 0 → r ≡ namedAt s at n → r ≡ spotOf c s at
+      unfolding spotOf
+      spot-3 z e = rw (le-ltb _ _ h, le-ltb _ _ (rw en at k), eq-eqb _ _ z) (rw en at e)
+
+      pub spot-4 : {p : Spot} → (getD s (at + 6) 0 ≡ 0 → ⊥) → getD s (at + 6) 0 ≡ 1 → p ≡ namedAt s at n → r ≡ fullAt c s p → r ≡ spotOf c s at
+      unfolding spotOf
+      spot-4 z o ep e = rw (le-ltb _ _ h, le-ltb _ _ (rw en at k), ne-eqb _ _ z, eq-eqb _ _ o) (rw en at (rw ep at e))
+
+      pub spot-5 : (getD s (at + 6) 0 ≡ 0 → ⊥) → (getD s (at + 6) 0 ≡ 1 → ⊥) → r ≡ nowhere → r ≡ spotOf c s at
+      unfolding spotOf
+      spot-5 z o e = rw (le-ltb _ _ h, le-ltb _ _ (rw en at k), ne-eqb _ _ z, ne-eqb _ _ o) e

@@ -1,0 +1,153 @@
+-- What taking a sheet may say: one of six refusals, or a sheet that passed every test. Assumes nothing.
+use mathlib.Core.Path.{_≡_, refl}
+use mathlib.Core.Logic.{_⊎_, inl, inr}
+use mathlib.Core.Bool.{Bool, true, false, cond, not, _&&_, false≢true}
+use mathlib.Core.List.{List, [], _∷_}
+use Prim.Native.Nat.{ℕ, _≤_}
+use native.Mathlib.Omega.{arith}
+use borrow.Author.Tests.{eqb-true, eq-eqb, le-ltb}
+use lib.Dec.{ltb, eqb}
+use lib.ListN.{length, getD, take, drop}
+use Rattle.octets.specs.Numbers.{at16}
+use Rattle.numbers.specs.Refusal as refusal
+use Rattle.numbers.specs.Limit as limit
+use Rattle.carriers.specs.declared.Carrier.{Carrier}
+use Rattle.carriers.specs.declared.Chosen.{Chosen}
+use Rattle.carriers.specs.declared.Chosen.the-variants.{Known, Unknown}
+use Rattle.carriers.specs.Carriers.{chosenOf}
+use Rattle.blocks.specs.Block.{Fields}
+use Rattle.sheets.specs.Sheets.{letters, edition}
+use Rattle.taking.specs.Taking.{same, Records, none, records, recordsFrom, Taken, refuse, sheet, takeRecords, takeCarrier, takeOf}
+use Rattle.taking.specs.SpotLaws.{by-less}
+
+-- ---- the same octets
+
+pub same-true : (a b : List ℕ) → same a b ≡ true → a ≡ b
+unfolding same
+same-true [] [] e = refl
+same-true [] (y ∷ ys) e = absurd (false≢true e)
+same-true (x ∷ xs) [] e = absurd (false≢true e)
+same-true (x ∷ xs) (y ∷ ys) e = go (eqb x y) refl e (same-true xs ys)
+  where
+    go : (b : Bool) → eqb x y ≡ b → b && same xs ys ≡ true → (same xs ys ≡ true → xs ≡ ys) → x ∷ xs ≡ y ∷ ys
+    go true t e ih = let p : x ≡ y = eqb-true x y t in let q : xs ≡ ys = ih e in cc
+    go false t e ih = absurd (false≢true e)
+
+pub same-self : (a : List ℕ) → same a a ≡ true
+unfolding same
+same-self [] = refl
+same-self (x ∷ xs) = rw (eq-eqb x x refl) (same-self xs)
+
+-- ---- the tests
+
+-- s passed every test, with carrier c and records rs
+pub record Passed (s : List ℕ) (c : Carrier) (rs : List Fields) : Type 0 where
+  pub short : length s ≤ limit.input
+  pub seven : 7 ≤ length s
+  pub lettered : take 3 s ≡ letters
+  pub version : at16 s 3 ≡ edition
+  pub carrier : chosenOf (getD s 5 0) ≡ Known c
+  pub few : getD s 6 0 ≤ limit.records
+  pub found : recordsFrom c (getD s 6 0) 0 (drop 7 s) ≡ records rs
+
+-- what holds of each refusal and of a sheet that passed holds
+module _ (s : List ℕ) (P : Taken → Type 0)
+    (input : P (refuse refusal.input)) (head : P (refuse refusal.sheet)) (version : P (refuse refusal.version))
+    (carrier : P (refuse refusal.sheetCarrier)) (many : P (refuse refusal.records)) (tiling : P (refuse refusal.tiling))
+    (passed : (c : Carrier) (rs : List Fields) → Passed s c rs → P (sheet c rs)) where
+  pub by-taken : P (takeOf s)
+  unfolding takeOf
+  by-taken =
+      by-less P limit.input (length s) (refuse refusal.input) after-input (λ _. input) (λ short.
+      by-less P (length s) 7 (refuse refusal.sheet) after-length (λ _. head) (λ seven.
+      letters-next (same (take 3 s) letters) refl (λ lettered.
+      version-next (eqb (at16 s 3) edition) refl (λ edited.
+      carrier-next (chosenOf (getD s 5 0)) refl (λ c known.
+      by-less P limit.records (getD s 6 0) (refuse refusal.records) (takeRecords c (recordsFrom c (getD s 6 0) 0 (drop 7 s))) (λ _. many) (λ few.
+      records-next c (recordsFrom c (getD s 6 0) 0 (drop 7 s)) refl (λ rs found.
+      passed c rs record {
+        short = short;
+        seven = seven;
+        lettered = same-true (take 3 s) letters lettered;
+        version = eqb-true (at16 s 3) edition edited;
+        carrier = known;
+        few = few;
+        found = found;
+      })))))))
+    where
+      after-version : Taken
+      after-version = takeCarrier (chosenOf (getD s 5 0)) (getD s 6 0) (drop 7 s)
+
+      after-letters : Taken
+      after-letters = cond (not (eqb (at16 s 3) edition)) (refuse refusal.version) after-version
+
+      after-length : Taken
+      after-length = cond (not (same (take 3 s) letters)) (refuse refusal.sheet) after-letters
+
+      after-input : Taken
+      after-input = cond (ltb (length s) 7) (refuse refusal.sheet) after-length
+
+      letters-next : (b : Bool) → same (take 3 s) letters ≡ b → (same (take 3 s) letters ≡ true → P after-letters)
+          → P (cond (not b) (refuse refusal.sheet) after-letters)
+      letters-next true e k = k e
+      letters-next false e k = head
+
+      version-next : (b : Bool) → eqb (at16 s 3) edition ≡ b → (eqb (at16 s 3) edition ≡ true → P after-version)
+          → P (cond (not b) (refuse refusal.version) after-version)
+      version-next true e k = k e
+      version-next false e k = version
+
+      carrier-next : (o : Chosen) → chosenOf (getD s 5 0) ≡ o
+          → ((c : Carrier) → chosenOf (getD s 5 0) ≡ Known c → P (takeCarrier (Known c) (getD s 6 0) (drop 7 s)))
+          → P (takeCarrier o (getD s 6 0) (drop 7 s))
+      carrier-next Unknown e k = carrier
+      carrier-next (Known c) e k = k c e
+
+      records-next : (c : Carrier) (x : Records) → recordsFrom c (getD s 6 0) 0 (drop 7 s) ≡ x
+          → ((rs : List Fields) → recordsFrom c (getD s 6 0) 0 (drop 7 s) ≡ records rs → P (sheet c rs)) → P (takeRecords c x)
+      records-next c none e k = tiling
+      records-next c (records rs) e k = k rs e
+
+-- what is taken passed every test, and what passes every test is taken
+pub taken-passed : (s : List ℕ) (c : Carrier) (rs : List Fields) → takeOf s ≡ sheet c rs → Passed s c rs
+taken-passed s c rs =
+    by-taken s (λ t. t ≡ sheet c rs → Passed s c rs) never never never never never never
+    (λ d qs p e. let i : d ≡ c = cc in let j : qs ≡ rs = cc in rw (← i, ← j) p)
+  where
+    never : {k : ℕ} → refuse k ≡ sheet c rs → Passed s c rs
+    never e = let z : _≡_ {A = ℕ} 0 1 = cc in absurd (omega arith)
+
+pub passed-taken : (s : List ℕ) (c : Carrier) (rs : List Fields) → Passed s c rs → takeOf s ≡ sheet c rs
+unfolding takeOf
+passed-taken s c rs p =
+    rw (le-ltb limit.input (length s) (p .short), le-ltb (length s) 7 (p .seven), p .lettered, same-self letters, eq-eqb (at16 s 3) edition (p .version), p .carrier, le-ltb limit.records (getD s 6 0) (p .few), p .found)
+
+-- ---- the refusals
+
+-- the numbers are 2, 40, 41, 42, 4 and 43
+abbrev pub Refusing : ℕ → Type 0
+Refusing k =
+    (k ≡ refusal.input) ⊎ ((k ≡ refusal.sheet) ⊎ ((k ≡ refusal.version) ⊎ ((k ≡ refusal.sheetCarrier) ⊎ ((k ≡ refusal.records) ⊎ (k ≡ refusal.tiling)))))
+
+pub refused-by : (s : List ℕ) (k : ℕ) → takeOf s ≡ refuse k → Refusing k
+refused-by s k =
+    by-taken s (λ t. t ≡ refuse k → Refusing k)
+    (λ e. inl cc)
+    (λ e. inr (inl cc))
+    (λ e. inr (inr (inl cc)))
+    (λ e. inr (inr (inr (inl cc))))
+    (λ e. inr (inr (inr (inr (inl cc)))))
+    (λ e. inr (inr (inr (inr (inr cc)))))
+    (λ d qs p e. let z : _≡_ {A = ℕ} 0 1 = cc in absurd (omega arith))
+
+-- a refusal's number is never 0, which means done
+pub refused-some : (s : List ℕ) (k : ℕ) → takeOf s ≡ refuse k → k ≡ 0 → ⊥
+refused-some s k e z = go (refused-by s k e)
+  where
+    go : Refusing k → ⊥
+    go (inl i) = omega arith
+    go (inr (inl i)) = omega arith
+    go (inr (inr (inl i))) = omega arith
+    go (inr (inr (inr (inl i)))) = omega arith
+    go (inr (inr (inr (inr (inl i))))) = omega arith
+    go (inr (inr (inr (inr (inr i))))) = omega arith

@@ -1,0 +1,90 @@
+-- Taking a sheet (01, The record sheet; Numbers given back: "Writing checks 2, 40, 41, 42, 4, 43"): any octets are refused by number, or
+-- are a carrier and its records. Assumes nothing: these are definitions.
+use mathlib.Core.Bool.{Bool, true, false, cond, not, _&&_}
+use mathlib.Core.List.{List, [], _∷_}
+use Prim.Native.Nat.{ℕ, zero, suc, _*_}
+use lib.Dec.{ltb, eqb}
+use lib.ListN.{length, getD, take, drop}
+use Rattle.octets.specs.Numbers.{at16}
+use Rattle.octets.specs.Fields.{part, number, counted}
+use Rattle.numbers.specs.Refusal as refusal
+use Rattle.numbers.specs.Limit as limit
+use Rattle.carriers.specs.declared.Carrier.{Carrier}
+use Rattle.carriers.specs.declared.Chosen.{Chosen}
+use Rattle.carriers.specs.declared.Chosen.the-variants.{Known, Unknown}
+use Rattle.carriers.specs.Carriers.{chosenOf, addressWidth, lifetimeWidth}
+use Rattle.blocks.specs.Block.{Fields, nameOnly, whole}
+use Rattle.sheets.specs.Sheets.{letters, edition}
+
+-- the octets are the same
+unfoldable pub same : List ℕ → List ℕ → Bool
+same [] [] = true
+same [] (y ∷ ys) = false
+same (x ∷ xs) [] = false
+same (x ∷ xs) (y ∷ ys) = eqb x y && same xs ys
+
+-- ---- the records after the head
+
+-- the records, or that the octets do not tile, a mode is not 0 or 1, priorities fall, or a lifetime stands where none belongs
+pub data Records : Type 0 where
+  none : Records
+  records : List Fields → Records
+
+abbrev pub onto : Fields → Records → Records
+onto r none = none
+onto r (records rs) = records (r ∷ rs)
+
+-- a lifetime stands only where the carrier has one
+abbrev pub misplaced : Carrier → ℕ → Bool
+misplaced c lifetime = eqb (lifetimeWidth c) 0 && not (eqb lifetime 0)
+
+-- what mode 1 adds: address count, addresses, parameter length, parameters
+abbrev pub fullFields : Carrier → ℕ → ℕ → List ℕ → List ℕ → (Fields → List ℕ → Records) → Records
+fullFields c priority lifetime name l next =
+    number none 1 l (λ count l.
+    part none (count * addressWidth c) l (λ addresses l.
+    counted none 2 l (λ parameters l.
+    next (whole priority lifetime name addresses parameters) l)))
+
+-- one record at the front: priority, lifetime, mode, name after its length; `least` is the priority of the record before
+abbrev pub oneRecord : Carrier → ℕ → List ℕ → (Fields → List ℕ → Records) → Records
+oneRecord c least l next =
+    number none 2 l (λ priority l.
+    number none 4 l (λ lifetime l.
+    number none 1 l (λ mode l.
+    counted none 1 l (λ name l.
+    cond (ltb priority least) none
+    (cond (misplaced c lifetime) none
+    (cond (eqb mode 0) (next (nameOnly priority lifetime name) l)
+    (cond (eqb mode 1) (fullFields c priority lifetime name l next) none)))))))
+
+-- so many records, and nothing after the last
+unfoldable pub recordsFrom : Carrier → ℕ → ℕ → List ℕ → Records
+recordsFrom c zero least [] = records []
+recordsFrom c zero least (x ∷ xs) = none
+recordsFrom c (suc n) least l = oneRecord c least l (λ r l. onto r (recordsFrom c n (r .priority) l))
+
+-- ---- the sheet
+
+pub data Taken : Type 0 where
+  refuse : ℕ → Taken
+  sheet : Carrier → List Fields → Taken
+
+-- 43
+abbrev pub takeRecords : Carrier → Records → Taken
+takeRecords c none = refuse refusal.tiling
+takeRecords c (records rs) = sheet c rs
+
+-- 42, then 4
+abbrev pub takeCarrier : Chosen → ℕ → List ℕ → Taken
+takeCarrier Unknown count l = refuse refusal.sheetCarrier
+takeCarrier (Known c) count l = cond (ltb limit.records count) (refuse refusal.records) (takeRecords c (recordsFrom c count 0 l))
+
+-- 2, 40, 41
+unfoldable pub takeOf : List ℕ → Taken
+takeOf s =
+    cond (ltb limit.input (length s)) (refuse refusal.input)
+    (cond (ltb (length s) 7) (refuse refusal.sheet)
+    (cond (not (same (take 3 s) letters)) (refuse refusal.sheet)
+    (cond (not (eqb (at16 s 3) edition)) (refuse refusal.version)
+    (takeCarrier (chosenOf (getD s 5 0)) (getD s 6 0) (drop 7 s)))))

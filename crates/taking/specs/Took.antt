@@ -1,0 +1,16 @@
+-- What `take` answers. Assumes nothing: these are definitions.
+use mathlib.Core.Bool.{Bool, true, false}
+use lib.ListN.{length}
+use Rattle.taking.specs.declared.Took.{Took}
+use Rattle.taking.specs.declared.Took.the-variants.{Refused, Sheet}
+use Rattle.taking.specs.Taking.{Taken, refuse, sheet, Records, none, records}
+
+-- the refusal's number; or the sheet's carrier and how many records it has
+abbrev pub tookOf : Taken → Took
+tookOf (refuse k) = Refused k
+tookOf (sheet c rs) = Sheet c (length rs)
+
+-- there are records
+abbrev pub some : Records → Bool
+some none = false
+some (records rs) = true

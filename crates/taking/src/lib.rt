@@ -1,0 +1,253 @@
+// Taking a record sheet apart (document 01, "The record sheet"): the tests 2, 40, 41, 42, 4 and 43, in this order, before anything is
+// written from a sheet. `take` says which number refuses the octets, or the sheet's carrier and how many records it has; `record_at` says
+// where the fields of one record stand, so that a caller goes through a taken sheet from its head's end on without copying.
+// Here stand only the sheet's form, its order and its lifetimes: names, addresses and parameters are not looked at.
+ghost use mathlib.Core.Path.{_≡_};
+ghost use Prim.Native.Nat.{_+_, _≤_, _<_};
+ghost use lib.ListN.{length, drop};
+ghost use Rattle.taking.specs.Taking.{recordsFrom, takeCarrier, takeOf};
+ghost use Rattle.taking.specs.Taking as taking;
+ghost use Rattle.taking.specs.Took.{tookOf, some};
+ghost use Rattle.taking.specs.Spot.{namedAt, fullAt, spotOf, Inside, Sized};
+ghost use Rattle.taking.specs.Spot as spot;
+ghost use Rattle.carriers.specs.Carriers.{lifetimeWidth};
+ghost use Rattle.carriers.specs.declared.Chosen.the-variants.{Known};
+use carriers::Carrier;
+use carriers::Chosen;
+use numbers::Limit;
+use numbers::Refusal;
+
+// What taking a sheet answers.
+pub enum Took {
+    // The number of the first test that fails.
+    Refused(usize),
+    // A sheet of `count` records.
+    Sheet { carrier: Carrier, count: usize },
+}
+
+// Where one record's fields stand in a sheet: each as its first index and its length; `next` is the index after the record.
+pub struct Spot {
+    // Whether a whole record with mode 0 or 1 stands there; else all numbers are 0.
+    pub good: bool,
+    pub priority: usize,
+    pub lifetime: usize,
+    // Mode 1; in mode 0 there are no addresses and no parameters.
+    pub full: bool,
+    pub name: usize,
+    pub nlen: usize,
+    pub addresses: usize,
+    pub alen: usize,
+    pub parameters: usize,
+    pub plen: usize,
+    pub next: usize,
+}
+
+// No record.
+fn nowhere() -> Spot
+    ensures { λ r. ⌜ r ≡ spot.nowhere ⌝ }
+{
+    Spot {
+        good: false,
+        priority: 0,
+        lifetime: 0,
+        full: false,
+        name: 0,
+        nlen: 0,
+        addresses: 0,
+        alen: 0,
+        parameters: 0,
+        plen: 0,
+        next: 0,
+    }
+}
+
+// The record at `at` as far as its name of `nlen` octets.
+fn named_at(s: &[u8], at: usize, nlen: usize) -> Spot
+    requires { ⌜ at + 8 + nlen ≤ length (now s) ⌝ }
+    ensures { λ r. ⌜ r ≡ namedAt (now (s .entry)) at nlen ⌝ }
+{
+    let name = at + 8;
+    let after = name + nlen;
+    Spot {
+        good: true,
+        priority: octets::get16(s, at),
+        lifetime: octets::get32(s, at + 2),
+        full: false,
+        name,
+        nlen,
+        addresses: after,
+        alen: 0,
+        parameters: after,
+        plen: 0,
+        next: after,
+    }
+}
+
+// The record `p` with what mode 1 adds after its name.
+fn full_at(c: Carrier, s: &[u8], p: Spot) -> Spot
+    requires { ⌜ p .next ≤ length (now s) ⌝ }
+    ensures { λ r. ⌜ r ≡ fullAt c (now (s .entry)) p ⌝ }
+{
+    let size = s.len();
+    let tail = p.next;
+    if size - tail < 1 {
+        return nowhere();
+    }
+    let addresses = tail + 1;
+    let alen = octets::wide(s[tail]) * c.address_width();
+    if size - addresses < alen {
+        return nowhere();
+    }
+    let after = addresses + alen;
+    if size - after < 2 {
+        return nowhere();
+    }
+    let parameters = after + 2;
+    let plen = octets::get16(s, after);
+    if size - parameters < plen {
+        return nowhere();
+    }
+    Spot {
+        good: true,
+        priority: p.priority,
+        lifetime: p.lifetime,
+        full: true,
+        name: p.name,
+        nlen: p.nlen,
+        addresses,
+        alen,
+        parameters,
+        plen,
+        next: parameters + plen,
+    }
+}
+
+// The record whose first octet stands at `at`.
+pub fn record_at(c: Carrier, s: &[u8], at: usize) -> Spot
+    requires { ⌜ at ≤ length (now s) ⌝ }
+    ensures { λ r. ⌜ r ≡ spotOf c (now (s .entry)) at ⌝ }
+    ensures { λ r. ⌜ Inside (length (now (s .entry))) at r ⌝ }
+    ensures { λ r. ⌜ Sized r ⌝ }
+{
+    let left = s.len() - at;
+    if left < 8 {
+        return nowhere();
+    }
+    let nlen = octets::wide(s[at + 7]);
+    if left - 8 < nlen {
+        return nowhere();
+    }
+    let p = named_at(s, at, nlen);
+    let mode = s[at + 6];
+    if mode == 0 {
+        return p;
+    }
+    if mode == 1 {
+        return full_at(c, s, p);
+    }
+    nowhere()
+}
+
+// Octets of a lifetime: only carrier 3 has one.
+fn lifetime_width(c: Carrier) -> usize
+    ensures { λ r. ⌜ r ≡ lifetimeWidth c ⌝ }
+{
+    match c {
+        Carrier::Dhcp4 => 0,
+        Carrier::Dhcp6 => 0,
+        Carrier::Router => 4,
+        Carrier::Ike4 => 0,
+        Carrier::Ike6 => 0,
+    }
+}
+
+// Whether a lifetime stands where none belongs.
+fn misplaced(c: Carrier, lifetime: usize) -> bool
+    ensures { λ r. ⌜ r ≡ taking.misplaced c lifetime ⌝ }
+{
+    if lifetime_width(c) == 0 {
+        return lifetime != 0;
+    }
+    false
+}
+
+// Whether exactly `count` records follow the head of `s`, by rising priority and with no lifetime where none belongs.
+fn stand(c: Carrier, s: &[u8], count: usize) -> bool
+    requires { ⌜ 7 ≤ length (now s) ⌝ }
+    ensures { λ r. ⌜ r ≡ some (recordsFrom c count 0 (drop 7 (now (s .entry)))) ⌝ }
+{
+    let mut at = sheets::FRONT;
+    let mut least: usize = 0;
+    let mut left = count;
+    while 0 < left {
+        let p = record_at(c, s, at);
+        if !p.good {
+            return false;
+        }
+        if p.priority < least {
+            return false;
+        }
+        if misplaced(c, p.lifetime) {
+            return false;
+        }
+        least = p.priority;
+        at = p.next;
+        left -= 1;
+    }
+    at == s.len()
+}
+
+// Whether two runs of octets are the same.
+fn same(a: &[u8], b: &[u8]) -> bool
+    ensures { λ r. ⌜ r ≡ taking.same (now (a .entry)) (now (b .entry)) ⌝ }
+{
+    if a.len() != b.len() {
+        return false;
+    }
+    let mut i: usize = 0;
+    while i < a.len() {
+        if a[i] != b[i] {
+            return false;
+        }
+        i += 1;
+    }
+    true
+}
+
+// The tests 4 and 43 on what follows the head of a sheet of carrier `c`.
+fn take_records(c: Carrier, s: &[u8], count: usize) -> Took
+    requires { ⌜ 7 ≤ length (now s) ⌝ }
+    ensures { λ r. ⌜ r ≡ tookOf (takeCarrier (Known c) count (drop 7 (now (s .entry)))) ⌝ }
+{
+    if Limit::RECORDS < count {
+        return Took::Refused(Refusal::RECORDS);
+    }
+    if stand(c, s, count) {
+        return Took::Sheet { carrier: c, count };
+    }
+    Took::Refused(Refusal::TILING)
+}
+
+// The tests 2, 40, 41, 42, 4, 43.
+pub fn take(s: &[u8]) -> Took
+    ensures { λ r. ⌜ r ≡ tookOf (takeOf (now (s .entry))) ⌝ }
+{
+    if Limit::INPUT < s.len() {
+        return Took::Refused(Refusal::INPUT);
+    }
+    if s.len() < sheets::FRONT {
+        return Took::Refused(Refusal::SHEET);
+    }
+    let letters = sheets::LETTERS;
+    if !same(&s[..3], &letters) {
+        return Took::Refused(Refusal::SHEET);
+    }
+    if octets::get16(s, 3) != sheets::EDITION {
+        return Took::Refused(Refusal::VERSION);
+    }
+    let chosen = Carrier::of(octets::wide(s[5]));
+    let Chosen::Known(c) = chosen else {
+        return Took::Refused(Refusal::SHEET_CARRIER);
+    };
+    take_records(c, s, octets::wide(s[6]))
+}
