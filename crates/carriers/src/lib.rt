@@ -1,9 +1,9 @@
 // The five carriers (document 01, "Five carriers, by number") and what differs between them as data: option codes as associated
 // constants, header sizes and widths as functions. Lengths in octets and in units of eight are two types that are never mixed
-// (document 01, "Block layouts"); the conversion stands here alone.
+// (document 01, "Block layouts"); they are converted here alone, each way in one function.
 ghost use mathlib.Core.Path.{_≡_};
-ghost use Prim.Native.Nat.{_*_, _<_};
-ghost use Rattle.carriers.specs.Carriers.{chosenOf, numberOf, codeOf, headerOf, addressWidth, lengthWidth, asText};
+ghost use Prim.Native.Nat.{_*_, _/_, _<_};
+ghost use Rattle.carriers.specs.Carriers.{chosenOf, numberOf, codeOf, headerOf, addressWidth, lengthWidth, lifetimeWidth, asText};
 
 pub enum Carrier {
     // 1: DHCPv4 option 162 (RFC 9463 §5).
@@ -37,6 +37,15 @@ pub fn octets_of(e: Eights) -> Octets
 {
     let units = e.0;
     Octets(8 * octets::wide(units))
+}
+
+// The one place where octets become units of eight.
+pub fn eights_of(o: Octets) -> Eights
+    requires { ⌜ o .0 < 2048 ⌝ }
+    ensures { λ r. ⌜ r .0 ≡ o .0 / 8 ⌝ }
+{
+    let n = o.0;
+    Eights((n / 8) as u8)
 }
 
 impl Carrier {
@@ -134,6 +143,19 @@ impl Carrier {
             Carrier::Router => 2,
             Carrier::Ike4 => 1,
             Carrier::Ike6 => 1,
+        }
+    }
+
+    // Octets of a lifetime: only carrier 3 has one.
+    pub fn lifetime_width(self) -> usize
+        ensures { λ r. ⌜ r ≡ lifetimeWidth self ⌝ }
+    {
+        match self {
+            Carrier::Dhcp4 => 0,
+            Carrier::Dhcp6 => 0,
+            Carrier::Router => 4,
+            Carrier::Ike4 => 0,
+            Carrier::Ike6 => 0,
         }
     }
 

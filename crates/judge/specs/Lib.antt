@@ -2,3 +2,4 @@ pub mod Judge
 pub mod Passed
 pub mod JudgeLaws
 pub mod Outcomes
+pub mod Numbered

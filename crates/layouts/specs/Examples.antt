@@ -1,7 +1,7 @@
 -- Options of document 01, "Boundary pieces", by computation, and the sizes of K8 and K9 by law. Assumes nothing.
-use mathlib.Core.Path.{_≡_, refl, ap, _∙_}
+use mathlib.Core.Path.{_≡_, refl, _∙_}
 use mathlib.Core.Bool.{true, false}
-use mathlib.Core.List.{List, [], _∷_, _++_, map}
+use mathlib.Core.List.{List, [], _∷_, _++_}
 use Prim.Native.Nat.{ℕ, _+_}
 use native.Mathlib.Omega.{arith}
 use lib.ListN.{length, length-replicate}
@@ -9,11 +9,9 @@ use Rattle.octets.specs.Numbers.{be, zeros}
 use Rattle.carriers.specs.declared.Carrier.the-variants.{Dhcp6, Router, Ike6}
 use Rattle.texts.specs.Texts.{dotsFrom, textOf}
 use Rattle.blocks.specs.Block.{Fields, layout}
-use Rattle.layouts.specs.Layouts.{ownOption, joinedOf, cutOf}
-use Rattle.layouts.specs.Writable.{fieldsOf, cutOctets}
+use Rattle.layouts.specs.Layouts.{ownOption, joinedOf}
+use Rattle.layouts.specs.Writable.{fieldsOf}
 use Rattle.layouts.specs.LayoutsLaws.{joined-length}
-use Rattle.layouts.specs.Pieces.{pieces}
-use Rattle.layouts.specs.PiecesLaws.{cut-length}
 
 -- doh1.example.com in wire form, and as text
 abbrev N : List ℕ
@@ -30,7 +28,7 @@ P = 0 ∷ 1 ∷ 0 ∷ 4 ∷ 3 ∷ 100 ∷ 111 ∷ 116 ∷ []
 abbrev A : List ℕ
 A = 32 ∷ 1 ∷ 13 ∷ 184 ∷ 1 ∷ 34 ∷ 3 ∷ 0 ∷ 0 ∷ 0 ∷ 0 ∷ 0 ∷ 0 ∷ 0 ∷ 0 ∷ 1 ∷ []
 
--- ---- K1 to K5
+-- ---- K1, K3, K4 and K5
 
 abbrev option1 : List ℕ
 option1 = 0 ∷ 144 ∷ 0 ∷ 48 ∷ 0 ∷ 1 ∷ 0 ∷ 18 ∷ (N ++ (0 ∷ 16 ∷ (A ++ P)))
@@ -38,13 +36,6 @@ option1 = 0 ∷ 144 ∷ 0 ∷ 48 ∷ 0 ∷ 1 ∷ 0 ∷ 18 ∷ (N ++ (0 ∷ 16 �
 k1 : (ownOption Dhcp6 (fieldsOf 1 0 true N A P) ≡ option1) × (length option1 ≡ 52)
 unfolding layout
 k1 = (refl, refl)
-
-abbrev option2 : List ℕ
-option2 = 162 ∷ 23 ∷ 0 ∷ 21 ∷ 0 ∷ 1 ∷ 18 ∷ N
-
-k2 : (cutOf (joinedOf (fieldsOf 1 0 false N [] [] ∷ [])) ≡ option2) × (length option2 ≡ 25)
-unfolding layout cutOf
-k2 = (refl, refl)
 
 abbrev option3 : List ℕ
 option3 = 144 ∷ 4 ∷ 0 ∷ 1 ∷ 0 ∷ 0 ∷ 14 ∷ 16 ∷ 0 ∷ 18 ∷ (N ++ (0 ∷ 0 ∷ 0 ∷ 0 ∷ []))
@@ -72,17 +63,8 @@ long n = fieldsOf 1 0 true N (192 ∷ 0 ∷ 2 ∷ 1 ∷ []) (be 2 65280 ++ (be 2
 long-length : (n : ℕ) → length (joinedOf (long n ∷ [])) ≡ 32 + n
 long-length n = joined-length (long n ∷ []) ∙ omega (arith, length-replicate {A = ℕ} n 0)
 
-k8 : (length (joinedOf (long 268 ∷ [])) ≡ 300) × (length (cutOf (joinedOf (long 268 ∷ []))) ≡ 304)
-k8 = (long-length 268, cut-length (joinedOf (long 268 ∷ [])) ∙ ap cutOctets (long-length 268))
+k8 : length (joinedOf (long 268 ∷ [])) ≡ 300
+k8 = long-length 268
 
-k8-pieces : map length (pieces (joinedOf (long 268 ∷ []))) ≡ 255 ∷ 45 ∷ []
-unfolding layout pieces
-k8-pieces = refl
-
-k9 : (length (joinedOf (long 223 ∷ [])) ≡ 255) × (length (cutOf (joinedOf (long 223 ∷ []))) ≡ 257)
-k9 = (long-length 223, cut-length (joinedOf (long 223 ∷ [])) ∙ ap cutOctets (long-length 223))
-
--- nothing for no records
-none : cutOf (joinedOf []) ≡ []
-unfolding cutOf
-none = refl
+k9 : length (joinedOf (long 223 ∷ [])) ≡ 255
+k9 = long-length 223

@@ -1,9 +1,8 @@
--- The octets of a record's option in each carrier, and of joined instances cut into options 162 (01, Block layouts; "Writing emits records
--- in sheet order"). A record here is as a sheet holds it: the name in wire form. Assumes nothing: these are definitions.
+-- The octets of a record's option in each carrier, and of the joined instances of carrier 1 (01, Block layouts). A record here is as a
+-- sheet holds it: the name in wire form. Assumes nothing: these are definitions.
 use mathlib.Core.Bool.{cond}
-use mathlib.Core.List.{List, [], _++_, map}
-use Prim.Native.Nat.{ℕ, zero, suc, _+_, _/_}
-use lib.ListN.{length, take, drop}
+use mathlib.Core.List.{List, [], map}
+use Prim.Native.Nat.{ℕ}
 use Rattle.octets.specs.Lists.{flat}
 use Rattle.octets.specs.Fields.{putCounted}
 use Rattle.carriers.specs.declared.Carrier.{Carrier}
@@ -35,12 +34,3 @@ instanceOf r = putCounted 2 (layout Dhcp4 r) []
 -- the instances of the records one after another
 abbrev pub joinedOf : List Fields → List ℕ
 joinedOf rs = flat (map instanceOf rs)
-
--- the first n options of joined data: 255 octets each, the last what is left
-abbrev pub piecesOf : ℕ → List ℕ → List ℕ
-piecesOf zero l = []
-piecesOf (suc n) l = optionOf Dhcp4 (take 255 l) ++ piecesOf n (drop 255 l)
-
--- options 162 of 255 octets each and a last one of 1 to 255; nothing for no octets
-unfoldable pub cutOf : List ℕ → List ℕ
-cutOf l = piecesOf ((length l + 254) / 255) l

@@ -67,10 +67,6 @@ abbrev pub joinedOctets : List Fields → ℕ
 joinedOctets [] = 0
 joinedOctets (r ∷ rs) = instanceOctets (r .full) (length (r .name)) (length (r .addresses)) (length (r .parameters)) + joinedOctets rs
 
--- carrier 1: the options of n joined octets
-abbrev pub cutOctets : ℕ → ℕ
-cutOctets n = n + 2 * ((n + 254) / 255)
-
 -- ---- headers
 
 -- code and length have half of the header each

@@ -1,11 +1,10 @@
-// Layouts: a record's option or attribute written into a lent buffer, in each carrier, and carrier 1's joined instances cut into
-// options 162 (document 01, "Block layouts", "Writing emits records in sheet order").
+// Layouts: a record's option, attribute or instance written into a lent buffer, in each carrier (document 01, "Block layouts").
 // A record comes as a sheet holds it, the name in wire form, within the limits. Nothing is judged here: a record that may not be
 // written, or has no room, is kept away by the contracts.
 ghost use mathlib.Core.Path.{_≡_};
 ghost use mathlib.Core.Bool.{true, cond};
 ghost use mathlib.Core.List.{_++_};
-ghost use Prim.Native.Nat.{_+_, _*_, _/_, _^_, _≤_, _<_, min};
+ghost use Prim.Native.Nat.{_+_, _*_, _/_, _^_, _≤_, _<_};
 ghost use lib.ListN.{length};
 ghost use Rattle.octets.specs.Numbers.{be, zeros};
 ghost use Rattle.octets.specs.Over.{Wrote};
@@ -14,14 +13,10 @@ ghost use Rattle.carriers.specs.Carriers.{headerOf, asText};
 ghost use Rattle.blocks.specs.Block.{gap, layout, Fits};
 ghost use Rattle.blocks.specs.Places.{Named};
 ghost use Rattle.frames.specs.Walk.{Plain};
-ghost use Rattle.layouts.specs.Layouts.{carriedOf, ownOption, instanceOf, cutOf};
-ghost use Rattle.layouts.specs.Writable.{fieldsOf, Writable, unpaddedOctets, bodyOctets, optionOctets, instanceOctets, cutOctets, headWidth, lengthIn, headOf};
+ghost use Rattle.layouts.specs.Layouts.{carriedOf, ownOption, instanceOf};
+ghost use Rattle.layouts.specs.Writable.{fieldsOf, Writable, unpaddedOctets, bodyOctets, optionOctets, instanceOctets, headWidth, lengthIn, headOf};
 use carriers::Carrier;
-use carriers::Eights;
 use carriers::Octets;
-
-// The most octets that an option 162 has after its header.
-const PIECE: usize = 255;
 
 // ---- sizes
 
@@ -92,14 +87,6 @@ pub fn instance_size(full: bool, nlen: usize, alen: usize, plen: usize) -> usize
     2 + body_size(Carrier::Dhcp4, full, nlen, alen, plen)
 }
 
-// Octets of the options of n joined octets.
-pub fn cut_size(n: usize) -> usize
-    requires { ⌜ n < 4294967296 ⌝ }
-    ensures { λ r. ⌜ r ≡ cutOctets n ⌝ }
-{
-    n + 2 * ((n + (PIECE - 1)) / PIECE)
-}
-
 // ---- parts
 
 // Writes v in one or two octets at `at`, and returns the index after them.
@@ -135,15 +122,6 @@ fn put_zeros(out: &mut [u8], at: usize, n: usize) -> usize
 
 // ---- headers
 
-// The one place where octets become units of eight.
-fn eights_of(o: Octets) -> Eights
-    requires { ⌜ o .0 < 2048 ⌝ }
-    ensures { λ r. ⌜ r .0 ≡ o .0 / 8 ⌝ }
-{
-    let n = o.0;
-    Eights((n / 8) as u8)
-}
-
 // The length that a header says of a body of `size` octets.
 fn length_in(c: Carrier, size: usize) -> usize
     requires { ⌜ (size < 65536) × (lengthIn c size < 256 ^ headWidth c) ⌝ }
@@ -153,7 +131,7 @@ fn length_in(c: Carrier, size: usize) -> usize
         Carrier::Dhcp4 => size,
         Carrier::Dhcp6 => size,
         Carrier::Router => {
-            let units = eights_of(Octets(size + 2));
+            let units = carriers::eights_of(Octets(size + 2));
             octets::wide(units.0)
         }
         Carrier::Ike4 => size,
@@ -346,30 +324,4 @@ pub fn put_instance(
     let size = body_size(c, full, name.len(), addresses.len(), parameters.len());
     let from = octets::put16(out, at, size);
     put_body(out, from, c, priority, 0, full, name, addresses, parameters)
-}
-
-// ---- joined instances
-
-// The shorter of n and the most that one option has.
-fn piece_size(n: usize) -> usize
-    ensures { λ r. ⌜ r ≡ min 255 n ⌝ }
-{
-    if n < PIECE { n } else { PIECE }
-}
-
-// Writes `joined` as options 162 of 255 octets and a last one of 1 to 255, and returns the index after them.
-pub fn put_cut(out: &mut [u8], at: usize, joined: &[u8]) -> usize
-    requires { ⌜ at + length (cutOf (now joined)) ≤ length (now out) ⌝ }
-    ensures { λ r. ⌜ Wrote at (cutOf (now (joined .entry))) (now (out .entry)) r (now (out .exit)) ⌝ }
-{
-    let mut i = 0;
-    let mut o = at;
-    while i < joined.len() {
-        let n = piece_size(joined.len() - i);
-        let e = i + n;
-        let from = put_header(out, o, Carrier::Dhcp4, n);
-        o = octets::copy(out, from, &joined[i..e]);
-        i = e;
-    }
-    o
 }

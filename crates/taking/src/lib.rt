@@ -10,7 +10,6 @@ ghost use Rattle.taking.specs.Taking as taking;
 ghost use Rattle.taking.specs.Took.{tookOf, some};
 ghost use Rattle.taking.specs.Spot.{namedAt, fullAt, spotOf, Inside, Sized};
 ghost use Rattle.taking.specs.Spot as spot;
-ghost use Rattle.carriers.specs.Carriers.{lifetimeWidth};
 ghost use Rattle.carriers.specs.declared.Chosen.the-variants.{Known};
 use carriers::Carrier;
 use carriers::Chosen;
@@ -148,24 +147,11 @@ pub fn record_at(c: Carrier, s: &[u8], at: usize) -> Spot
     nowhere()
 }
 
-// Octets of a lifetime: only carrier 3 has one.
-fn lifetime_width(c: Carrier) -> usize
-    ensures { λ r. ⌜ r ≡ lifetimeWidth c ⌝ }
-{
-    match c {
-        Carrier::Dhcp4 => 0,
-        Carrier::Dhcp6 => 0,
-        Carrier::Router => 4,
-        Carrier::Ike4 => 0,
-        Carrier::Ike6 => 0,
-    }
-}
-
 // Whether a lifetime stands where none belongs.
 fn misplaced(c: Carrier, lifetime: usize) -> bool
     ensures { λ r. ⌜ r ≡ taking.misplaced c lifetime ⌝ }
 {
-    if lifetime_width(c) == 0 {
+    if c.lifetime_width() == 0 {
         return lifetime != 0;
     }
     false

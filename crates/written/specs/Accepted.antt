@@ -1,0 +1,24 @@
+-- Which sheets writing accepts (01, Evidence on delivery: "a sheet is accepted when writing answers 0 or 5"). Assumes nothing: these are
+-- definitions.
+use mathlib.Core.Path.{_≡_}
+use mathlib.Core.List.{List}
+use Prim.Native.Nat.{ℕ, _+_, _≤_}
+use Rattle.octets.specs.Lists.{All}
+use Rattle.numbers.specs.Limit as limit
+use Rattle.carriers.specs.declared.Carrier.{Carrier}
+use Rattle.carriers.specs.declared.Carrier.the-variants.{Router}
+use Rattle.blocks.specs.Block.{Fields, optionSize, gap}
+use Rattle.judge.specs.declared.Side.the-variants.{Writing}
+use Rattle.judge.specs.Passed.{Passed}
+use Rattle.taking.specs.Sheet.{FitsRecord, IsSheet}
+
+-- a record that writing accepts: it has room in a sheet, none of 21 to 28 is so, nor 44
+pub record Sound (c : Carrier) (r : Fields) : Type 0 where
+  pub fits : FitsRecord c r
+  pub passed : Passed Writing c r
+  pub units : c ≡ Router → optionSize r + gap (optionSize r) ≤ limit.option
+
+-- s is the sheet of carrier c and records rs, and each of these is accepted
+pub record Accepted (s : List ℕ) (c : Carrier) (rs : List Fields) : Type 0 where
+  pub is : IsSheet s c rs
+  pub sound : All (Sound c) rs
