@@ -1,2 +1,5 @@
 pub mod Pieces
 pub mod PiecesLaws
+pub mod Cutting
+pub mod CuttingLaws
+pub mod Examples

@@ -1,8 +1,14 @@
 // Pieces: joined instances as options 162 (document 01, "Writing emits records in sheet order"): 255 octets each and a last one of 1 to
-// 255, nothing for no octets, no code 255.
+// 255, nothing for no octets, no code 255. Joined octets are cut in the buffer where they stand, from the front, so that none is overwritten
+// before it has moved.
 ghost use mathlib.Core.Path.{_≡_};
-ghost use Prim.Native.Nat.{_<_};
-ghost use Rattle.pieces.specs.Pieces.{cutOctets};
+ghost use Prim.Native.Nat.{_+_, _≤_, _<_, min};
+ghost use lib.ListN.{length, take, drop};
+ghost use Rattle.octets.specs.Over.{Wrote};
+ghost use Rattle.carriers.specs.declared.Carrier.the-variants.{Dhcp4};
+ghost use Rattle.frames.specs.Emit.{optionOf};
+ghost use Rattle.pieces.specs.Pieces.{cutOf, cutOctets};
+use carriers::Carrier;
 
 // The most octets that an option 162 has after its header.
 const PIECE: usize = 255;
@@ -13,4 +19,51 @@ pub fn cut_size(n: usize) -> usize
     ensures { λ r. ⌜ r ≡ cutOctets n ⌝ }
 {
     n + 2 * ((n + (PIECE - 1)) / PIECE)
+}
+
+// Octets of the next piece, with `left` octets to come.
+fn piece_size(left: usize) -> usize
+    ensures { λ r. ⌜ r ≡ min 255 left ⌝ }
+{
+    if left < PIECE { left } else { PIECE }
+}
+
+// Moves the n octets at `from` towards the front, to `to`, and returns the index after them there.
+fn move_down(out: &mut [u8], to: usize, from: usize, n: usize) -> usize
+    requires { ⌜ (to ≤ from) × (from + n ≤ length (now out)) ⌝ }
+    ensures { λ r. ⌜ Wrote to (take n (drop from (now (out .entry)))) (now (out .entry)) r (now (out .exit)) ⌝ }
+{
+    let mut i = 0;
+    while i < n {
+        out[to + i] = out[from + i];
+        i += 1;
+    }
+    to + n
+}
+
+// Writes an option at `at` whose body is the n octets that stand at `from`, and returns the index after it.
+fn put_piece(out: &mut [u8], at: usize, from: usize, n: usize) -> usize
+    requires { ⌜ (at + 2 ≤ from) × (from + n ≤ length (now out)) × (n < 256) ⌝ }
+    ensures { λ r. ⌜ Wrote at (optionOf Dhcp4 (take n (drop from (now (out .entry))))) (now (out .entry)) r (now (out .exit)) ⌝ }
+{
+    let at_length = octets::put8(out, at, Carrier::DHCP4 as u8);
+    let body = octets::put8(out, at_length, n as u8);
+    move_down(out, body, from, n)
+}
+
+// The joined octets stand in `out` from `from` on, n of them, with just the room for the headers before them: moves them to the front
+// as options 162, and returns the index after these.
+pub fn cut_within(out: &mut [u8], from: usize, n: usize) -> usize
+    requires { ⌜ from + n ≡ cutOctets n ⌝ }
+    requires { ⌜ from + n ≤ length (now out) ⌝ }
+    ensures { λ r. ⌜ Wrote 0 (cutOf (take n (drop from (now (out .entry))))) (now (out .entry)) r (now (out .exit)) ⌝ }
+{
+    let mut i = 0;
+    let mut o = 0;
+    while i < n {
+        let size = piece_size(n - i);
+        o = put_piece(out, o, from + i, size);
+        i += size;
+    }
+    o
 }

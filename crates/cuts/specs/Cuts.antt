@@ -1,0 +1,34 @@
+-- What reading the part before a cut gives (demand 3: "A cut at an option's end gives, with enough room, exactly the records before it. Any
+-- other cut gives refusal 3, whatever the room"; 01, Evidence on delivery: "After k whole options, k from 0, that reading is done with the
+-- sheet of this carrier and the first k records; found is k, discarded and fault are 0. Enough room is that sheet's length or more").
+-- Assumes nothing: these are definitions.
+use mathlib.Core.Path.{_≡_}
+use mathlib.Core.List.{List}
+use Prim.Native.Nat.{ℕ, _≤_, _<_}
+use lib.ListN.{length, take}
+use Rattle.numbers.specs.Refusal as refusal
+use Rattle.carriers.specs.declared.Carrier.{Carrier}
+use Rattle.carriers.specs.Carriers.{numberOf}
+use Rattle.blocks.specs.Block.{Fields}
+use Rattle.sheets.specs.Sheets.{sheetOf}
+use Rattle.reading.specs.Reading.{Answer, refuse, done, readOf}
+use Rattle.written.specs.Writing.{octetsOf}
+
+-- the octets of the records rs are cut after n of them, and the part before the cut is read under the carrier's number
+abbrev pub readCut : Carrier → List Fields → ℕ → ℕ → Answer
+readCut c rs n room = readOf (numberOf c) (take n (octetsOf c rs)) room
+
+-- n octets are the options of the first k records; a cut after no octet is one of these
+pub record EndOf (c : Carrier) (rs : List Fields) (k n : ℕ) : Type 0 where
+  pub within : k ≤ length rs
+  pub whole : n ≡ length (octetsOf c (take k rs))
+
+-- the reading is done with the first k records, or their sheet has no room
+pub record FirstRead (c : Carrier) (rs : List Fields) (k n room : ℕ) : Type 0 where
+  pub enough : length (sheetOf c (take k rs)) ≤ room → readCut c rs n room ≡ done (record { sheet = sheetOf c (take k rs); found = k; discarded = 0; fault = 0 })
+  pub little : room < length (sheetOf c (take k rs)) → readCut c rs n room ≡ refuse refusal.room
+
+-- a cut is after k whole options, or it is elsewhere, and the room does not matter
+pub data Cut (c : Carrier) (rs : List Fields) (n room : ℕ) : Type 0 where
+  after-options : (k : ℕ) → EndOf c rs k n → FirstRead c rs k n room → Cut c rs n room
+  elsewhere : ((k : ℕ) → EndOf c rs k n → ⊥) → readCut c rs n room ≡ refuse refusal.framing → Cut c rs n room

@@ -1,0 +1,3 @@
+pub mod Cuts
+pub mod ListLaws
+pub mod CutsLaws

@@ -1,0 +1,68 @@
+-- `pieces::cut_within` meets its contract. The loop's invariant: the options of the first i octets stand at the front, and the headers
+-- to come have just the room between these and the octets to come. Assumes nothing.
+use native.Mathlib.Omega.{arith}
+use Prim.Native.Nat.{_-_}
+use Rattle.pieces.specs.Cutting.{Cutting}
+use Rattle.pieces.specs.CuttingLaws.{cutting-start, cutting-room, cutting-turn, cutting-done}
+use Rattle.pieces.proofs.cut_within.Statement.{statement}
+use Rattle.pieces.proofs.cut_within.Tie as tie
+
+abbrev Inv-loop : tie.InvT-loop
+Inv-loop out₀ from n i₀ o₀ out i o = Cutting from n out₀ i o out
+
+abbrev μ-loop : tie.MeasureT-loop
+μ-loop out₀ from n i₀ o₀ out i o = n - i
+
+loop-holds : tie.Need-loop-holds Inv-loop μ-loop
+loop-holds c = cutting-start (c .before .pre .0)
+
+sub-piece-size : tie.Need-sub-piece-size Inv-loop μ-loop
+sub-piece-size c = omega arith
+
+piece-size-requires : tie.Need-piece-size-requires Inv-loop μ-loop
+piece-size-requires c κs = tt
+
+add-put-piece : tie.Need-add-put-piece Inv-loop μ-loop
+add-put-piece c = omega arith
+
+put-piece-requires : tie.Need-put-piece-requires Inv-loop μ-loop
+put-piece-requires c κs =
+    let p = c .before in
+    let k = p .before .before in
+    (cutting-room (p .piece-size .result) (p .piece-size .ensures) (k .loop .inv) (p .before .loop-test .taken), omega arith, omega arith)
+
+add-i : tie.Need-add-i Inv-loop μ-loop
+add-i c = omega arith
+
+loop-less : tie.Need-loop-less Inv-loop μ-loop
+loop-less c = omega arith
+
+loop-again : tie.Need-loop-again Inv-loop μ-loop
+loop-again c =
+    let w = c .before .before in
+    let p = w .before .before in
+    let k = p .before .before in
+    cutting-turn (p .piece-size .result) (p .piece-size .ensures) (k .loop .inv) (p .before .loop-test .taken) (omega arith) (w .put-piece .ensures) (omega arith)
+
+same-length : tie.Need-same-length Inv-loop μ-loop
+same-length c = omega arith
+
+returns : tie.Need-returns Inv-loop μ-loop
+returns c = cutting-done (c .before .loop .inv) (c .loop-test .left)
+
+pub cut-within-spec : {M : Type 1} → statement M
+cut-within-spec =
+    tie.close
+    (tie.spec
+    Inv-loop
+    μ-loop
+    loop-holds
+    sub-piece-size
+    piece-size-requires
+    add-put-piece
+    put-piece-requires
+    add-i
+    loop-less
+    loop-again
+    same-length
+    returns)

@@ -1,0 +1,149 @@
+-- The laws of joined octets cut within a buffer: what stands behind a write is left alone, and the turns of the loops that move a piece
+-- and that write the options. Assumes nothing.
+use mathlib.Core.Path.{_≡_, refl, sym, ap, _∙_}
+use mathlib.Core.List.{List, [], _∷_, _++_, append-assoc, append-nil}
+use Prim.Native.Nat.{ℕ, zero, suc, _+_, _-_, _≤_, _<_, min}
+use native.Mathlib.Nat.{add-zero}
+use native.Mathlib.Numerals.{unary-clauses}
+use native.Mathlib.Omega.{arith}
+use lib.ListN.{length, take, drop, set, getD, length-append, length-take, length-drop, drop-of-length-le}
+use lib.Seq.{take-nil, drop-at, drop-drop, take-take, getD-drop, length-take-le}
+use Rattle.octets.specs.Numbers.{be}
+use Rattle.octets.specs.Over.{over, Wrote}
+use Rattle.octets.specs.OverLaws.{over-take, wrote-none, then}
+use Rattle.carriers.specs.declared.Carrier.the-variants.{Dhcp4}
+use Rattle.carriers.specs.Carriers.{codeOf}
+use Rattle.frames.specs.Emit.{optionOf}
+use Rattle.frames.specs.EmitLaws.{option-length}
+use Rattle.pieces.specs.Pieces.{cutOf, cutOctets}
+use Rattle.pieces.specs.PiecesLaws.{cut-none, cut-step}
+use Rattle.pieces.specs.Cutting.{Cutting}
+
+-- ---- what stands behind a write
+
+pub over-behind : (at k : ℕ) (bs l : List ℕ) → at + length bs ≤ length l → at + length bs ≤ k → drop k (over at bs l) ≡ drop k l
+unfolding over
+over-behind at k bs l h e =
+    let n : ℕ = at + length bs in
+    let front : length (take at l ++ bs) ≡ n = simp (length-append, length-take) (omega arith) in
+    let split : n + (k - n) ≡ k = omega arith in
+    let back : (m : List ℕ) → drop (k - n) (drop n m) ≡ drop k m = λ m. drop-drop (k - n) n m ∙ ap (λ (i : ℕ). drop i m) split in
+    sym (back (take at l ++ bs ++ drop n l)) ∙ ap (λ (m : List ℕ). drop (k - n) m) (drop-at (take at l ++ bs) (drop n l) n front) ∙ back l
+
+pub wrote-behind : {at r : ℕ} {bs l l′ : List ℕ} (k : ℕ) → Wrote at bs l r l′ → r ≤ k → drop k l′ ≡ drop k l
+wrote-behind {at} {r} {bs} {l} {l′} k w h = ap (λ (m : List ℕ). drop k m) (w .laid) ∙ over-behind at k bs l (w .room) (omega (arith, w .next))
+
+-- ---- a turn of the loop that moves a piece: the octet that is read has not been written yet
+
+pub move-turn : (to from i : ℕ) (l out : List ℕ) → to ≤ from → from + i < length l → out ≡ over to (take i (drop from l)) l
+    → set out (to + i) (getD out (from + i) 0) ≡ over to (take (i + 1) (drop from l)) l
+move-turn to from i l out h k e =
+    let d : length (drop from l) ≡ length l - from = length-drop from l in
+    let t : length (take i (drop from l)) ≡ i = length-take-le i (drop from l) (omega arith) in
+    let here : (m : List ℕ) → getD (drop (from + i) m) 0 0 ≡ getD m (from + i) 0 = λ m. getD-drop (from + i) m 0 0 ∙ rw add-zero in
+    let behind : drop (from + i) out ≡ drop (from + i) l = rw e (over-behind to (from + i) (take i (drop from l)) l (omega arith) (omega arith)) in
+    let read : getD out (from + i) 0 ≡ getD (drop from l) i 0 =
+    sym (here out) ∙ ap (λ (m : List ℕ). getD m 0 0) behind ∙ here l ∙ sym (getD-drop from l i 0) in
+    rw (read, e) (over-take to i (drop from l) l (omega arith) (omega arith))
+
+-- ---- an option, by its header and its body
+
+option-written : (n : ℕ) (b : List ℕ) {at i k r : ℕ} {l l₁ l₂ l₃ : List ℕ} → n ≡ length b → Wrote at (be 1 (codeOf Dhcp4)) l i l₁ → Wrote i (be 1 n) l₁ k l₂
+    → Wrote k b l₂ r l₃ → Wrote at (optionOf Dhcp4 b) l r l₃
+option-written n b e x y z = rw e at (then x (then y z))
+
+-- the body stood in the same buffer, behind the header
+pub piece-written : (from n : ℕ) {at i k r : ℕ} {l l₁ l₂ l₃ : List ℕ} → from + n ≤ length l → k ≤ from → Wrote at (be 1 (codeOf Dhcp4)) l i l₁ → Wrote i (be 1 n) l₁ k l₂
+    → Wrote k (take n (drop from l₂)) l₂ r l₃ → Wrote at (optionOf Dhcp4 (take n (drop from l))) l r l₃
+piece-written from n {at} {i} {k} {r} {l} {l₁} {l₂} {l₃} h e x y z =
+    let behind : drop from l₂ ≡ drop from l = wrote-behind from (then x y) e in
+    let size : n ≡ length (take n (drop from l)) = simp (length-take, length-drop) (omega arith) in
+    option-written n (take n (drop from l)) size x y (rw behind at z)
+
+-- ---- what is left
+
+-- no more is taken or dropped than there is
+take-same : (m n : ℕ) (l : List ℕ) → n ≡ min m (length l) → take m l ≡ take n l
+take-same zero zero l e = refl
+take-same zero (suc n) l e = absurd (omega arith)
+take-same (suc m) zero [] e = refl
+take-same (suc m) zero (x ∷ xs) e = absurd (omega arith)
+take-same (suc m) (suc n) [] e = absurd (omega arith)
+take-same (suc m) (suc n) (x ∷ xs) e = ap (λ (r : List ℕ). x ∷ r) (take-same m n xs (omega arith))
+
+drop-same : (m n : ℕ) (l : List ℕ) → n ≡ min m (length l) → drop m l ≡ drop n l
+drop-same zero zero l e = refl
+drop-same zero (suc n) l e = absurd (omega arith)
+drop-same (suc m) zero [] e = refl
+drop-same (suc m) zero (x ∷ xs) e = absurd (omega arith)
+drop-same (suc m) (suc n) [] e = absurd (omega arith)
+drop-same (suc m) (suc n) (x ∷ xs) e = drop-same m n xs (omega arith)
+
+-- what is left of j from i on, with an option of n octets in front
+cut-turn : (j : List ℕ) (i n : ℕ) → i < length j → n ≡ min 255 (length j - i) → cutOf (drop i j) ≡ optionOf Dhcp4 (take n (drop i j)) ++ cutOf (drop (i + n) j)
+cut-turn j i n h e =
+    let d : length (drop i j) ≡ length j - i = length-drop i j in
+    let k : n ≡ min 255 (length (drop i j)) = omega arith in
+    cut-step (drop i j) (omega arith)
+    ∙ ap (λ (t : List ℕ). optionOf Dhcp4 t ++ cutOf (drop 255 (drop i j))) (take-same 255 n (drop i j) k)
+    ∙ ap (λ (d : List ℕ). optionOf Dhcp4 (take n (drop i j)) ++ cutOf d) (drop-same 255 n (drop i j) k ∙ drop-drop n i j)
+
+-- what is left of n elements after i
+drop-take : (i n : ℕ) (l : List ℕ) → drop i (take n l) ≡ take (n - i) (drop i l)
+drop-take zero n l = simp unary-clauses
+drop-take (suc i) zero l = let none : 0 - suc i ≡ 0 = omega arith in rw none
+drop-take (suc i) (suc n) [] = simp take-nil
+drop-take (suc i) (suc n) (x ∷ xs) = simp unary-clauses (drop-take i n xs)
+
+-- k of n elements from an index, after i of them
+part-of : (from n i k : ℕ) (l : List ℕ) → i + k ≤ n → take k (drop i (take n (drop from l))) ≡ take k (drop (from + i) l)
+part-of from n i k l h =
+    ap (λ (m : List ℕ). take k m) (drop-take i n (drop from l)) ∙ take-take k (n - i) (drop i (drop from l)) (omega arith)
+    ∙ ap (λ (m : List ℕ). take k m) (drop-drop i from l)
+
+-- ---- the turns of the loop that writes the options
+
+module _ {from n : ℕ} {out₀ : List ℕ} {i o : ℕ} {out : List ℕ} (k : ℕ) (is : k ≡ min 255 (n - i)) (c : Cutting from n out₀ i o out) (more : i < n) where
+  -- the header of the next option has room before the octets to come
+  pub cutting-room : o + 2 ≤ from + i
+  cutting-room = omega (arith, c .room)
+
+  -- and these stand as they stood
+  cutting-body : take k (drop (from + i) out) ≡ take k (drop i (take n (drop from out₀)))
+  cutting-body =
+      ap (λ (m : List ℕ). take k m) (wrote-behind (from + i) (c .wrote) (omega (arith, cutting-room)))
+      ∙ sym (part-of from n i k out₀ (omega arith))
+
+  cutting-whole : from + n ≤ length out₀ → cutOf (take n (drop from out₀))
+      ≡ (c .passed ++ optionOf Dhcp4 (take k (drop (from + i) out))) ++ cutOf (drop (i + k) (take n (drop from out₀)))
+  cutting-whole h =
+      let j : List ℕ = take n (drop from out₀) in
+      let size : length j ≡ n = simp (length-take, length-drop) (omega arith) in
+      c .whole ∙ ap (λ (r : List ℕ). c .passed ++ r) (cut-turn j i k (omega arith) (omega arith))
+      ∙ sym (append-assoc (c .passed) (optionOf Dhcp4 (take k (drop i j))) (cutOf (drop (i + k) j)))
+      ∙ ap (λ (b : List ℕ). (c .passed ++ optionOf Dhcp4 b) ++ cutOf (drop (i + k) j)) (sym cutting-body)
+
+  -- the next option, written
+  pub cutting-turn : {o′ : ℕ} {out′ : List ℕ} → from + n ≤ length out₀ → Wrote o (optionOf Dhcp4 (take k (drop (from + i) out))) out o′ out′
+      → length out′ ≡ length out → Cutting from n out₀ (i + k) o′ out′
+  cutting-turn h w l =
+      let b : List ℕ = take k (drop (from + i) out) in
+      let size : length b ≡ k = simp (length-take, length-drop) (omega (arith, c .same)) in
+      record {
+        passed = c .passed ++ optionOf Dhcp4 b;
+        within = omega arith;
+        wrote = then (c .wrote) w;
+        whole = cutting-whole h;
+        room = omega (arith, c .room, w .next, option-length Dhcp4 b);
+        same = l ∙ c .same;
+      }
+
+pub cutting-start : {from n : ℕ} {out₀ : List ℕ} → from + n ≡ cutOctets n → Cutting from n out₀ 0 0 out₀
+cutting-start h = record { passed = []; within = omega arith; wrote = wrote-none (omega arith); whole = refl; room = omega arith; same = refl }
+
+pub cutting-done : {from n : ℕ} {out₀ : List ℕ} {i o : ℕ} {out : List ℕ} → Cutting from n out₀ i o out → n ≤ i → Wrote 0 (cutOf (take n (drop from out₀))) out₀ o out
+cutting-done {from} {n} {out₀} {i} {o} {out} c h =
+    let j : List ℕ = take n (drop from out₀) in
+    let size : length j ≤ i = simp length-take (omega arith) in
+    let e : cutOf j ≡ c .passed = c .whole ∙ rw (drop-of-length-le j size, cut-none) (append-nil (c .passed)) in
+    rw e (c .wrote)

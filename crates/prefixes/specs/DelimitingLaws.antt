@@ -1,0 +1,89 @@
+-- Where octets say where they end, lists lead each other exactly if their octets do; and the parts of which such octets are made: numbers of
+-- a width, octets after their count, bodies after their header. Assumes nothing.
+use mathlib.Core.Path.{_≡_, refl, sym, ap, ap₂, _∙_}
+use mathlib.Core.Logic.{_↔_}
+use mathlib.Core.List.{List, [], _∷_, _++_, map, map-append, append-assoc, append-cancel-left}
+use Prim.Native.Nat.{ℕ, _^_, _<_}
+use native.Mathlib.Omega.{arith}
+use lib.ListN.{length, take, drop, length-append}
+use lib.Seq.{take-at, drop-at}
+use Rattle.octets.specs.Numbers.{be, val}
+use Rattle.octets.specs.NumbersLaws.{length-be, val-be}
+use Rattle.octets.specs.Lists.{All, flat}
+use Rattle.octets.specs.ListsLaws.{flat-append}
+use Rattle.octets.specs.Fields.{putCounted}
+use Rattle.carriers.specs.declared.Carrier.{Carrier}
+use Rattle.carriers.specs.declared.Carrier.the-variants.{Dhcp4, Dhcp6, Router, Ike4, Ike6}
+use Rattle.carriers.specs.Carriers.{codeOf}
+use Rattle.frames.specs.Emit.{optionOf, Fits}
+use Rattle.layouts.specs.Writable.{headWidth, lengthIn, headOf}
+use Rattle.layouts.specs.LayoutsLaws.{option-head, head-fits}
+use Rattle.prefixes.specs.Prefix.{Leading, SelfDelimiting}
+
+-- ---- lists of what is encoded
+
+module _ {A : Type 0} (P : A → Type 0) (e : A → List ℕ) where
+  leads-flat : (l m : List A) → Leading l m → Leading (flat (map e l)) (flat (map e m))
+  leads-flat l m (t, q) = (flat (map e t), ap (λ (n : List A). flat (map e n)) q ∙ ap flat (map-append e l t) ∙ flat-append (map e l) (map e t))
+
+  module _ (some : (a : A) → P a → 0 < length (e a)) (apart : SelfDelimiting P e) where
+    flat-leads : (l m : List A) → All P l → All P m → Leading (flat (map e l)) (flat (map e m)) → Leading l m
+    flat-leads [] m h k q = (m, refl)
+    flat-leads (a ∷ l) [] h k (t, q) =
+        let none : 0 ≡ length (e a ++ flat (map e l) ++ t) = ap length q in
+        let s = some a (h .0) in
+        absurd (omega (arith, length-append (e a ++ flat (map e l)) t, length-append (e a) (flat (map e l))))
+    flat-leads (a ∷ l) (b ∷ m) h k (t, q) =
+        let both = apart b a (flat (map e m)) (flat (map e l) ++ t) (k .0) (h .0) (q ∙ append-assoc (e a) (flat (map e l)) t) in
+        let r = flat-leads l m (h .1) (k .1) (t, both .1) in
+        (r .0, ap₂ (λ (x : A) (xs : List A). x ∷ xs) (both .0) (r .1))
+
+    -- where an encoding is never empty and says where it ends, octets lead octets exactly if the lists do
+    pub flat-exactly : (l m : List A) → All P l → All P m → Leading (flat (map e l)) (flat (map e m)) ↔ Leading l m
+    flat-exactly l m h k = (flat-leads l m h k, leads-flat l m)
+
+-- ---- parts that say where they end
+
+-- octets, as many as the others
+pub part-apart : (a b x y : List ℕ) → length a ≡ length b → a ++ x ≡ b ++ y → (a ≡ b) × (x ≡ y)
+part-apart a b x y e q = (
+  sym (take-at a x (length a) refl) ∙ ap (take (length a)) q ∙ take-at b y (length a) (sym e),
+  sym (drop-at a x (length a) refl) ∙ ap (drop (length a)) q ∙ drop-at b y (length a) (sym e),
+)
+
+-- a number of w octets
+pub number-apart : (w m n : ℕ) (x y : List ℕ) → m < 256 ^ w → n < 256 ^ w → be w m ++ x ≡ be w n ++ y → (m ≡ n) × (x ≡ y)
+number-apart w m n x y hm hn q =
+    let both = part-apart (be w m) (be w n) x y (length-be w m ∙ sym (length-be w n)) q in
+    (sym (val-be w m hm) ∙ ap val (both .0) ∙ val-be w n hn, both .1)
+
+-- octets after their count, a number of w octets
+pub counted-apart : (w : ℕ) (a b x y : List ℕ) → length a < 256 ^ w → length b < 256 ^ w → putCounted w a x ≡ putCounted w b y → (a ≡ b) × (x ≡ y)
+counted-apart w a b x y ha hb q =
+    let both = number-apart w (length a) (length b) (a ++ x) (b ++ y) ha hb q in
+    part-apart a b x y (both .0) (both .1)
+
+-- a header says how many octets follow; in carrier 3 in units of eight, and what follows is 6 more than a multiple of 8
+said-length : (c : Carrier) (a b : List ℕ) → Fits c a → Fits c b → lengthIn c (length a) ≡ lengthIn c (length b) → length a ≡ length b
+said-length Dhcp4 a b f g e = e
+said-length Dhcp6 a b f g e = e
+said-length Router a b f g e = omega arith
+said-length Ike4 a b f g e = e
+said-length Ike6 a b f g e = e
+
+option-open : (c : Carrier) (b x : List ℕ) → optionOf c b ++ x ≡ be (headWidth c) (codeOf c) ++ (be (headWidth c) (lengthIn c (length b)) ++ (b ++ x))
+option-open c b x =
+    ap (λ (l : List ℕ). l ++ x) (option-head c b)
+    ∙ append-assoc (headOf c (length b)) b x
+    ∙ append-assoc (be (headWidth c) (codeOf c)) (be (headWidth c) (lengthIn c (length b))) (b ++ x)
+
+-- bodies that their header can say, each after it
+pub option-apart : (c : Carrier) → SelfDelimiting (Fits c) (optionOf c)
+option-apart c a b x y f g q =
+    let w : ℕ = headWidth c in
+    let m : ℕ = lengthIn c (length a) in
+    let n : ℕ = lengthIn c (length b) in
+    let same : be w m ++ (a ++ x) ≡ be w n ++ (b ++ y) =
+    append-cancel-left (be w (codeOf c)) (be w m ++ (a ++ x)) (be w n ++ (b ++ y)) (sym (option-open c a x) ∙ q ∙ option-open c b y) in
+    let both = number-apart w m n (a ++ x) (b ++ y) (head-fits c a f .1) (head-fits c b g .1) same in
+    part-apart a b x y (said-length c a b f g (both .0)) (both .1)

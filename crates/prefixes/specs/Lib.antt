@@ -1,0 +1,3 @@
+pub mod Prefix
+pub mod DelimitingLaws
+pub mod PrefixLaws

@@ -1,0 +1,13 @@
+-- Leading parts, of octets and of records alike (demand 3: "The octets defined for the first are a leading part of the second's exactly
+-- when the first sheet's records are the first records of the second, in order"). Assumes nothing: these are definitions.
+use mathlib.Core.Path.{_≡_}
+use mathlib.Core.List.{List, _++_}
+use Prim.Native.Nat.{ℕ}
+
+-- b begins with a; something may follow, or nothing
+abbrev pub Leading : {A : Type 0} → List A → List A → Type 0
+Leading {A} a b = (rest : List A) × (b ≡ a ++ rest)
+
+-- the octets e of what P holds of say where they end: two of them, each with anything after it, are alike only if both parts are
+abbrev pub SelfDelimiting : {A : Type 0} → (A → Type 0) → (A → List ℕ) → Type 0
+SelfDelimiting {A} P e = (a b : A) (x y : List ℕ) → P a → P b → e a ++ x ≡ e b ++ y → (a ≡ b) × (x ≡ y)

@@ -1,0 +1,101 @@
+-- Carrier 1: accepted records come back from their joined instances, cut into options. Assumes nothing.
+use mathlib.Core.Path.{_≡_, refl, ap, ap₂, _∙_}
+use mathlib.Core.List.{List, [], _∷_, _++_, map, append-nil}
+use Prim.Native.Nat.{ℕ, suc, _+_, _-_, _≤_, _<_}
+use native.Mathlib.Omega.{arith}
+use lib.ListN.{length, take, drop, length-append}
+use lib.Seq.{take-at, drop-at}
+use Rattle.octets.specs.Numbers.{at16}
+use Rattle.octets.specs.Lists.{All, flat}
+use Rattle.octets.specs.Fields.{putCounted}
+use Rattle.carriers.specs.declared.Carrier.the-variants.{Dhcp4}
+use Rattle.frames.specs.Frame.{Framed, frame, joined}
+use Rattle.blocks.specs.Block.{Fields}
+use Rattle.records.specs.Records.{outcomeOf}
+use Rattle.reading.specs.Reading.{yields, ahead, instancesFrom, yieldOf, readFramed, readBlocks}
+use Rattle.reading.specs.InstanceLaws.{instance-whole, joined-some}
+use Rattle.taking.specs.Sheet.{NoneFalls}
+use Rattle.pieces.specs.Pieces.{pieces}
+use Rattle.pieces.specs.PiecesLaws.{pieces-flat, frame-cut}
+use Rattle.layouts.specs.Layouts.{joinedOf}
+use Rattle.layouts.specs.LayoutsLaws.{writable-body}
+use Rattle.written.specs.Writing.{octetsOf}
+use Rattle.written.specs.Accepted.{Sound}
+use Rattle.written.specs.AcceptedLaws.{writable}
+use Rattle.roundtrip.specs.Returns.{bodyOf, Brings, answerKept}
+use Rattle.roundtrip.specs.RecordReturns.{record-returns, brings-answer}
+use Rattle.roundtrip.specs.RoundTrip.{blocksIn}
+
+-- ---- instances
+
+-- the length that stands first is that of the body after it
+counted-size : (x l : List ℕ) → length x < 65536 → length x ≡ at16 (putCounted 2 x l) 0
+counted-size x l h = omega arith
+
+-- a body after its length, and what follows
+instance-ahead : (x l : List ℕ) → length x < 65536 → instancesFrom 0 (putCounted 2 x l) ≡ ahead (outcomeOf Dhcp4 x) (instancesFrom 0 l)
+instance-ahead x l h =
+    let s : List ℕ = putCounted 2 x l in
+    let n : ℕ = length x in
+    let long : length s ≡ 2 + n + length l = simp length-append (omega arith) in
+    let size : 0 + 2 + n - (0 + 2) ≡ n = omega arith in
+    let past : 0 + 2 + n ≡ suc (suc n) = omega arith in
+    instance-whole s 0 (omega arith) n (counted-size x l h) (omega arith) (omega arith)
+    ∙ ap₂ (λ (b r : List ℕ). ahead (outcomeOf Dhcp4 b) (instancesFrom 0 r))
+    (ap (λ (m : ℕ). take m (x ++ l)) size ∙ take-at x l n refl)
+    (ap (λ (m : ℕ). drop m s) past ∙ drop-at x l n refl)
+
+counted-ahead : (x l : List ℕ) → putCounted 2 x [] ++ l ≡ putCounted 2 x l
+counted-ahead x l = rw (append-nil x)
+
+-- accepted records come back from their instances, one after another
+pub instances-return : (rs : List Fields) → All (Sound Dhcp4) rs → instancesFrom 0 (joinedOf rs) ≡ yields rs
+unfolding instancesFrom
+instances-return [] s = refl
+instances-return (r ∷ rs) s =
+    let x : List ℕ = bodyOf Dhcp4 r in
+    let small : length x < 65536 = omega (arith, writable-body Dhcp4 r (writable Dhcp4 r (s .0))) in
+    ap (instancesFrom 0) (counted-ahead x (joinedOf rs))
+    ∙ instance-ahead x (joinedOf rs) small
+    ∙ ap₂ ahead (record-returns Dhcp4 r (s .0)) (instances-return rs (s .1))
+
+-- ---- the one block
+
+joined-flat : (bs : List (List ℕ)) → 0 < length (flat bs) → joined bs ≡ flat bs ∷ []
+joined-flat [] h = absurd (omega arith)
+joined-flat (b ∷ bs) h = refl
+
+-- the block of the options that joined octets are cut into: these octets, if there are some
+pub joined-pieces : (l : List ℕ) → 0 < length l → joined (pieces l) ≡ l ∷ []
+joined-pieces l h =
+    let same : flat (pieces l) ≡ l = pieces-flat l in
+    joined-flat (pieces l) (rw same h) ∙ ap (λ (b : List ℕ). b ∷ []) same
+
+-- and none of no octets
+pub joined-none : joined (pieces []) ≡ []
+unfolding pieces
+joined-none = refl
+
+-- one block brings the records, where there are some
+joined-brings : (rs : List Fields) → All (Sound Dhcp4) rs → 0 < length (joinedOf rs) → Brings (map (yieldOf Dhcp4) (joinedOf rs ∷ [])) rs
+joined-brings rs sound some =
+    let all : yieldOf Dhcp4 (joinedOf rs) ≡ yields rs = joined-some (joinedOf rs) (λ z. omega arith) ∙ instances-return rs sound in
+    rw all (record { arrive = append-nil rs; none-discarded = refl; faultless = refl })
+
+joined-answer : (rs : List Fields) (room : ℕ) → All (Sound Dhcp4) rs → NoneFalls 0 rs → length rs ≤ 16
+    → readBlocks Dhcp4 (joined (pieces (joinedOf rs))) room ≡ answerKept Dhcp4 rs (blocksIn Dhcp4 rs) room
+joined-answer [] room sound rising few =
+    ap (λ (bs : List (List ℕ)). readBlocks Dhcp4 bs room) joined-none
+    ∙ brings-answer Dhcp4 [] [] room (record { arrive = refl; none-discarded = refl; faultless = refl }) rising few
+joined-answer (r ∷ rs) room sound rising few =
+    let l : List ℕ = joinedOf (r ∷ rs) in
+    let some : 0 < length l = omega arith in
+    ap (λ (bs : List (List ℕ)). readBlocks Dhcp4 bs room) (joined-pieces l some)
+    ∙ brings-answer Dhcp4 (l ∷ []) (r ∷ rs) room (joined-brings (r ∷ rs) sound some) rising few
+
+-- accepted records come back from the options that their joined instances are cut into
+pub cut-answer : (rs : List Fields) (room : ℕ) → All (Sound Dhcp4) rs → NoneFalls 0 rs → length rs ≤ 16
+    → readFramed Dhcp4 (frame Dhcp4 (octetsOf Dhcp4 rs)) room ≡ answerKept Dhcp4 rs (blocksIn Dhcp4 rs) room
+unfolding octetsOf
+cut-answer rs room sound rising few =
+    ap (λ (f : Framed). readFramed Dhcp4 f room) (frame-cut (joinedOf rs)) ∙ joined-answer rs room sound rising few

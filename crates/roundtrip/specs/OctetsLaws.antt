@@ -1,0 +1,75 @@
+-- The octets defined for accepted records: how many they are at most, and what they are framed to in carriers 2 to 5. Assumes nothing.
+use mathlib.Core.Path.{_≡_, refl, ap, _∙_}
+use mathlib.Core.List.{List, [], _∷_, _++_, map}
+use Prim.Native.Nat.{ℕ, _*_, _≤_}
+use native.Mathlib.Omega.{arith}
+use lib.ListN.{length, length-append}
+use Rattle.octets.specs.Lists.{All, flat}
+use Rattle.numbers.specs.Limit as limit
+use Rattle.carriers.specs.declared.Carrier.{Carrier}
+use Rattle.carriers.specs.declared.Carrier.the-variants.{Dhcp4, Dhcp6, Router, Ike4, Ike6}
+use Rattle.frames.specs.Frame.{frame, framed}
+use Rattle.frames.specs.Emit as emit
+use Rattle.frames.specs.EmitLaws.{option-length, frame-options}
+use Rattle.frames.specs.Walk.{Plain}
+use Rattle.blocks.specs.Block.{Fields}
+use Rattle.pieces.specs.PiecesLaws.{cut-length}
+use Rattle.layouts.specs.Layouts.{ownOption, instanceOf, joinedOf}
+use Rattle.layouts.specs.LayoutsLaws.{header-small, writable-body, writable-emits}
+use Rattle.written.specs.Writing.{octetsOf}
+use Rattle.written.specs.Accepted.{Sound}
+use Rattle.written.specs.AcceptedLaws.{writable}
+use Rattle.roundtrip.specs.Returns.{bodyOf, bodiesOf}
+
+-- ---- at most 2,325 octets a record
+
+-- lists of at most m elements each, one after another
+flat-few : {A : Type 0} (f : A → List ℕ) (P : A → Type 0) (m : ℕ) (l : List A) → ((x : A) → P x → length (f x) ≤ m) → All P l
+    → length (flat (map f l)) ≤ length l * m
+flat-few f P m [] each h = omega arith
+flat-few f P m (x ∷ l) each h =
+    omega (arith, length-append (f x) (flat (map f l)), each x (h .0), flat-few f P m l each (h .1))
+
+option-few : (c : Carrier) (r : Fields) → Sound c r → length (ownOption c r) ≤ 2325
+option-few c r s = omega (arith, option-length c (bodyOf c r), header-small c, writable-body c r (writable c r s))
+
+instance-few : (r : Fields) → Sound Dhcp4 r → length (instanceOf r) ≤ 2323
+instance-few r s = omega (arith, length-append (bodyOf Dhcp4 r) [], writable-body Dhcp4 r (writable Dhcp4 r s))
+
+options-few : (c : Carrier) (rs : List Fields) → All (Sound c) rs → length rs ≤ 16 → length (flat (map (ownOption c) rs)) ≤ limit.input
+options-few c rs s few = omega (arith, flat-few (ownOption c) (Sound c) 2325 rs (option-few c) s)
+
+joined-few : (rs : List Fields) → All (Sound Dhcp4) rs → length rs ≤ 16 → length (joinedOf rs) ≤ 37168
+joined-few rs s few = omega (arith, flat-few instanceOf (Sound Dhcp4) 2323 rs instance-few s)
+
+-- the octets of 16 accepted records are within the limit of input
+pub octets-few : (c : Carrier) (rs : List Fields) → All (Sound c) rs → length rs ≤ 16 → length (octetsOf c rs) ≤ limit.input
+unfolding octetsOf
+octets-few Dhcp4 rs s few = omega (arith, cut-length (joinedOf rs), joined-few rs s few)
+octets-few Dhcp6 rs s few = options-few Dhcp6 rs s few
+octets-few Router rs s few = options-few Router rs s few
+octets-few Ike4 rs s few = options-few Ike4 rs s few
+octets-few Ike6 rs s few = options-few Ike6 rs s few
+
+-- ---- carriers 2 to 5: an option for each body
+
+options-bodies : (c : Carrier) (rs : List Fields) → flat (map (ownOption c) rs) ≡ emit.optionsOf c (bodiesOf c rs)
+options-bodies c [] = refl
+options-bodies c (r ∷ rs) = ap (λ (l : List ℕ). ownOption c r ++ l) (options-bodies c rs)
+
+pub plain-octets : (c : Carrier) → Plain c → (rs : List Fields) → octetsOf c rs ≡ emit.optionsOf c (bodiesOf c rs)
+unfolding octetsOf
+plain-octets Dhcp4 p rs = absurd p
+plain-octets Dhcp6 p rs = options-bodies Dhcp6 rs
+plain-octets Router p rs = options-bodies Router rs
+plain-octets Ike4 p rs = options-bodies Ike4 rs
+plain-octets Ike6 p rs = options-bodies Ike6 rs
+
+-- each body's length can be said in its header
+pub bodies-emit : (c : Carrier) → Plain c → (rs : List Fields) → All (Sound c) rs → All (emit.Fits c) (bodiesOf c rs)
+bodies-emit c p [] s = tt
+bodies-emit c p (r ∷ rs) s = (writable-emits c r p (writable c r (s .0)), bodies-emit c p rs (s .1))
+
+-- so the octets are framed to the bodies
+pub plain-framed : (c : Carrier) → Plain c → (rs : List Fields) → All (Sound c) rs → frame c (octetsOf c rs) ≡ framed (bodiesOf c rs)
+plain-framed c p rs s = ap (frame c) (plain-octets c p rs) ∙ frame-options c (bodiesOf c rs) (bodies-emit c p rs s)

@@ -1,0 +1,187 @@
+-- A record that writing accepts comes back from its body, in every carrier; so do records from their blocks in carriers 2 to 5.
+-- Assumes nothing.
+use mathlib.Core.Path.{_≡_, refl, sym, ap, ap₂, _∙_}
+use mathlib.Core.Bool.{Bool, true, false, cond}
+use mathlib.Core.List.{List, [], _∷_, map}
+use Prim.Native.Nat.{ℕ, _*_, _/_, _≤_, _<_}
+use native.Mathlib.Nat.{zero-mul, div-add-mod'}
+use native.Mathlib.Omega.{arith}
+use borrow.Author.Tests.{ne-eqb, lt-ltb, le-ltb}
+use lib.ListN.{length, length-map}
+use Rattle.octets.specs.Lists.{All}
+use Rattle.numbers.specs.Refusal as refusal
+use Rattle.numbers.specs.Limit as limit
+use Rattle.carriers.specs.declared.Carrier.{Carrier}
+use Rattle.carriers.specs.declared.Carrier.the-variants.{Dhcp4, Dhcp6, Router, Ike4, Ike6}
+use Rattle.carriers.specs.Carriers.{addressWidth, asText}
+use Rattle.names.specs.declared.Name.the-variants.{Good}
+use Rattle.names.specs.Names.{IsName}
+use Rattle.names.specs.Wire.{nameCheck}
+use Rattle.names.specs.Exact as names
+use Rattle.texts.specs.Texts.{textOf, wireOf}
+use Rattle.texts.specs.TextCheck.{textCheck}
+use Rattle.texts.specs.Complete.{good-complete}
+use Rattle.texts.specs.Convert.{wire-text, text-of-wire}
+use Rattle.addresses.specs.Addresses.{listOf, keptOf}
+use Rattle.addresses.specs.AddressesLaws.{wide-some, list-length, none-dropped, none-dropped-flat, kept-end}
+use Rattle.frames.specs.Frame.{framed, blocksOf}
+use Rattle.frames.specs.Walk.{Plain}
+use Rattle.blocks.specs.Block.{Fields}
+use Rattle.blocks.specs.Exactly.{parse-layout}
+use Rattle.order.specs.Order.{Leads, Sorted}
+use Rattle.order.specs.OrderLaws.{sort-of-sorted}
+use Rattle.judge.specs.declared.Side.the-variants.{Reading, Writing}
+use Rattle.judge.specs.Passed.{PassedTail, Passed}
+use Rattle.judge.specs.JudgeLaws.{carrier-width, passed-fault, written-name}
+use Rattle.records.specs.Records.{kept, outcomeOf, staying, keepOf}
+use Rattle.records.specs.RecordsLaws.{kept-outcome}
+use Rattle.sheets.specs.Sheets.{sheetOf}
+use Rattle.reading.specs.Reading.{yields, single, yieldOf, inOrder, refuse, done, readBlocks, readFramed}
+use Rattle.taking.specs.Sheet.{NoneFalls}
+use Rattle.layouts.specs.Layouts.{carriedOf}
+use Rattle.layouts.specs.LayoutsLaws.{writable-fits}
+use Rattle.written.specs.Accepted.{Sound}
+use Rattle.written.specs.AcceptedLaws.{writable}
+use Rattle.roundtrip.specs.Returns.{bodyOf, bodiesOf, Brings, allKept, answerKept}
+
+-- ---- a name, as the carrier has it
+
+name-read : (text : Bool) (name : List ℕ) → IsName name → let carried : List ℕ = cond text (textOf name) name in
+    cond text (textCheck carried) (nameCheck carried) ≡ Good
+name-read true name n = good-complete (textOf name) (text-of-wire name n)
+name-read false name n = names.good name .1 n
+
+name-back : (text : Bool) (name : List ℕ) → IsName name → let carried : List ℕ = cond text (textOf name) name in
+    cond text (wireOf carried) carried ≡ name
+name-back true name n = wire-text name n
+name-back false name n = refl
+
+-- ---- addresses of w octets, none of them to be dropped
+
+-- one is left at least, for there are some
+tail-read : (w : ℕ) (a p : List ℕ) → PassedTail Writing w a p → PassedTail Reading w a p
+tail-read w a p t =
+    let stay : keptOf w (listOf w a) ≡ listOf w a = none-dropped w (listOf w a) (t .usable) in
+    let count : length (keptOf w (listOf w a)) ≡ length a / w = ap length stay ∙ list-length w a in
+    let none : length a / w ≡ 0 → length a ≡ 0 = λ z. (
+    let product : length a / w * w ≡ 0 = ap (λ (n : ℕ). n * w) z ∙ zero-mul w in
+    omega (arith, div-add-mod' (length a) w, t .whole)) in
+    record {
+      some = t .some;
+      whole = t .whole;
+      few = t .few;
+      short = t .short;
+      usable = ne-eqb (length (keptOf w (listOf w a))) 0 (λ z. omega (arith, none (sym count ∙ z), t .some));
+      sound = t .sound;
+    }
+
+-- ---- a record
+
+module _ (c : Carrier) (r : Fields) (s : Sound c r) where
+  named : IsName (r .name)
+  named = written-name c (r .name) (s .passed .named)
+
+  -- what passes when written passes when read
+  read-passed : Passed Reading c (carriedOf c r)
+  read-passed =
+      record {
+        service = s .passed .service;
+        named = name-read (asText c) (r .name) named;
+        tail = λ u. tail-read (addressWidth c) (r .addresses) (r .parameters) (s .passed .tail u);
+        name-only = s .passed .name-only;
+      }
+
+  -- no address is dropped
+  addresses-stay : staying (addressWidth c) (r .addresses) ≡ r .addresses
+  addresses-stay = go (r .full) refl
+    where
+      go : (full : Bool) → r .full ≡ full → staying (addressWidth c) (r .addresses) ≡ r .addresses
+      go true u = let t = s .passed .tail u in none-dropped-flat (addressWidth c) (r .addresses) (t .whole) (t .usable)
+      go false u = rw (writable c r s .name-only u .0) (rw (kept-end (addressWidth c) [] 0 (wide-some (carrier-width c))))
+
+  keep-carried : keepOf c (carriedOf c r) ≡ r
+  keep-carried =
+      ap₂ (λ (name addresses : List ℕ). record {
+        priority = r .priority;
+        lifetime = r .lifetime;
+        full = r .full;
+        name = name;
+        addresses = addresses;
+        parameters = r .parameters;
+      }) (name-back (asText c) (r .name) named) addresses-stay
+
+-- an accepted record comes back from its body
+pub record-returns : (c : Carrier) (r : Fields) → Sound c r → outcomeOf c (bodyOf c r) ≡ kept r
+record-returns c r s =
+    let f : Fields = carriedOf c r in
+    kept-outcome c (bodyOf c r) r f
+    (parse-layout c f (writable-fits c r (writable c r s)))
+    (passed-fault Reading c f (read-passed c r s))
+    (sym (keep-carried c r s))
+
+-- ---- what blocks that are all kept give
+
+rising-leads : (k : ℕ) (rs : List Fields) → NoneFalls k rs → Leads (λ (r : Fields). r .priority) k rs
+rising-leads k [] h = tt
+rising-leads k (r ∷ rs) h = h .0
+
+rising-sorted : (k : ℕ) (rs : List Fields) → NoneFalls k rs → Sorted (λ (r : Fields). r .priority) rs
+rising-sorted k [] h = tt
+rising-sorted k (r ∷ rs) h = (rising-leads (r .priority) rs (h .1), rising-sorted (r .priority) rs (h .1))
+
+-- records by rising priority stay as they arrive
+pub rising-order : (rs : List Fields) → NoneFalls 0 rs → inOrder rs ≡ rs
+rising-order rs h = sort-of-sorted (λ (r : Fields). r .priority) rs (rising-sorted 0 rs h)
+
+module _ (c : Carrier) (rs : List Fields) (found room : ℕ) where
+  pub kept-room : length (sheetOf c rs) ≤ room → answerKept c rs found room ≡ done (allKept c rs found)
+  kept-room h = rw (le-ltb room (length (sheetOf c rs)) h)
+
+  pub kept-no-room : room < length (sheetOf c rs) → answerKept c rs found room ≡ refuse refusal.room
+  kept-no-room h = rw (lt-ltb room (length (sheetOf c rs)) h)
+
+-- 16 records or fewer, by rising priority, are answered as they arrive
+pub brings-answer : (c : Carrier) (blocks : List (List ℕ)) (rs : List Fields) (room : ℕ) → Brings (map (yieldOf c) blocks) rs → NoneFalls 0 rs
+    → length rs ≤ 16 → readBlocks c blocks room ≡ answerKept c rs (length blocks) room
+brings-answer c blocks rs room b rising few =
+    rw (b .arrive, b .none-discarded, b .faultless, le-ltb limit.records (length rs) few, rising-order rs rising)
+
+-- ---- carriers 2 to 5
+
+plain-yield : (c : Carrier) → Plain c → (b : List ℕ) → yieldOf c b ≡ single (outcomeOf c b)
+plain-yield Dhcp4 p b = absurd p
+plain-yield Dhcp6 p b = refl
+plain-yield Router p b = refl
+plain-yield Ike4 p b = refl
+plain-yield Ike6 p b = refl
+
+plain-blocks : (c : Carrier) → Plain c → (bs : List (List ℕ)) → blocksOf c bs ≡ bs
+plain-blocks Dhcp4 p bs = absurd p
+plain-blocks Dhcp6 p bs = refl
+plain-blocks Router p bs = refl
+plain-blocks Ike4 p bs = refl
+plain-blocks Ike6 p bs = refl
+
+module _ (c : Carrier) (plain : Plain c) where
+  body-yields : (r : Fields) → Sound c r → yieldOf c (bodyOf c r) ≡ yields (r ∷ [])
+  body-yields r s = plain-yield c plain (bodyOf c r) ∙ ap single (record-returns c r s)
+
+  -- the blocks of accepted records bring them
+  pub bodies-bring : (rs : List Fields) → All (Sound c) rs → Brings (map (yieldOf c) (bodiesOf c rs)) rs
+  bodies-bring [] s = record { arrive = refl; none-discarded = refl; faultless = refl }
+  bodies-bring (r ∷ rs) s =
+      let more = bodies-bring rs (s .1) in
+      rw (body-yields r (s .0))
+      (record { arrive = ap (λ (l : List Fields). r ∷ l) (more .arrive); none-discarded = omega (arith, more .none-discarded); faultless = more .faultless })
+
+  module _ (rs : List Fields) (room : ℕ) (sound : All (Sound c) rs) (rising : NoneFalls 0 rs) (few : length rs ≤ 16) where
+    -- what reading their blocks answers, by the room
+    pub blocks-answer : readFramed c (framed (bodiesOf c rs)) room ≡ answerKept c rs (length rs) room
+    blocks-answer =
+        ap (λ (bs : List (List ℕ)). readBlocks c bs room) (plain-blocks c plain (bodiesOf c rs))
+        ∙ brings-answer c (bodiesOf c rs) rs room (bodies-bring rs sound) rising few
+        ∙ ap (λ (n : ℕ). answerKept c rs n room) (length-map rs (bodyOf c))
+
+    -- accepted records come back from their blocks
+    pub blocks-return : length (sheetOf c rs) ≤ room → readFramed c (framed (bodiesOf c rs)) room ≡ done (allKept c rs (length rs))
+    blocks-return h = blocks-answer ∙ kept-room c rs (length rs) room h

@@ -1,0 +1,140 @@
+-- Demand 2, last sentence: the octets defined for an accepted sheet, read with room for it, give the sheet back; with less room, refusal 5.
+-- Assumes nothing.
+use mathlib.Core.Path.{_≡_, refl, sym, ap, ap₂, subst, _∙_}
+use mathlib.Core.Bool.{Bool, true, false, cond}
+use mathlib.Core.Logic.{inl}
+use mathlib.Core.List.{List}
+use Prim.Native.Nat.{ℕ, _+_, _≤_, _<_}
+use native.Mathlib.Omega.{arith}
+use lib.Dec.{ltb}
+use lib.ListN.{length, getD, take, drop}
+use lib.Seq.{take-at}
+use Rattle.octets.specs.Numbers.{Bytes}
+use Rattle.octets.specs.Lists.{All}
+use Rattle.octets.specs.Over.{over}
+use Rattle.octets.specs.Answer.{Answered, count, left}
+use Rattle.numbers.specs.Refusal as refusal
+use Rattle.carriers.specs.declared.Carrier.{Carrier}
+use Rattle.carriers.specs.declared.Carrier.the-variants.{Dhcp4, Dhcp6, Router, Ike4, Ike6}
+use Rattle.carriers.specs.Carriers.{numberOf}
+use Rattle.carriers.specs.CarriersLaws.{chosen-number}
+use Rattle.frames.specs.Frame.{Framed, frame}
+use Rattle.frames.specs.Walk.{Plain}
+use Rattle.blocks.specs.Block.{Fields}
+use Rattle.sheets.specs.Sheets.{frontOf, sheetOf}
+use Rattle.reading.specs.Reading.{Answer, refuse, done, readFramed, readOf, sheetIn, Reads}
+use Rattle.reading.specs.AnswerLaws.{read-known}
+use Rattle.taking.specs.Sheet.{NoneFalls}
+use Rattle.written.specs.Writing.{octetsOf, writeOf, numberIn, Writes}
+use Rattle.written.specs.Writing as writing
+use Rattle.written.specs.Accepted.{Sound, Accepted}
+use Rattle.written.specs.AcceptedLaws.{accepted-writes, accepted-exactly}
+use Rattle.roundtrip.specs.Returns.{answerKept}
+use Rattle.roundtrip.specs.RecordReturns.{kept-room, kept-no-room, blocks-answer}
+use Rattle.roundtrip.specs.OctetsLaws.{octets-few, plain-framed}
+use Rattle.roundtrip.specs.JoinedReturns.{cut-answer}
+use Rattle.roundtrip.specs.RoundTrip.{blocksIn, returned, Restored}
+
+-- ---- reading what was defined to be written
+
+plain-answer : (c : Carrier) → Plain c → (rs : List Fields) (room : ℕ) → All (Sound c) rs → NoneFalls 0 rs → length rs ≤ 16
+    → readFramed c (frame c (octetsOf c rs)) room ≡ answerKept c rs (length rs) room
+plain-answer c p rs room sound rising few =
+    ap (λ (f : Framed). readFramed c f room) (plain-framed c p rs sound) ∙ blocks-answer c p rs room sound rising few
+
+-- in every carrier the octets bring the records back
+octets-answer : (c : Carrier) (rs : List Fields) (room : ℕ) → All (Sound c) rs → NoneFalls 0 rs → length rs ≤ 16
+    → readFramed c (frame c (octetsOf c rs)) room ≡ answerKept c rs (blocksIn c rs) room
+octets-answer Dhcp4 rs room sound rising few = cut-answer rs room sound rising few
+octets-answer Dhcp6 rs room sound rising few = plain-answer Dhcp6 tt rs room sound rising few
+octets-answer Router rs room sound rising few = plain-answer Router tt rs room sound rising few
+octets-answer Ike4 rs room sound rising few = plain-answer Ike4 tt rs room sound rising few
+octets-answer Ike6 rs room sound rising few = plain-answer Ike6 tt rs room sound rising few
+
+module _ (s : List ℕ) (c : Carrier) (rs : List Fields) (room : ℕ) (a : Accepted s c rs) where
+  read-answer : readOf (numberOf c) (octetsOf c rs) room ≡ answerKept c rs (blocksIn c rs) room
+  read-answer =
+      read-known (numberOf c) (octetsOf c rs) room (chosen-number c) (octets-few c rs (a .sound) (a .is .few))
+      ∙ octets-answer c rs room (a .sound) (a .is .order) (a .is .few)
+
+  -- the octets defined for an accepted sheet, read with room for it, give the sheet back
+  pub read-write : length s ≤ room → readOf (numberOf c) (octetsOf c rs) room ≡ done (returned c rs s)
+  read-write h =
+      read-answer
+      ∙ kept-room c rs (blocksIn c rs) room (rw (← (a .is .is)) h)
+      ∙ ap (λ (l : List ℕ). done (returned c rs l)) (sym (a .is .is))
+
+  -- and with less room refusal 5
+  pub read-write-room : room < length s → readOf (numberOf c) (octetsOf c rs) room ≡ refuse refusal.room
+  read-write-room h = read-answer ∙ kept-no-room c rs (blocksIn c rs) room (rw (← (a .is .is)) h)
+
+-- two accepted sheets of one carrier with the same octets are the same sheet
+pub write-unique : (s t : List ℕ) (c : Carrier) (rs qs : List Fields) → Accepted s c rs → Accepted t c qs → octetsOf c rs ≡ octetsOf c qs → s ≡ t
+write-unique s t c rs qs a b e =
+    let room : ℕ = length s + length t in
+    ap sheetIn
+    (sym (read-write s c rs room a (omega arith))
+    ∙ ap (λ (l : List ℕ). readOf (numberOf c) l room) e
+    ∙ read-write t c qs room b (omega arith))
+
+-- ---- the two calls
+
+-- what a call with number 0 leaves at the front of its buffer
+answered-front : (bs out out′ : List ℕ) (number size : ℕ) → Answered 0 bs out number size out′ → (number ≡ 0) × (size ≡ length bs) × (take size out′ ≡ bs)
+unfolding count left over
+answered-front bs out out′ number size h =
+    let long : size ≡ length bs = h .counted in
+    (h .numbered, long, ap₂ (λ (n : ℕ) (l : List ℕ). take n l) long (h .leaves) ∙ take-at bs (drop (0 + length bs) out) (length bs) refl)
+
+-- a sheet says its carrier's number
+sheet-number : (s : List ℕ) (c : Carrier) (rs : List Fields) → s ≡ sheetOf c rs → getD s 5 0 ≡ numberOf c
+unfolding sheetOf frontOf
+sheet-number s c rs e = ap (λ (l : List ℕ). getD l 5 0) e ∙ says c
+  where
+    says : (c : Carrier) → getD (sheetOf c rs) 5 0 ≡ numberOf c
+    says Dhcp4 = refl
+    says Dhcp6 = refl
+    says Router = refl
+    says Ike4 = refl
+    says Ike6 = refl
+
+-- writing that answers 0 answers with the octets defined
+written-octets : (s : List ℕ) (c : Carrier) (rs : List Fields) (room : ℕ) → Accepted s c rs → numberIn (writeOf s room) ≡ 0
+    → writeOf s room ≡ writing.written (octetsOf c rs)
+written-octets s c rs room a z = go (ltb room (length (octetsOf c rs))) (accepted-writes s c rs room a)
+  where
+    go : (b : Bool) → writeOf s room ≡ cond b (writing.refuse refusal.room) (writing.written (octetsOf c rs))
+        → writeOf s room ≡ writing.written (octetsOf c rs)
+    go true e = let n : refusal.room ≡ 0 = sym (ap numberIn e) ∙ z in absurd (omega arith)
+    go false e = e
+
+-- what `write` leaves in the buffer, `read` turns back
+pub calls-return : (s out out₁ sheet sheet₁ : List ℕ) (size number long found discarded fault : ℕ) → Bytes s
+    → Writes (writeOf s (length out)) out 0 size out₁
+    → Reads (readOf (getD s 5 0) (take size out₁) (length sheet)) sheet number long found discarded fault sheet₁
+    → length s ≤ length sheet
+    → Restored s number long found discarded fault sheet₁
+calls-return s out out₁ sheet sheet₁ size number long found discarded fault octets w r room =
+    let z : numberIn (writeOf s (length out)) ≡ 0 = sym (w .numbered) in
+    let k = accepted-exactly s octets (length out) .0 (inl z) in
+    let c : Carrier = k .0 in
+    let rs : List Fields = k .1 in
+    let a : Accepted s c rs = k .2 in
+    let front : take size out₁ ≡ octetsOf c rs =
+    answered-front (octetsOf c rs) out out₁ 0 size (subst (λ (x : writing.Answer). Writes x out 0 size out₁) (written-octets s c rs (length out) a z) w) .2 in
+    let answer : readOf (getD s 5 0) (take size out₁) (length sheet) ≡ done (returned c rs s) =
+    ap₂ (λ (n : ℕ) (l : List ℕ). readOf n l (length sheet)) (sheet-number s c rs (a .is .is)) front ∙ read-write s c rs (length sheet) a room in
+    let back : Reads (done (returned c rs s)) sheet number long found discarded fault sheet₁ =
+    subst (λ (x : Answer). Reads x sheet number long found discarded fault sheet₁) answer r in
+    let f = answered-front s sheet sheet₁ number long (back .answered) in
+    record {
+      carrier = c;
+      records = rs;
+      accepted = a;
+      done = f .0;
+      size = f .1;
+      front = f .2;
+      blocks = back .found-is;
+      none-discarded = back .discarded-is;
+      faultless = back .fault-is;
+    }

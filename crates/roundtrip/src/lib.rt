@@ -1,0 +1,1 @@
+// Demand 2's last sentence: with room for it, reading the octets defined for an accepted sheet gives the sheet back. Specifications only.
