@@ -40,7 +40,7 @@ short = bad fault.field
 
 -- ---- reading: each field is read from the front of what the fields before it left
 
--- carriers 1 to 3: priority, lifetime (carrier 3), ADN length, name (RFC 9463 §4.1, §5.1, §6.1)
+-- carriers 1 to 3: priority, lifetime (carrier 3), ADN length, name (RFC 9463 §5.1, §4.1, §6.1)
 abbrev pub opening : Carrier → List ℕ → (ℕ → ℕ → List ℕ → List ℕ → Parsed) → Parsed
 opening c l next =
     number short 2 l (λ priority l.
@@ -48,7 +48,7 @@ opening c l next =
     counted short (lengthWidth c) l (λ name l.
     next priority lifetime name l)))
 
--- carriers 1 and 2, after the name: nothing, or address length, addresses, parameters (RFC 9463 §3.1.6, §4.1, §5.1; 01, "Name only")
+-- carriers 1 and 2, after the name: nothing, or address length, addresses, parameters (RFC 9463 §3.1.6, §5.1, §4.1; 01, "Name only")
 abbrev pub afterName : Carrier → ℕ → ℕ → List ℕ → List ℕ → Parsed
 afterName c priority lifetime name l =
     cond (eqb (length l) 0) (fields (nameOnly priority lifetime name))

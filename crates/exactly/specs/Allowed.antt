@@ -7,6 +7,7 @@ use Prim.Native.Nat.{ℕ, _/_, _%_, _≤_, _<_}
 use lib.ListN.{length}
 use Rattle.octets.specs.Lists.{All, flat}
 use Rattle.octets.specs.Fields.{putCounted}
+use Rattle.numbers.specs.Limit as limit
 use Rattle.carriers.specs.declared.Carrier.{Carrier}
 use Rattle.carriers.specs.declared.Carrier.the-variants.{Dhcp4}
 use Rattle.carriers.specs.Carriers.{addressWidth, asText}
@@ -22,13 +23,14 @@ abbrev pub NameAllowed : Bool → List ℕ → Type 0
 NameAllowed true name = IsText name
 NameAllowed false name = IsName name
 
--- addresses of w octets, 1 to 63 as carried, of which one stays; at most 1,024 octets of acceptable service parameters
+-- addresses of w octets, 1 to 63 as carried, of which one stays; at most 1,024 octets of acceptable service parameters (RFC 9463 §3.1.8,
+-- RFC 9464 §3.1; 01, limits)
 pub record TailAllowed (w : ℕ) (addresses parameters : List ℕ) : Type 0 where
   pub some : 0 < length addresses
   pub whole : length addresses % w ≡ 0
-  pub few : length addresses / w ≤ 63
+  pub few : length addresses / w ≤ limit.addresses
   pub stays : keptOf w (listOf w addresses) ≡ [] → ⊥
-  pub short : length parameters ≤ 1024
+  pub short : length parameters ≤ limit.parameters
   pub parameters-allowed : Accepted parameters
 
 -- ServiceMode (priority not 0), a name, and either the full form or, in carriers 1 to 3, the name alone
@@ -38,7 +40,8 @@ pub record Allowed (c : Carrier) (f : Fields) : Type 0 where
   pub full-form : f .full ≡ true → TailAllowed (addressWidth c) (f .addresses) (f .parameters)
   pub name-only : f .full ≡ false → asText c ≡ false
 
--- a body that is the layout of allowed fields, and the record that is kept of it
+-- a body that is the layout of allowed fields, and the record that is kept of it; in carrier 3 `layout` has the one number of zeros that
+-- brings the option to a multiple of 8, as every option has that is framed (`Possible` of blocks)
 pub record Yielding (c : Carrier) (body : List ℕ) (r : Fields) : Type 0 where
   pub fields : Fields
   pub laid : body ≡ layout c fields

@@ -1,4 +1,4 @@
--- Records that can be written, the octets that they take by their lengths alone, and an option's header (01, "The record sheet", "Block
+-- Records whose fields have room in their carrier, the octets that they take by their lengths alone, and an option's header (01, "The record sheet", "Block
 -- layouts", "Area walk"). Assumes nothing: these are definitions.
 use mathlib.Core.Path.{_≡_}
 use mathlib.Core.Bool.{Bool, true, false, cond}
@@ -34,7 +34,7 @@ pub record WritableTail (w : ℕ) (r : Fields) : Type 0 where
 pub record Writable (c : Carrier) (r : Fields) : Type 0 where
   pub priority : r .priority < 65536
   pub lifetime : r .lifetime < 256 ^ lifetimeWidth c
-  pub some : 2 ≤ length (r .name)
+  pub some : 2 ≤ length (r .name)  -- as text the name is 2 octets shorter
   pub short : length (r .name) ≤ 255
   pub tail : r .full ≡ true → WritableTail (addressWidth c) r
   pub name-only : r .full ≡ false → (r .addresses ≡ []) × (r .parameters ≡ []) × (asText c ≡ false)

@@ -37,6 +37,6 @@ sheetCarrier = 42
 abbrev pub tiling : ℕ
 tiling = 43
 
--- a carrier 3 record above 2,040 octets
+-- a carrier 3 record above 2,040 octets when rounded
 abbrev pub large : ℕ
 large = 44

@@ -6,12 +6,12 @@ use lib.ListN.{length, take, drop}
 use Rattle.carriers.specs.declared.Carrier.the-variants.{Dhcp4}
 use Rattle.frames.specs.Emit.{optionsOf}
 
--- the first n pieces of l: 255 octets each, the last what is left
+-- n pieces from the front of l, 255 octets each as long as there are so many
 abbrev pub chunks : ℕ → List ℕ → List (List ℕ)
 chunks zero l = []
 chunks (suc n) l = take 255 l ∷ chunks n (drop 255 l)
 
--- the pieces that l is cut into; none of no octets
+-- as many as l has: the last is what is left, 1 to 255 octets; none of no octets
 unfoldable pub pieces : List ℕ → List (List ℕ)
 pieces l = chunks ((length l + 254) / 255) l
 

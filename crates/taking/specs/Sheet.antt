@@ -1,10 +1,13 @@
--- What a sheet is, said of the whole list: the octets of a carrier and a list of at most 16 records. Assumes nothing: these are definitions.
+-- What a sheet is, said of the whole list, in place of the tests 2, 40, 41, 42, 4 and 43: the octets of a carrier and a list of at most 16
+-- records (01, The record sheet). It speaks of lists of numbers; that they are octets is a premise of the laws. Assumes nothing: these are
+-- definitions.
 use mathlib.Core.Path.{_≡_}
 use mathlib.Core.Bool.{Bool, true, false}
 use mathlib.Core.List.{List, [], _∷_}
 use Prim.Native.Nat.{ℕ, _/_, _%_, _≤_, _<_}
 use lib.ListN.{length}
 use Rattle.octets.specs.Lists.{All}
+use Rattle.numbers.specs.Limit as limit
 use Rattle.carriers.specs.declared.Carrier.{Carrier}
 use Rattle.carriers.specs.Carriers.{addressWidth, lifetimeWidth}
 use Rattle.blocks.specs.Block.{Fields}
@@ -28,10 +31,10 @@ abbrev pub NoneFalls : ℕ → List Fields → Type 0
 NoneFalls least [] = Unit {0}
 NoneFalls least (r ∷ rs) = (least ≤ r .priority) × NoneFalls (r .priority) rs
 
--- s is the sheet of carrier c and records rs
+-- s is the sheet of carrier c and records rs, which passes 2, 40, 41, 42, 4 and 43
 pub record IsSheet (s : List ℕ) (c : Carrier) (rs : List Fields) : Type 0 where
   pub is : s ≡ sheetOf c rs
-  pub few : length rs ≤ 16
+  pub few : length rs ≤ limit.records
   pub each : All (FitsRecord c) rs
   pub order : NoneFalls 0 rs
-  pub short : length s ≤ 40960
+  pub short : length s ≤ limit.input

@@ -34,7 +34,7 @@ abbrev pub onto : Fields → Records → Records
 onto r none = none
 onto r (records rs) = records (r ∷ rs)
 
--- a lifetime stands only where the carrier has one
+-- a lifetime stands where none belongs: 43
 abbrev pub misplaced : Carrier → ℕ → Bool
 misplaced c lifetime = eqb (lifetimeWidth c) 0 && not (eqb lifetime 0)
 
@@ -46,7 +46,7 @@ fullFields c priority lifetime name l next =
     counted none 2 l (λ parameters l.
     next (whole priority lifetime name addresses parameters) l)))
 
--- one record at the front: priority, lifetime, mode, name after its length; `least` is the priority of the record before
+-- one record at the front: priority, lifetime, mode, name after its length; `least` is the priority of the record before, or 0
 abbrev pub oneRecord : Carrier → ℕ → List ℕ → (Fields → List ℕ → Records) → Records
 oneRecord c least l next =
     number none 2 l (λ priority l.

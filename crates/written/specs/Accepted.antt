@@ -1,5 +1,5 @@
--- Which sheets writing accepts (01, Evidence on delivery: "a sheet is accepted when writing answers 0 or 5"). Assumes nothing: these are
--- definitions.
+-- Which sheets writing accepts, said of their records (01, Evidence on delivery: "a sheet is accepted when writing answers 0 or 5"); the law
+-- `accepted-exactly` says that it is these. Assumes nothing: these are definitions.
 use mathlib.Core.Path.{_≡_}
 use mathlib.Core.List.{List}
 use Prim.Native.Nat.{ℕ, _+_, _≤_}
