@@ -5,7 +5,7 @@
  * They take any octets and any buffer, return always, and touch no memory but the buffers that are passed. The buffers of one
  * call must not overlap. A pointer may be NULL where its length is 0. Nothing that is passed is kept after the call.
  * Reading uses some 43 KiB of stack, of which 40 KiB are the buffer where several options 162 of a DHCPv4 area are joined (added up from
- * the frames in the x86-64 object; have 48 KiB).
+ * the frames in the x86-64 object; have 48 KiB). Writing uses less than 1 KiB.
  */
 #ifndef DNR_H
 #define DNR_H
@@ -26,7 +26,7 @@ enum {
     DNR_IKE6 = 5   /* IKEv2 attribute 28, ENCDNS_IP6 */
 };
 
-/* Limits. DNR_MAX_SHEET octets have room for every sheet. */
+/* Limits. DNR_MAX_SHEET octets have room for every sheet, DNR_MAX_INPUT for everything that dnr_write writes. */
 enum {
     DNR_MAX_INPUT = 40960,
     DNR_MAX_RECORDS = 16,
@@ -49,6 +49,22 @@ typedef struct {
 /* Reads an area (the options field of a DHCP message or router advertisement, or a run of IKEv2 configuration attributes) and
  * writes the record sheet of its resolvers, by rising priority. */
 dnr_reading dnr_read(uint8_t carrier, const uint8_t *area, size_t area_len, uint8_t *sheet, size_t sheet_len);
+
+/* What dnr_write gives back.
+ *   number     0: done. Otherwise a refusal; length is 0 and no octet of the buffer was changed:
+ *              2 sheet longer than 40,960 octets, 40 shorter than 7 octets or not RSV, 41 version not 1, 42 carrier not 1 to 5, 4 more
+ *              than 16 records, 43 records that do not tile the sheet, a mode that is not 0 or 1, falling priorities or a lifetime
+ *              where none belongs, 21 to 28 the first fault of the first record that has one, 44 a router advertisement option above
+ *              2,040 octets, 5 the buffer is shorter than the octets. The tests go in this order.
+ *   length     octets that were written; past them the buffer is unchanged.
+ */
+typedef struct {
+    size_t number, length;
+} dnr_writing;
+
+/* Takes a record sheet and writes its records in sheet order under its own carrier: DHCPv4 as options 162 of 255 octets each and a last
+ * one of 1 to 255, the others as an option or attribute each. Nothing is dropped: an address that reading would drop is fault 25. */
+dnr_writing dnr_write(const uint8_t *sheet, size_t sheet_len, uint8_t *octets, size_t octets_len);
 
 #ifdef __cplusplus
 }

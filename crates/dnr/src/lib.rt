@@ -1,8 +1,8 @@
 // The C interface: libdnr. The contracts stand on the exported functions themselves; include/dnr.h declares them for C, and the gate
 // holds the header against this file. A slice crosses as a pointer and a length; a null pointer goes with length 0.
-ghost use Prim.Native.Nat.{_+_};
 ghost use lib.ListN.{length};
 ghost use Rattle.reading.specs.Reading.{readOf, Reads};
+ghost use Rattle.written.specs.Writing.{writeOf, Writes};
 
 // What a reading gives back; a refusal's number, and zeros.
 #[repr(C)]
@@ -26,5 +26,24 @@ pub extern "C" fn dnr_read(carrier: u8, area: &[u8], sheet: &mut [u8]) -> Readin
         found: done.found,
         discarded: done.discarded,
         fault: done.fault,
+    }
+}
+
+// What a writing gives back; a refusal's number, and zero.
+#[repr(C)]
+pub struct Writing {
+    pub number: usize,
+    pub length: usize,
+}
+
+// Writes the octets of a record sheet: its options, or its attributes.
+#[no_mangle]
+pub extern "C" fn dnr_write(sheet: &[u8], octets: &mut [u8]) -> Writing
+    ensures { λ r. ⌜ Writes (writeOf (now (sheet .entry)) (length (now (octets .entry)))) (now (octets .entry)) (r .number) (r .length) (now (octets .exit)) ⌝ }
+{
+    let done = writing::write(sheet, octets);
+    Writing {
+        number: done.number,
+        length: done.length,
     }
 }

@@ -44,7 +44,7 @@ fn wire(labels: &[Vec<u8>]) -> Vec<u8> {
 }
 
 /// A name as the carrier has it; damaged ones break the label rule, a length or the ending.
-fn name(r: &mut Random, carrier: u8, health: Health) -> Vec<u8> {
+pub(crate) fn name(r: &mut Random, carrier: u8, health: Health) -> Vec<u8> {
     let parts = labels(r);
     let mut n = if carrier >= 4 { parts.join(&b'.') } else { wire(&parts) };
     if health == Health::Hurt && r.once_in(4) {
@@ -60,7 +60,7 @@ fn name(r: &mut Random, carrier: u8, health: Health) -> Vec<u8> {
     n
 }
 
-fn address(r: &mut Random, carrier: u8, usable: bool) -> Vec<u8> {
+pub(crate) fn address(r: &mut Random, carrier: u8, usable: bool) -> Vec<u8> {
     let mut a: Vec<u8> = (0..width(carrier)).map(|_| r.octet()).collect();
     if usable {
         a[0] = r.pick(&[10, 32, 192, 223, 240, 254]);
@@ -103,7 +103,7 @@ fn parameter(key: u16, value: &[u8]) -> Vec<u8> {
 }
 
 /// Parameters with rising keys; damaged ones break a rule of keys or values, or a length.
-fn parameters(r: &mut Random, health: Health) -> Vec<u8> {
+pub(crate) fn parameters(r: &mut Random, health: Health) -> Vec<u8> {
     let hurt = health == Health::Hurt;
     let mut list: Vec<(u16, Vec<u8>)> = Vec::new();
     if r.once_in(2) {
@@ -168,7 +168,7 @@ fn parameters(r: &mut Random, health: Health) -> Vec<u8> {
     out
 }
 
-fn priority(r: &mut Random, health: Health) -> u16 {
+pub(crate) fn priority(r: &mut Random, health: Health) -> u16 {
     if health == Health::Hurt && r.once_in(8) {
         return 0;
     }

@@ -1,0 +1,100 @@
+-- `writing::weigh_record` meets its contract: the judge's fault, or how many octets the record takes. Assumes nothing.
+use mathlib.Core.Path.{refl, sym, _∙_}
+use native.Mathlib.Omega.{arith}
+use Rattle.writing.specs.WeighingLaws.{light-at, judged-at, weighs-faulty, weighs-passed}
+use borrow.Author.Needs.{needs}
+use Rattle.writing.proofs.weigh_record.Statement.{statement}
+use Rattle.writing.proofs.weigh_record.Tie as tie
+
+abbrev start : tie.After-judge-fields → tie.Start
+start c = c .before .before .before .before .before .before .before .before
+
+add-name-end : tie.Need-add-name-end
+add-name-end c = search needs
+
+add-addresses-end : tie.Need-add-addresses-end
+add-addresses-end c = search needs
+
+add-parameters-end : tie.Need-add-parameters-end
+add-parameters-end c = search needs
+
+sub-judge-fields : tie.Need-sub-judge-fields
+sub-judge-fields c = search needs
+
+part-judge-fields-start : tie.Need-part-judge-fields-start
+part-judge-fields-start c = search needs
+
+part-judge-fields-end : tie.Need-part-judge-fields-end
+part-judge-fields-end c = search needs
+
+sub-judge-fields-2 : tie.Need-sub-judge-fields-2
+sub-judge-fields-2 c = search needs
+
+part-judge-fields-start-2 : tie.Need-part-judge-fields-start-2
+part-judge-fields-start-2 c = search needs
+
+part-judge-fields-end-2 : tie.Need-part-judge-fields-end-2
+part-judge-fields-end-2 c = search needs
+
+sub-judge-fields-3 : tie.Need-sub-judge-fields-3
+sub-judge-fields-3 c = search needs
+
+part-judge-fields-start-3 : tie.Need-part-judge-fields-start-3
+part-judge-fields-start-3 c = search needs
+
+part-judge-fields-end-3 : tie.Need-part-judge-fields-end-3
+part-judge-fields-end-3 c = search needs
+
+judge-fields-requires : tie.Need-judge-fields-requires
+judge-fields-requires c κs = search needs
+
+faulty-requires : tie.Need-faulty-requires
+faulty-requires c κs = search needs
+
+returns : tie.Need-returns
+returns c =
+    let j = c .before .before in
+    let a = start j .args in
+    weighs-faulty (a .c) (a .s .now) (a .p) (j .judge-fields .ensures) (c .before .if1 .taken) (c .faulty .ensures .0) (c .faulty .ensures .1)
+
+share-size-requires : tie.Need-share-size-requires
+share-size-requires c κs =
+    let j = c .before in
+    let a = start j .args in
+    let e = sym (judged-at (a .c) (a .s .now) (a .p) (j .judge-fields .ensures)) ∙ c .if1 .left in
+    let l = light-at (a .s .now) (a .p) (start j .pre .0) (a .c) (start j .pre .1) e in
+    (l .some, omega (arith, l))
+
+is-large-requires : tie.Need-is-large-requires
+is-large-requires c κs = search needs
+
+returns-2 : tie.Need-returns-2
+returns-2 c =
+    let k = c .before in
+    let j = k .before .before in
+    let a = start j .args in
+    weighs-passed (a .c) (a .s .now) (a .p) (j .judge-fields .ensures) (start j .pre .0) (start j .pre .1) (k .before .if1 .left) refl
+    (c .is-large .ensures) (k .share-size .ensures)
+
+pub weigh-record-spec : {M : Type 1} → statement M
+weigh-record-spec =
+    tie.close
+    (tie.spec
+    add-name-end
+    add-addresses-end
+    add-parameters-end
+    sub-judge-fields
+    part-judge-fields-start
+    part-judge-fields-end
+    sub-judge-fields-2
+    part-judge-fields-start-2
+    part-judge-fields-end-2
+    sub-judge-fields-3
+    part-judge-fields-start-3
+    part-judge-fields-end-3
+    judge-fields-requires
+    faulty-requires
+    returns
+    share-size-requires
+    is-large-requires
+    returns-2)

@@ -1,0 +1,226 @@
+-- Each turn of the pass that lays a sheet's records one after another, and that instances joined at the end of the result's place and then
+-- cut are the octets defined. Assumes nothing.
+use mathlib.Core.Path.{_≡_, refl, sym, ap, _∙_, subst, subst⁻¹}
+use mathlib.Core.Bool.{Bool}
+use mathlib.Core.List.{List, [], _∷_, _++_, append-assoc, append-nil}
+use Prim.Native.Nat.{ℕ, _+_, _-_, _≤_, _<_}
+use native.Mathlib.Omega.{arith}
+use lib.ListN.{length, take, drop, length-append}
+use lib.Seq.{take-at, drop-at, length-take-le}
+use Rattle.octets.specs.Lists.{All}
+use Rattle.octets.specs.Over.{over, Wrote}
+use Rattle.octets.specs.OverLaws.{over-length, then, wrote-none}
+use Rattle.carriers.specs.declared.Carrier.{Carrier}
+use Rattle.carriers.specs.declared.Carrier.the-variants.{Dhcp4, Dhcp6, Router, Ike4, Ike6}
+use Rattle.blocks.specs.Block.{Fields}
+use Rattle.frames.specs.Walk.{Plain}
+use Rattle.pieces.specs.Pieces.{cutOf, cutOctets}
+use Rattle.pieces.specs.PiecesLaws.{cut-length}
+use Rattle.layouts.specs.Layouts.{ownOption, instanceOf}
+use Rattle.layouts.specs.Writable.{Writable, optionOctets}
+use Rattle.taking.specs.declared.Spot.{Spot}
+use Rattle.taking.specs.Spot.{spotOf, fieldsAt, Inside}
+use Rattle.taking.specs.Standing.{Step}
+use Rattle.taking.specs.StandingLaws.{standing-none, standing-step, taken-standing}
+use Rattle.written.specs.Writing.{streamOf, octetsOf}
+use Rattle.written.specs.Accepted.{Sound}
+use Rattle.written.specs.AcceptedLaws.{writable}
+use Rattle.writing.specs.Weighing.{recordsOf, cutAt, shareOf, shareOctets}
+use Rattle.writing.specs.Answering.{Ready, Laying, totalOf, Measured}
+use Rattle.writing.specs.WeighingLaws.{stream-none, stream-one, step-fields, fields-cut}
+
+-- ---- carriers 2 to 5
+
+by-plain : (P : Carrier → Type 0) → P Dhcp6 → P Router → P Ike4 → P Ike6 → (c : Carrier) → (c ≡ Dhcp4 → ⊥) → P c
+by-plain P d r i j Dhcp4 n = absurd (n refl)
+by-plain P d r i j Dhcp6 n = d
+by-plain P d r i j Router n = r
+by-plain P d r i j Ike4 n = i
+by-plain P d r i j Ike6 n = j
+
+module _ (c : Carrier) (n : c ≡ Dhcp4 → ⊥) where
+  pub other-plain : Plain c
+  other-plain = by-plain Plain tt tt tt tt c n
+
+  pub other-share : (r : Fields) → ownOption c r ≡ shareOf c r
+  other-share r = by-plain (λ d. ownOption d r ≡ shareOf d r) refl refl refl refl c n
+
+  pub other-size : (full : Bool) (m a p : ℕ) → optionOctets c full m a p ≡ shareOctets c full m a p
+  other-size full m a p = by-plain (λ d. optionOctets d full m a p ≡ shareOctets d full m a p) refl refl refl refl c n
+
+  pub other-total : (m : ℕ) → totalOf c m ≡ m
+  other-total m = by-plain (λ d. totalOf d m ≡ m) refl refl refl refl c n
+
+  pub other-octets : (rs : List Fields) → octetsOf c rs ≡ streamOf c rs
+  unfolding octetsOf
+  other-octets rs = by-plain (λ d. octetsOf d rs ≡ streamOf d rs) refl refl refl refl c n
+
+-- how many octets the result has
+pub total-octets : (c : Carrier) (rs : List Fields) → totalOf c (length (streamOf c rs)) ≡ length (octetsOf c rs)
+unfolding octetsOf
+total-octets Dhcp4 rs = sym (cut-length (streamOf Dhcp4 rs))
+total-octets Dhcp6 rs = refl
+total-octets Router rs = refl
+total-octets Ike4 rs = refl
+total-octets Ike6 rs = refl
+
+-- ---- one record: what its writer asks, and what it lays
+
+module _ (c : Carrier) (s : List ℕ) (p : Spot) (w : Writable c (fieldsAt s p)) where
+  -- carrier 1, which has no lifetime
+  module _ (e : c ≡ Dhcp4) where
+    instance-cut : cutAt 0 s p ≡ fieldsAt s p
+    instance-cut =
+        let h : p .lifetime < 1 = (rw e at w) .lifetime in
+        let z : 0 ≡ p .lifetime = omega arith in
+        ap (λ (t : ℕ). cutAt t s p) z ∙ fields-cut s p
+
+    pub instance-asked : (at : ℕ) {n : ℕ} → at + length (shareOf c (fieldsAt s p)) ≤ n
+        → Writable Dhcp4 (cutAt 0 s p) × (at + length (instanceOf (cutAt 0 s p)) ≤ n)
+    instance-asked at h = (subst⁻¹ (Writable Dhcp4) instance-cut (rw e at w), rw instance-cut (rw e at h))
+
+    pub instance-laid : {at : ℕ} {out out′ : List ℕ} {r : ℕ} → Wrote at (instanceOf (cutAt 0 s p)) out r out′ → Wrote at (shareOf c (fieldsAt s p)) out r out′
+    instance-laid v = rw e (rw instance-cut at v)
+
+  -- carriers 2 to 5
+  module _ (n : c ≡ Dhcp4 → ⊥) where
+    option-cut : ownOption c (cutAt (p .lifetime) s p) ≡ shareOf c (fieldsAt s p)
+    option-cut = ap (ownOption c) (fields-cut s p) ∙ other-share c n (fieldsAt s p)
+
+    pub option-asked : (at : ℕ) {m : ℕ} → at + length (shareOf c (fieldsAt s p)) ≤ m
+        → Plain c × (Writable c (cutAt (p .lifetime) s p) × (at + length (ownOption c (cutAt (p .lifetime) s p)) ≤ m))
+    option-asked at {m} h = (
+      other-plain c n,
+      (subst⁻¹ (Writable c) (fields-cut s p) w, subst⁻¹ (λ (l : List ℕ). at + length l ≤ m) option-cut h),
+    )
+
+    pub option-laid : {at : ℕ} {out out′ : List ℕ} {r : ℕ} → Wrote at (ownOption c (cutAt (p .lifetime) s p)) out r out′ → Wrote at (shareOf c (fieldsAt s p)) out r out′
+    option-laid {at} {out} {out′} {r} v = subst (λ (l : List ℕ). Wrote at l out r out′) option-cut v
+
+-- ---- the pass
+
+pub laying-start : {c : Carrier} {s : List ℕ} {from : ℕ} {out : List ℕ} → Ready c s → from + length (streamOf c (recordsOf s)) ≤ length out
+    → Laying c s (recordsOf s) from out 7 from out
+laying-start {c} {s} {from} {out} r h = record {
+  done = [];
+  rest = recordsOf s;
+  are = refl;
+  standing = taken-standing s (r .taken) .0;
+  sound = r .sound;
+  room = h;
+  wrote = wrote-none (omega arith);
+}
+
+module _ {c : Carrier} {s : List ℕ} {rs : List Fields} {from at o : ℕ} {out out′ : List ℕ} (w : Laying c s rs from out at o out′) where
+  pub laying-length : length out′ ≡ length out
+  laying-length = ap length (w .wrote .laid) ∙ over-length from (w .done) out (w .wrote .room)
+
+  -- at the sheet's end
+  pub laying-end : length s ≤ at → Wrote from (streamOf c rs) out o out′
+  laying-end h =
+      let z : w .rest ≡ [] = standing-none (w .standing) h in
+      let e : streamOf c rs ≡ w .done = w .are ∙ ap (λ (x : List Fields). w .done ++ streamOf c x) z ∙ ap (λ (x : List ℕ). w .done ++ x) (stream-none c) ∙ append-nil (w .done) in
+      subst⁻¹ (λ (x : List ℕ). Wrote from x out o out′) e (w .wrote)
+
+  module _ {p : Spot} (e : p ≡ spotOf c s at) (h : at < length s) where
+    abbrev laying-step : Step c s at (w .rest) p
+    laying-step = standing-step e (w .standing) h
+
+    pub laying-inside : Inside (length s) at p
+    laying-inside = laying-step .stands .inside
+
+    pub laying-further : at + 8 ≤ p .next
+    laying-further = laying-inside .further (laying-step .stands .good)
+
+    rest-sound : All (Sound c) (laying-step .first ∷ laying-step .rest)
+    rest-sound = subst (All (Sound c)) (laying-step .are) (w .sound)
+
+    pub laying-writable : Writable c (fieldsAt s p)
+    laying-writable = subst⁻¹ (Writable c) (step-fields laying-step) (writable c (laying-step .first) (rest-sound .0))
+
+    -- what is laid, this record and what follows
+    laying-parts : streamOf c rs ≡ (w .done ++ shareOf c (fieldsAt s p)) ++ streamOf c (laying-step .rest)
+    laying-parts =
+        let t = laying-step in
+        w .are
+        ∙ ap (λ (x : List Fields). w .done ++ streamOf c x) (t .are)
+        ∙ ap (λ (x : List ℕ). w .done ++ x) (stream-one c (t .first) (t .rest))
+        ∙ ap (λ (x : Fields). w .done ++ (shareOf c x ++ streamOf c (t .rest))) (sym (step-fields t))
+        ∙ sym (append-assoc (w .done) (shareOf c (fieldsAt s p)) (streamOf c (t .rest)))
+
+    pub laying-room : o + length (shareOf c (fieldsAt s p)) ≤ length out′
+    laying-room =
+        let d : List ℕ = w .done ++ shareOf c (fieldsAt s p) in
+        let l = ap length laying-parts ∙ length-append d (streamOf c (laying-step .rest)) in
+        omega (arith, l, length-append (w .done) (shareOf c (fieldsAt s p)), w .room, w .wrote .next, laying-length)
+
+    pub laying-next : {o′ : ℕ} {out″ : List ℕ} → Wrote o (shareOf c (fieldsAt s p)) out′ o′ out″ → Laying c s rs from out (p .next) o′ out″
+    laying-next v = record {
+      done = w .done ++ shareOf c (fieldsAt s p);
+      rest = laying-step .rest;
+      are = laying-parts;
+      standing = laying-step .standing;
+      sound = rest-sound .1;
+      room = w .room;
+      wrote = then (w .wrote) v;
+    }
+
+-- ---- carrier 1
+
+-- octets laid over the front cover those that were laid behind them
+over-covers : (k : ℕ) (a b l : List ℕ) → k + length b ≡ length a → k + length b ≤ length l → over 0 a (over k b l) ≡ over 0 a l
+unfolding over
+over-covers k a b l e h =
+    let t : length (take k l) ≡ k = length-take-le k l (omega arith) in
+    let head : length (take k l ++ b) ≡ 0 + length a = length-append (take k l) b ∙ omega arith in
+    let same : k + length b ≡ 0 + length a = omega arith in
+    let back : drop (0 + length a) (take k l ++ b ++ drop (k + length b) l) ≡ drop (0 + length a) l =
+    drop-at (take k l ++ b) (drop (k + length b) l) (0 + length a) head ∙ ap (λ (m : ℕ). drop m l) same in
+    ap (λ (x : List ℕ). a ++ x) back
+
+-- the octets that were laid stand where they were laid
+over-there : (k : ℕ) (b l : List ℕ) → k + length b ≤ length l → take (length b) (drop k (over k b l)) ≡ b
+unfolding over
+over-there k b l h =
+    let t : length (take k l) ≡ k = length-take-le k l (omega arith) in
+    let rest : List ℕ = drop (k + length b) l in
+    ap (λ (x : List ℕ). take (length b) (drop k x)) (append-assoc (take k l) b rest)
+    ∙ ap (take (length b)) (drop-at (take k l) (b ++ rest) k t)
+    ∙ take-at b rest (length b) refl
+
+pub joined-asked : {c : Carrier} {s : List ℕ} {size total room : ℕ} → c ≡ Dhcp4 → Ready c s → Measured c s size total room
+    → Ready Dhcp4 s × Measured Dhcp4 s size total room
+joined-asked {c} {s} {size} {total} {room} e r m =
+    (subst (λ (k : Carrier). Ready k s) e r, subst (λ (k : Carrier). Measured k s size total room) e m)
+
+module _ {s : List ℕ} {size total room : ℕ} (m : Measured Dhcp4 s size total room) where
+  -- where the instances are joined
+  pub joined-place : (total - size + size ≡ cutOctets size) × (total - size + size ≡ total)
+  joined-place = (omega (arith, m), omega (arith, m))
+
+  pub joined-cut : {out out₁ out₂ : List ℕ} {o r : ℕ} → Wrote (total - size) (streamOf Dhcp4 (recordsOf s)) out o out₁
+      → Wrote 0 (cutOf (take size (drop (total - size) out₁))) out₁ r out₂ → Wrote 0 (octetsOf Dhcp4 (recordsOf s)) out r out₂
+  unfolding octetsOf
+  joined-cut {out} {out₁} {out₂} {o} {r} w v =
+      let from : ℕ = total - size in
+      let joined : List ℕ = streamOf Dhcp4 (recordsOf s) in
+      let there : take size (drop from out₁) ≡ joined =
+      ap (λ (l : List ℕ). take size (drop from l)) (w .laid)
+      ∙ ap (λ (n : ℕ). take n (drop from (over from joined out))) (m .sizes)
+      ∙ over-there from joined out (w .room) in
+      let u : Wrote 0 (cutOf joined) out₁ r out₂ = subst (λ (l : List ℕ). Wrote 0 (cutOf l) out₁ r out₂) there v in
+      let long : from + length joined ≡ length (cutOf joined) = omega (arith, cut-length joined, joined-place, m) in
+      record {
+        room = omega (arith, u .room, ap length (w .laid), over-length from joined out (w .room));
+        next = u .next;
+        laid = u .laid ∙ ap (over 0 (cutOf joined)) (w .laid) ∙ over-covers from (cutOf joined) joined out long (w .room);
+      }
+
+-- ---- the octets in carriers 2 to 5
+
+module _ (c : Carrier) (n : c ≡ Dhcp4 → ⊥) where
+  pub stream-room : {s : List ℕ} {size total room : ℕ} → Measured c s size total room → 0 + length (streamOf c (recordsOf s)) ≤ room
+  stream-room {s} {size} m = omega (arith, m, other-total c n size)
+
+  pub stream-laid : (rs : List Fields) {out out′ : List ℕ} {r : ℕ} → Wrote 0 (streamOf c rs) out r out′ → Wrote 0 (octetsOf c rs) out r out′
+  stream-laid rs {out} {out′} {r} w = subst⁻¹ (λ (l : List ℕ). Wrote 0 l out r out′) (other-octets c n rs) w

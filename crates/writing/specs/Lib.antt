@@ -1,0 +1,5 @@
+pub mod Weighing
+pub mod Answering
+pub mod WeighingLaws
+pub mod LayingLaws
+pub mod AnsweringLaws

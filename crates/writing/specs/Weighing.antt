@@ -1,0 +1,118 @@
+-- The octets that a sheet's records take, and what the first pass over them finds: the first fault, 21 to 28, whether a record is large (44),
+-- and how many octets they are one after another (01, Numbers given back: "Writing checks .. 21 to 28 record by record, then 44, then
+-- 5"). Assumes nothing: these are definitions.
+use mathlib.Core.Path.{_≡_}
+use mathlib.Core.Bool.{Bool, false, _||_}
+use mathlib.Core.List.{List, []}
+use Prim.Native.Nat.{ℕ, _+_, _-_, _*_, _≤_}
+use lib.Dec.{ltb}
+use lib.ListN.{length, take, drop}
+use Rattle.octets.specs.Lists.{All}
+use Rattle.numbers.specs.Limit as limit
+use Rattle.carriers.specs.declared.Carrier.{Carrier}
+use Rattle.carriers.specs.declared.Carrier.the-variants.{Dhcp4, Dhcp6, Router, Ike4, Ike6}
+use Rattle.blocks.specs.Block.{Fields}
+use Rattle.judge.specs.declared.Side.the-variants.{Writing}
+use Rattle.judge.specs.declared.Judged.{Judged}
+use Rattle.judge.specs.Judge.{judgedOf, faultOf}
+use Rattle.layouts.specs.Layouts.{ownOption, instanceOf}
+use Rattle.layouts.specs.Writable.{fieldsOf, optionOctets, instanceOctets}
+use Rattle.taking.specs.declared.Spot.{Spot}
+use Rattle.taking.specs.Taking.{Taken, refuse, sheet, takeOf}
+use Rattle.taking.specs.Sheet.{FitsRecord}
+use Rattle.taking.specs.Standing.{Standing}
+use Rattle.written.specs.Writing.{streamOf, firstFault, large, anyLarge}
+use Rattle.writing.specs.declared.Weighed.{Weighed}
+
+-- ---- the records of a sheet
+
+abbrev pub recordsIn : Taken → List Fields
+recordsIn (refuse k) = []
+recordsIn (sheet c rs) = rs
+
+-- those of the sheet s
+abbrev pub recordsOf : List ℕ → List Fields
+recordsOf s = recordsIn (takeOf s)
+
+-- s is taken as a sheet of carrier c
+abbrev pub TakenAs : Carrier → List ℕ → Type 0
+TakenAs c s = takeOf s ≡ sheet c (recordsOf s)
+
+-- ---- one record
+
+-- the fields that stand at a spot, each from where it begins to where it ends, with a lifetime that may be another
+abbrev pub cutAt : ℕ → List ℕ → Spot → Fields
+cutAt lifetime s p =
+    fieldsOf (p .priority) lifetime (p .full)
+    (take (p .name + p .nlen - p .name) (drop (p .name) s))
+    (take (p .addresses + p .alen - p .addresses) (drop (p .addresses) s))
+    (take (p .parameters + p .plen - p .parameters) (drop (p .parameters) s))
+
+-- the judge's answer
+abbrev pub judgedBy : Carrier → Fields → Judged
+judgedBy c r = judgedOf Writing c (r .priority) (r .name) (r .full) (r .addresses) (r .parameters)
+
+-- a record's share of the octets: in carrier 1 its instance, else its option or attribute
+abbrev pub shareOf : Carrier → Fields → List ℕ
+shareOf Dhcp4 r = instanceOf r
+shareOf Dhcp6 r = ownOption Dhcp6 r
+shareOf Router r = ownOption Router r
+shareOf Ike4 r = ownOption Ike4 r
+shareOf Ike6 r = ownOption Ike6 r
+
+-- how many octets it has, by the lengths of a name in wire form, of addresses and of parameters
+abbrev pub shareOctets : Carrier → Bool → ℕ → ℕ → ℕ → ℕ
+shareOctets Dhcp4 full n a p = instanceOctets full n a p
+shareOctets Dhcp6 full n a p = optionOctets Dhcp6 full n a p
+shareOctets Router full n a p = optionOctets Router full n a p
+shareOctets Ike4 full n a p = optionOctets Ike4 full n a p
+shareOctets Ike6 full n a p = optionOctets Ike6 full n a p
+
+abbrev pub weightOf : Carrier → Fields → ℕ
+weightOf c r = shareOctets c (r .full) (length (r .name)) (length (r .addresses)) (length (r .parameters))
+
+-- 44, by the octets of an option
+abbrev pub largeBy : Carrier → ℕ → Bool
+largeBy Dhcp4 n = false
+largeBy Dhcp6 n = false
+largeBy Router n = ltb limit.option n
+largeBy Ike4 n = false
+largeBy Ike6 n = false
+
+-- the lengths of a name, of addresses and of parameters without a fault
+pub record Light (n a p : ℕ) : Type 0 where
+  pub some : 2 ≤ n
+  pub name : n ≤ 255
+  pub addresses : a ≤ 1023
+  pub parameters : p ≤ limit.parameters
+
+-- ---- what the pass finds
+
+-- a record's share has no more octets than these, whatever its carrier: 4 of a header, 19 of counted fields and padding, and its name,
+-- addresses and parameters
+abbrev pub most : ℕ
+most = 2325
+
+-- of one record: its fault; or 0, whether it is large, and its octets
+pub record WeighsOne (c : Carrier) (r : Fields) (w : Weighed) : Type 0 where
+  pub first : w .fault ≡ faultOf Writing c r
+  pub large-is : w .fault ≡ 0 → w .large ≡ large c r
+  pub size-is : w .fault ≡ 0 → w .size ≡ length (shareOf c r)
+  pub small : w .size ≤ most
+
+-- of all records
+pub record Weighs (c : Carrier) (rs : List Fields) (w : Weighed) : Type 0 where
+  pub first : w .fault ≡ firstFault c rs
+  pub large-is : w .fault ≡ 0 → w .large ≡ anyLarge c rs
+  pub size-is : w .fault ≡ 0 → w .size ≡ length (streamOf c rs)
+  pub small : w .size ≤ most * limit.records
+
+-- of the records rs those before an index have no fault; `large` and `size` are what is found of them
+pub record Weighing (c : Carrier) (s : List ℕ) (rs : List Fields) (at : ℕ) (large : Bool) (size : ℕ) : Type 0 where
+  pub rest : List Fields
+  pub standing : Standing c s at rest
+  pub fits : All (FitsRecord c) rest
+  pub faults : firstFault c rs ≡ firstFault c rest
+  pub larges : anyLarge c rs ≡ (large || anyLarge c rest)
+  pub sizes : length (streamOf c rs) ≡ size + length (streamOf c rest)
+  pub small : size + most * length rest ≤ most * limit.records

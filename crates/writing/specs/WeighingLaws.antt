@@ -1,0 +1,296 @@
+-- The octets of a record and of records, and each turn of the first pass. Assumes nothing.
+use mathlib.Core.Path.{_≡_, refl, sym, ap, _∙_, subst, subst⁻¹}
+use mathlib.Core.Bool.{Bool, true, false, _||_}
+use mathlib.Core.List.{List, [], _∷_, _++_}
+use Prim.Native.Nat.{ℕ, suc, _+_, _-_, _/_, _≤_, _<_}
+use native.Mathlib.Omega.{arith}
+use borrow.Author.Tests.{eq-eqb, ne-eqb}
+use lib.ListN.{length, take, drop, length-append, length-drop}
+use lib.Seq.{length-take-le}
+use Rattle.octets.specs.Lists.{All}
+use Rattle.octets.specs.Numbers.{Bytes}
+use Rattle.carriers.specs.declared.Carrier.{Carrier}
+use Rattle.carriers.specs.declared.Carrier.the-variants.{Dhcp4, Dhcp6, Router, Ike4, Ike6}
+use Rattle.carriers.specs.Carriers.{addressWidth}
+use Rattle.names.specs.Right.{three}
+use Rattle.blocks.specs.Block.{Fields, gap}
+use Rattle.judge.specs.declared.Side.the-variants.{Writing}
+use Rattle.judge.specs.declared.Judged.{Judged}
+use Rattle.judge.specs.Judge.{faultOf}
+use Rattle.judge.specs.Passed.{Passed}
+use Rattle.judge.specs.JudgeLaws.{fault-passed, written-name}
+use Rattle.layouts.specs.Writable.{unpaddedOctets}
+use Rattle.layouts.specs.LayoutsLaws.{own-length, instance-length, body-small}
+use Rattle.taking.specs.declared.Spot.{Spot}
+use Rattle.taking.specs.Sheet.{FitsTail, FitsRecord, IsSheet}
+use Rattle.taking.specs.Spot.{spotOf, fieldsAt, Inside}
+use Rattle.taking.specs.Standing.{Step}
+use Rattle.taking.specs.StandingLaws.{standing-none, standing-step, taken-standing}
+use Rattle.taking.specs.Exactly.{taken-sheet}
+use Rattle.written.specs.Writing.{streamOf, firstFault, large, anyLarge}
+use Rattle.writing.specs.declared.Weighed.{Weighed}
+use Rattle.writing.specs.Weighing.{recordsOf, TakenAs, cutAt, judgedBy, shareOf, shareOctets, weightOf, largeBy, Light, WeighsOne, Weighs, Weighing}
+
+-- ---- octets
+
+pub share-length : (c : Carrier) (r : Fields) → length (shareOf c r) ≡ weightOf c r
+share-length Dhcp4 r = instance-length r
+share-length Dhcp6 r = own-length Dhcp6 r
+share-length Router r = own-length Router r
+share-length Ike4 r = own-length Ike4 r
+share-length Ike6 r = own-length Ike6 r
+
+pub stream-none : (c : Carrier) → streamOf c [] ≡ []
+stream-none Dhcp4 = refl
+stream-none Dhcp6 = refl
+stream-none Router = refl
+stream-none Ike4 = refl
+stream-none Ike6 = refl
+
+pub stream-one : (c : Carrier) (r : Fields) (rs : List Fields) → streamOf c (r ∷ rs) ≡ shareOf c r ++ streamOf c rs
+stream-one Dhcp4 r rs = refl
+stream-one Dhcp6 r rs = refl
+stream-one Router r rs = refl
+stream-one Ike4 r rs = refl
+stream-one Ike6 r rs = refl
+
+stream-length : (c : Carrier) (r : Fields) (rs : List Fields) → length (streamOf c (r ∷ rs)) ≡ length (shareOf c r) + length (streamOf c rs)
+stream-length c r rs = ap length (stream-one c r rs) ∙ length-append (shareOf c r) (streamOf c rs)
+
+-- in carrier 3 they are those of the option, rounded up
+large-by : (c : Carrier) (r : Fields) → largeBy c (weightOf c r) ≡ large c r
+large-by Dhcp4 r = refl
+large-by Dhcp6 r = refl
+large-by Router r = go (r .full) (length (r .name)) (length (r .addresses)) (length (r .parameters))
+  where
+    go : (full : Bool) (n a p : ℕ) → largeBy Router (shareOctets Router full n a p) ≡ largeBy Router (unpaddedOctets full n a p + gap (unpaddedOctets full n a p))
+    go true n a p = let e : 2 + (14 + n + a + p + gap (14 + n + a + p) - 2) ≡ 14 + n + a + p + gap (14 + n + a + p) = omega arith in ap (largeBy Router) e
+    go false n a p = let e : 2 + (10 + n + gap (10 + n) - 2) ≡ 10 + n + gap (10 + n) = omega arith in ap (largeBy Router) e
+large-by Ike4 r = refl
+large-by Ike6 r = refl
+
+-- only carrier 3 has a limit
+pub other-limit : (c : Carrier) (n : ℕ) → (c ≡ Router → ⊥) → largeBy c n ≡ false
+other-limit Dhcp4 n h = refl
+other-limit Dhcp6 n h = refl
+other-limit Router n h = absurd (h refl)
+other-limit Ike4 n h = refl
+other-limit Ike6 n h = refl
+
+share-small : (c : Carrier) (full : Bool) (n a p : ℕ) → shareOctets c full n a p ≤ 23 + (n + a + p)
+share-small Dhcp4 full n a p = omega (arith, body-small Dhcp4 full n a p)
+share-small Dhcp6 full n a p = omega (arith, body-small Dhcp6 full n a p)
+share-small Router full n a p = omega (arith, body-small Router full n a p)
+share-small Ike4 full n a p = omega (arith, body-small Ike4 full n a p)
+share-small Ike6 full n a p = omega (arith, body-small Ike6 full n a p)
+
+-- ---- a record without a fault is small
+
+few-octets : (c : Carrier) (n : ℕ) → n / addressWidth c ≤ 63 → n ≤ 1023
+few-octets Dhcp4 n h = omega arith
+few-octets Dhcp6 n h = omega arith
+few-octets Router n h = omega arith
+few-octets Ike4 n h = omega arith
+few-octets Ike6 n h = omega arith
+
+pub passed-light : (c : Carrier) (r : Fields) → FitsRecord c r → faultOf Writing c r ≡ 0
+    → Light (length (r .name)) (length (r .addresses)) (length (r .parameters))
+passed-light c r f e =
+    let p : Passed Writing c r = fault-passed Writing c r e in
+    let named = written-name c (r .name) (p .named) in
+    let h : 2 ≤ length (r .name) = omega (arith, three named) in
+    go h (named .short) (r .full) refl (f .tail) p
+  where
+    go : 2 ≤ length (r .name) → length (r .name) ≤ 255 → (full : Bool) → r .full ≡ full → FitsTail (addressWidth c) full (r .addresses) (r .parameters)
+        → Passed Writing c r → Light (length (r .name)) (length (r .addresses)) (length (r .parameters))
+    go h k true u t p =
+        let q = p .tail u in
+        record { some = h; name = k; addresses = few-octets c (length (r .addresses)) (q .few); parameters = q .short }
+    go h k false u t p = record { some = h; name = k; addresses = rw (t .0) (omega arith); parameters = rw (t .1) (omega arith) }
+
+-- ---- the fields that stand at a spot, as the code cuts them out
+
+cut-out : (s : List ℕ) (a n : ℕ) → take (a + n - a) (drop a s) ≡ take n (drop a s)
+cut-out s a n =
+    let e : a + n - a ≡ n = omega arith in
+    ap (λ (m : ℕ). take m (drop a s)) e
+
+part-length : (s : List ℕ) (a n : ℕ) → a + n ≤ length s → length (take n (drop a s)) ≡ n
+part-length s a n h = length-take-le n (drop a s) (rw (length-drop a s) (omega arith))
+
+-- whatever the index of the record is
+pub inside-any : {n at : ℕ} {p : Spot} → Inside n at p → Inside n 0 p
+inside-any {n} {at} {p} i = record {
+  name = i .name;
+  addresses = i .addresses;
+  parameters = i .parameters;
+  next = i .next;
+  further = λ g. let k : at + 8 ≤ p .next = i .further g in omega arith;
+}
+
+module _ (s : List ℕ) (p : Spot) where
+  pub fields-cut : cutAt (p .lifetime) s p ≡ fieldsAt s p
+  fields-cut = rw (cut-out s (p .name) (p .nlen), cut-out s (p .addresses) (p .alen), cut-out s (p .parameters) (p .plen))
+
+  module _ (i : Inside (length s) 0 p) where
+    pub name-length : length (fieldsAt s p .name) ≡ p .nlen
+    name-length = part-length s (p .name) (p .nlen) (i .name)
+
+    pub addresses-length : length (fieldsAt s p .addresses) ≡ p .alen
+    addresses-length = part-length s (p .addresses) (p .alen) (i .addresses)
+
+    pub parameters-length : length (fieldsAt s p .parameters) ≡ p .plen
+    parameters-length = part-length s (p .parameters) (p .plen) (i .parameters)
+
+    module _ (c : Carrier) where
+      pub light-at : FitsRecord c (fieldsAt s p) → faultOf Writing c (fieldsAt s p) ≡ 0 → Light (p .nlen) (p .alen) (p .plen)
+      light-at f e = rw (name-length, addresses-length, parameters-length) at (passed-light c (fieldsAt s p) f e)
+
+      weight-at : weightOf c (fieldsAt s p) ≡ shareOctets c (p .full) (p .nlen) (p .alen) (p .plen)
+      weight-at = rw (name-length, addresses-length, parameters-length)
+
+-- ---- one record
+
+module _ (c : Carrier) (s : List ℕ) (p : Spot) {j : Judged} (judged : j ≡ judgedBy c (cutAt (p .lifetime) s p)) where
+  pub judged-at : j .fault ≡ faultOf Writing c (fieldsAt s p)
+  judged-at = ap (λ (j : Judged). j .fault) judged ∙ ap (faultOf Writing c) (fields-cut s p)
+
+  pub weighs-faulty : {w : Weighed} → (j .fault ≡ 0 → ⊥) → w .fault ≡ j .fault → w .size ≡ 0 → WeighsOne c (fieldsAt s p) w
+  weighs-faulty n e z = record {
+    first = e ∙ judged-at;
+    large-is = λ o. absurd (n (sym e ∙ o));
+    size-is = λ o. absurd (n (sym e ∙ o));
+    small = omega arith;
+  }
+
+  pub weighs-passed : {w : Weighed} → Inside (length s) 0 p → FitsRecord c (fieldsAt s p) → j .fault ≡ 0 → w .fault ≡ 0
+      → w .large ≡ largeBy c (w .size) → w .size ≡ shareOctets c (p .full) (p .nlen) (p .alen) (p .plen) → WeighsOne c (fieldsAt s p) w
+  weighs-passed {w} i f z e l k =
+      let n : faultOf Writing c (fieldsAt s p) ≡ 0 = sym judged-at ∙ z in
+      let m : w .size ≡ weightOf c (fieldsAt s p) = k ∙ sym (weight-at s p i c) in
+      let h : Light (p .nlen) (p .alen) (p .plen) = light-at s p i c f n in
+      record {
+        first = e ∙ sym n;
+        large-is = λ _. l ∙ ap (largeBy c) m ∙ large-by c (fieldsAt s p);
+        size-is = λ _. m ∙ sym (share-length c (fieldsAt s p));
+        small = omega (arith, k, share-small c (p .full) (p .nlen) (p .alen) (p .plen), h);
+      }
+
+-- ---- the pass
+
+or-assoc : (a b d : Bool) → (a || (b || d)) ≡ ((a || b) || d)
+or-assoc true b d = refl
+or-assoc false b d = refl
+
+or-false : (a : Bool) → (a || false) ≡ a
+or-false true = refl
+or-false false = refl
+
+module _ (c : Carrier) (r : Fields) (rs : List Fields) where
+  first-passed : faultOf Writing c r ≡ 0 → firstFault c (r ∷ rs) ≡ firstFault c rs
+  unfolding firstFault
+  first-passed e = rw (eq-eqb (faultOf Writing c r) 0 e)
+
+  first-faulty : (faultOf Writing c r ≡ 0 → ⊥) → firstFault c (r ∷ rs) ≡ faultOf Writing c r
+  unfolding firstFault
+  first-faulty n = rw (ne-eqb (faultOf Writing c r) 0 n)
+
+  large-one : anyLarge c (r ∷ rs) ≡ (large c r || anyLarge c rs)
+  unfolding anyLarge
+  large-one = refl
+
+first-none : (c : Carrier) → firstFault c [] ≡ 0
+unfolding firstFault
+first-none c = refl
+
+large-none : (c : Carrier) → anyLarge c [] ≡ false
+unfolding anyLarge
+large-none c = refl
+
+-- what stands at a step is its first record
+pub step-fields : {c : Carrier} {s : List ℕ} {at : ℕ} {rs : List Fields} {p : Spot} (t : Step c s at rs p) → fieldsAt s p ≡ t .first
+step-fields t =
+    let h = t .stands in
+    rw (h .priority, h .lifetime, h .full, h .name, h .addresses, h .parameters)
+
+pub weighing-start : (c : Carrier) (s : List ℕ) → Bytes s → TakenAs c s → Weighing c s (recordsOf s) 7 false 0
+weighing-start c s octets e =
+    let t = taken-standing s e in
+    let i : IsSheet s c (recordsOf s) = taken-sheet s c (recordsOf s) octets e in
+    record {
+      rest = recordsOf s;
+      standing = t .0;
+      fits = i .each;
+      faults = refl;
+      larges = refl;
+      sizes = omega arith;
+      small = omega (arith, t .1);
+    }
+
+module _ {c : Carrier} {s : List ℕ} {rs : List Fields} {at size : ℕ} {big : Bool} {p : Spot} (w : Weighing c s rs at big size) (e : p ≡ spotOf c s at)
+    (h : at < length s) where
+  abbrev pub weighing-step : Step c s at (w .rest) p
+  weighing-step = standing-step e (w .standing) h
+
+  rest-fits : All (FitsRecord c) (weighing-step .first ∷ weighing-step .rest)
+  rest-fits = subst (All (FitsRecord c)) (weighing-step .are) (w .fits)
+
+  pub weighing-fits : FitsRecord c (fieldsAt s p)
+  weighing-fits = subst⁻¹ (FitsRecord c) (step-fields weighing-step) (rest-fits .0)
+
+  pub weighing-inside : Inside (length s) at p
+  weighing-inside = weighing-step .stands .inside
+
+  pub weighing-further : at + 8 ≤ p .next
+  weighing-further = weighing-inside .further (weighing-step .stands .good)
+
+  module _ {one : Weighed} (o : WeighsOne c (fieldsAt s p) one) where
+    first-is : one .fault ≡ faultOf Writing c (weighing-step .first)
+    first-is = o .first ∙ ap (faultOf Writing c) (step-fields weighing-step)
+
+    pub weighing-faulty : {r : Weighed} → (one .fault ≡ 0 → ⊥) → r .fault ≡ one .fault → r .size ≡ 0 → Weighs c rs r
+    weighing-faulty n k z =
+        let t = weighing-step in
+        let f = first-faulty c (t .first) (t .rest) (λ q. n (first-is ∙ q)) in
+        record {
+          first = k ∙ first-is ∙ sym f ∙ ap (firstFault c) (sym (t .are)) ∙ sym (w .faults);
+          large-is = λ q. absurd (n (sym k ∙ q));
+          size-is = λ q. absurd (n (sym k ∙ q));
+          small = omega arith;
+        }
+
+    pub weighing-next : {l : Bool} → one .fault ≡ 0 → l ≡ (big || one .large) → Weighing c s rs (p .next) l (size + one .size)
+    weighing-next {l} z k =
+        let t = weighing-step in
+        let r : Fields = t .first in
+        let f = first-passed c r (t .rest) (sym first-is ∙ z) in
+        let lr : one .large ≡ large c r = o .large-is z ∙ ap (large c) (step-fields t) in
+        let sr : one .size ≡ length (shareOf c r) = o .size-is z ∙ ap (λ (x : Fields). length (shareOf c x)) (step-fields t) in
+        let n : length (w .rest) ≡ suc (length (t .rest)) = ap length (t .are) in
+        record {
+          rest = t .rest;
+          standing = t .standing;
+          fits = rest-fits .1;
+          faults = w .faults ∙ ap (firstFault c) (t .are) ∙ f;
+          larges =
+              w .larges
+              ∙ ap (λ (x : List Fields). big || anyLarge c x) (t .are)
+              ∙ ap (λ (x : Bool). big || x) (large-one c r (t .rest))
+              ∙ or-assoc big (large c r) (anyLarge c (t .rest))
+              ∙ ap (λ (x : Bool). (big || x) || anyLarge c (t .rest)) (sym lr)
+              ∙ ap (λ (x : Bool). x || anyLarge c (t .rest)) (sym k);
+          sizes = omega (arith, w .sizes, ap (λ (x : List Fields). length (streamOf c x)) (t .are), stream-length c r (t .rest), sr);
+          small = omega (arith, w .small, o .small);
+        }
+
+-- at the sheet's end
+pub weighing-end : {c : Carrier} {s : List ℕ} {rs : List Fields} {at size : ℕ} {big : Bool} {r : Weighed} → Weighing c s rs at big size → length s ≤ at
+    → r .fault ≡ 0 → r .large ≡ big → r .size ≡ size → Weighs c rs r
+weighing-end {c} {s} {rs} {at} {size} {big} w h e l k =
+    let z : w .rest ≡ [] = standing-none (w .standing) h in
+    record {
+      first = e ∙ sym (first-none c) ∙ ap (firstFault c) (sym z) ∙ sym (w .faults);
+      large-is = λ _. l ∙ sym (or-false big) ∙ ap (λ (x : Bool). big || x) (sym (large-none c)) ∙ ap (λ (x : List Fields). big || anyLarge c x) (sym z) ∙ sym (w .larges);
+      size-is = λ _. omega (arith, k, w .sizes, ap (λ (x : List Fields). length (streamOf c x)) z, ap length (stream-none c));
+      small = omega (arith, k, w .small);
+    }
