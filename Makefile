@@ -2,8 +2,17 @@
 # make test       everything that the merge gate runs; ends in 'N passed, 0 failed'
 # make bench      the library against the reference implementation and memcpy, side by side in one run
 # make vectors    make the vectors' input and expected output anew from the reference implementation
+# make install    after make: the library, its header, dnr.pc for pkg-config and, if it is built, the program dnr, below DESTDIR and PREFIX
+# make uninstall  remove what make install put there, with the same DESTDIR and PREFIX
+# make fuzz       the library against the reference implementation on input that libFuzzer makes up, for SECONDS seconds (needs clang)
+# make replay     the same comparison on the inputs of fuzz/corpus, once each (needs no clang)
+# make corpus     make the inputs of fuzz/corpus anew from the pieces in examples
 
-.PHONY: all test bench vectors clean
+PREFIX = /usr/local
+DESTDIR =
+SECONDS = 60
+
+.PHONY: all test bench vectors install uninstall fuzz replay corpus clean
 
 all:
 	rt check
@@ -17,6 +26,27 @@ test:
 
 vectors:
 	cargo run --quiet --offline --release --manifest-path host/Cargo.toml -p vectors -- crates/vectors
+
+install:
+	install -d "$(DESTDIR)$(PREFIX)/include" "$(DESTDIR)$(PREFIX)/lib/pkgconfig"
+	install -m 644 target/staticlib/libdnr.a "$(DESTDIR)$(PREFIX)/lib/libdnr.a"
+	install -m 644 include/dnr.h "$(DESTDIR)$(PREFIX)/include/dnr.h"
+	sed -e "s|@PREFIX@|$(PREFIX)|" -e "s|@VERSION@|$$(cat VERSION)|" dnr.pc.in >"$(DESTDIR)$(PREFIX)/lib/pkgconfig/dnr.pc"
+	chmod 644 "$(DESTDIR)$(PREFIX)/lib/pkgconfig/dnr.pc"
+	if [ -e build/dnr ]; then install -d "$(DESTDIR)$(PREFIX)/bin" && install -m 755 build/dnr "$(DESTDIR)$(PREFIX)/bin/dnr"; fi
+
+uninstall:
+	rm -f "$(DESTDIR)$(PREFIX)/lib/libdnr.a" "$(DESTDIR)$(PREFIX)/include/dnr.h"
+	rm -f "$(DESTDIR)$(PREFIX)/lib/pkgconfig/dnr.pc" "$(DESTDIR)$(PREFIX)/bin/dnr"
+
+fuzz:
+	sh fuzz/run.sh $(SECONDS)
+
+replay:
+	@sh fuzz/replay.sh
+
+corpus:
+	python3 fuzz/corpus.py examples fuzz/corpus
 
 clean:
 	rm -rf target build host/target

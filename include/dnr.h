@@ -1,11 +1,20 @@
 /* dnr.h: encrypted DNS resolvers learned from the network (RFC 9463, RFC 9464).
  *
- * The functions of libdnr.a. They keep no state, allocate nothing, call nothing but memcpy and memset, and may be
- * used from any number of threads at once.
- * They take any octets and any buffer, return always, and touch no memory but the buffers that are passed. The buffers of one
- * call must not overlap. A pointer may be NULL where its length is 0. Nothing that is passed is kept after the call.
- * Reading uses some 43 KiB of stack, of which 40 KiB are the buffer where several options 162 of a DHCPv4 area are joined (added up from
- * the frames in the x86-64 object; have 48 KiB). Writing uses less than 1 KiB.
+ * The functions of libdnr.a. dnr_read takes an area (the options field of a DHCP message or router advertisement, or a run of IKEv2
+ * configuration attributes) and writes the record sheet of its resolvers. dnr_write takes a record sheet and writes the options or
+ * attributes that carry it. What dnr_write writes, dnr_read reads back into the same sheet.
+ *
+ * Buffers    The caller lends them for the time of the call: nothing that is passed is kept, and nothing has to be freed. The two buffers
+ *            of one call must not overlap. A pointer may be NULL where its length is 0, which is an empty input or an output without
+ *            room; with any other length it points to that many octets. No alignment is asked for.
+ * Input      Any octets of any length. The calls test what they need themselves, always return, read nothing outside the input and write
+ *            nothing outside the output.
+ * Output     Only the first length octets of it are written; past them it is unchanged. A call that refuses changes no octet of it.
+ * State      There is none: no allocation, no global variable, no errno, no call but to memcpy and memset. Any number of threads may
+ *            call at once, without locks, as long as nobody else writes to the buffers of a running call.
+ * Stack      dnr_read needs 43 KiB, of which 40 KiB are the buffer where several options 162 of a DHCPv4 area are joined; dnr_write needs
+ *            1 KiB (measured on x86-64; have 48 KiB and 4 KiB).
+ * Numbers    In areas, sheets and options all numbers stand most significant octet first.
  */
 #ifndef DNR_H
 #define DNR_H
@@ -17,7 +26,7 @@
 extern "C" {
 #endif
 
-/* Carriers: the first argument of dnr_read. */
+/* Carriers: the first argument of dnr_read, and the carrier octet of a sheet. */
 enum {
     DNR_DHCP4 = 1, /* DHCPv4 option 162 */
     DNR_DHCP6 = 2, /* DHCPv6 option 144 */
@@ -26,18 +35,64 @@ enum {
     DNR_IKE6 = 5   /* IKEv2 attribute 28, ENCDNS_IP6 */
 };
 
-/* Limits. DNR_MAX_SHEET octets have room for every sheet, DNR_MAX_INPUT for everything that dnr_write writes. */
+/* Limits, in octets but for the two counts. A sheet buffer of DNR_MAX_SHEET and an octets buffer of DNR_MAX_OCTETS are never too short. */
 enum {
-    DNR_MAX_INPUT = 40960,
-    DNR_MAX_RECORDS = 16,
-    DNR_MAX_SHEET = 36775
+    DNR_MAX_INPUT = 40960,     /* an area or a sheet that is taken */
+    DNR_MAX_OCTETS = 40960,    /* what dnr_write writes */
+    DNR_MAX_SHEET = 36775,     /* what dnr_read writes */
+    DNR_MAX_RECORDS = 16,      /* records of a sheet */
+    DNR_MAX_ADDRESSES = 63,    /* addresses of a record */
+    DNR_MAX_PARAMETERS = 1024  /* the parameters of a record */
 };
 
+/* What the fields named number and fault hold.
+ * The refusals are answers of a call: 1 to 5 of dnr_read, tested in this order; 2, 40, 41, 42, 4, 43, then for each record in turn the
+ * faults 21 to 28, then 44, then 5 of dnr_write, tested in this order.
+ * The faults are why dnr_read discarded a block: the first of them in the order below. */
+enum {
+    DNR_DONE = 0,
+
+    DNR_REFUSAL_CARRIER = 1,        /* carrier number not 1 to 5 */
+    DNR_REFUSAL_INPUT = 2,          /* input longer than 40,960 */
+    DNR_REFUSAL_FRAMING = 3,        /* area framing: a header or body runs past the end, or carrier 3 length 0 */
+    DNR_REFUSAL_RECORDS = 4,        /* more than 16 records kept, or a sheet's count above 16 */
+    DNR_REFUSAL_ROOM = 5,           /* output shorter than the result */
+
+    DNR_FAULT_FIELD = 20,           /* block: a field runs past its end, an instance past the joined data, or no instance */
+    DNR_FAULT_PADDING = 29,         /* carrier 3: padding not 0 to 7 zeros */
+    DNR_FAULT_PRIORITY = 21,        /* priority 0 (AliasMode) */
+    DNR_FAULT_NAME = 22,            /* name */
+    DNR_FAULT_ADDRESSES = 23,       /* address length 0 or no multiple, no addresses, or name only in carriers 4, 5 */
+    DNR_FAULT_LIMIT = 24,           /* more than 63 addresses as carried, or over 1,024 octets of parameters */
+    DNR_FAULT_DROPPED = 25,         /* reading: no address is left after dropping; writing: an address to be dropped is present */
+    DNR_FAULT_PARAMETERS = 26,      /* parameters: tiling, order, key 65535 */
+    DNR_FAULT_HINT = 27,            /* key 4 or 6 */
+    DNR_FAULT_VALUE = 28,           /* value of key 0, 1, 2 or 3 */
+
+    DNR_REFUSAL_SHEET = 40,         /* sheet shorter than 7 octets, or not RSV */
+    DNR_REFUSAL_VERSION = 41,       /* sheet version not 1 */
+    DNR_REFUSAL_SHEET_CARRIER = 42, /* sheet carrier not 1 to 5 */
+    DNR_REFUSAL_TILING = 43,        /* sheet does not tile, mode not 0 or 1, priorities fall, lifetime where none belongs */
+    DNR_REFUSAL_LARGE = 44          /* carrier 3 record above 2,040 octets when rounded */
+};
+
+/* The record sheet. Its octets, with the width of each number:
+ *
+ *   header     'R' 'S' 'V', version 2 (1), carrier 1, record count 1
+ *   record     priority 2, lifetime 4, mode 1 (0 name only, 1 full), name length 1, name
+ *              and in mode 1: address count 1, addresses, parameter length 2, parameters
+ *
+ * Records stand by rising priority, equal ones in the order of arrival, and nothing follows the last. The lifetime, in seconds, is that
+ * of a router advertisement, where all ones are for ever and a resolver with 0 must no longer be used (RFC 9463 section 6.1); for the
+ * other carriers it is 0 and says nothing. The name is in DNS wire form, 3 to 255 octets of labels behind their lengths and the root
+ * octet; the labels are letters, digits and hyphens. An address has 4 octets for DNR_DHCP4 and DNR_IKE4, else 16; none is multicast or
+ * loopback. A parameter is key 2, length 2, value, by rising key (RFC 9460): key 1 (alpn) holds strings behind their 8-bit lengths,
+ * key 3 the port.
+ * In a sheet that dnr_read wrote all this holds, so a program may walk it without testing it again; examples/resolvers.c does. */
+
 /* What dnr_read gives back.
- *   number     0: done. Otherwise a refusal; every other field is 0 and no octet of the sheet was changed:
- *              1 carrier not 1 to 5, 2 area longer than 40,960 octets, 3 the area cannot be framed, 4 more than 16 records,
- *              5 the sheet's buffer is shorter than the sheet.
- *   length     octets of the sheet that were written; past them the buffer is unchanged.
+ *   number     DNR_DONE, or a refusal, 1 to 5, with every other field 0.
+ *   length     octets of the sheet that were written.
  *   found      blocks of the carrier that the area has (DHCPv4: all options 162 together are one).
  *   discarded  those of them that were discarded for a fault.
  *   fault      the first discarded block's fault, 20 to 29, or 0.
@@ -46,24 +101,21 @@ typedef struct {
     size_t number, length, found, discarded, fault;
 } dnr_reading;
 
-/* Reads an area (the options field of a DHCP message or router advertisement, or a run of IKEv2 configuration attributes) and
- * writes the record sheet of its resolvers, by rising priority. */
+/* Reads an area and writes the record sheet of its resolvers. Options of other codes are skipped, multicast and loopback addresses
+ * dropped, and a block with a fault is discarded whole while the reading goes on; an area without any gives a sheet of no records. */
 dnr_reading dnr_read(uint8_t carrier, const uint8_t *area, size_t area_len, uint8_t *sheet, size_t sheet_len);
 
 /* What dnr_write gives back.
- *   number     0: done. Otherwise a refusal; length is 0 and no octet of the buffer was changed:
- *              2 sheet longer than 40,960 octets, 40 shorter than 7 octets or not RSV, 41 version not 1, 42 carrier not 1 to 5, 4 more
- *              than 16 records, 43 records that do not tile the sheet, a mode that is not 0 or 1, falling priorities or a lifetime
- *              where none belongs, 21 to 28 the first fault of the first record that has one, 44 a router advertisement option above
- *              2,040 octets, 5 the buffer is shorter than the octets. The tests go in this order.
- *   length     octets that were written; past them the buffer is unchanged.
+ *   number     DNR_DONE, or a refusal, one of 2, 4, 5, 21 to 28 and 40 to 44, with length 0.
+ *   length     octets that were written.
  */
 typedef struct {
     size_t number, length;
 } dnr_writing;
 
 /* Takes a record sheet and writes its records in sheet order under its own carrier: DHCPv4 as options 162 of 255 octets each and a last
- * one of 1 to 255, the others as an option or attribute each. Nothing is dropped: an address that reading would drop is fault 25. */
+ * one of 1 to 255, without the end option 255; the others as an option or attribute each. Nothing is written for a sheet of no records,
+ * and nothing is dropped: an address that reading would drop is refused with 25. */
 dnr_writing dnr_write(const uint8_t *sheet, size_t sheet_len, uint8_t *octets, size_t octets_len);
 
 #ifdef __cplusplus

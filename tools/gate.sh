@@ -1,7 +1,8 @@
 #!/bin/sh
 # Runs every check of the repository and ends in 'N passed, M failed', each check counted; fails where one fails or did not run.
 # Checks: the layout of the sources, rt ci (each crate, must-fail edit and program run), the library built from the proved crate, its header
-# held against the source, the host tests (cargo) and the vectors held against their generator.
+# held against the source, the host tests (cargo), the examples, an installation, the fuzzing corpus replayed, the theorems that
+# docs/PROOFS.md names, and the vectors held against their generator.
 set -u
 cd "$(dirname "$0")/.."
 log=$(mktemp -d) || exit 2
@@ -62,6 +63,18 @@ header_held() {
         gcc -std=gnu11 -fsyntax-only -Wall -Werror -I . "$log/header.c"
 }
 
+# tool NAME COMMAND..: a check that ends in its own 'N passed, M failed'.
+tool() {
+    name=$1
+    shift
+    "$@" 2>&1 | tee "$log/tool"
+    count "$name" "$log/tool"
+}
+
+corpus_held() {
+    python3 fuzz/corpus.py examples "$log/corpus" && diff -r "$log/corpus" fuzz/corpus
+}
+
 vectors_held() {
     mkdir "$log/vectors" &&
         cargo run --quiet --offline --release --manifest-path host/Cargo.toml -p vectors -- "$log/vectors" &&
@@ -73,6 +86,11 @@ rt_ci
 step "libdnr.a" rt staticlib dnr
 step "include/dnr.h agrees with the source" header_held
 host_tests
+tool "examples" sh tools/examples.sh
+tool "installation" sh tools/install.sh
+tool "replayed inputs" sh fuzz/replay.sh
+step "fuzz/corpus is that of its script" corpus_held
+step "docs/PROOFS.md names theorems where they stand" python3 tools/theorems.py
 step "vectors are those of the reference" vectors_held
 echo "$passed passed, $failed failed"
 [ "$failed" -eq 0 ]

@@ -37,7 +37,8 @@ gives-as {a} {b} {out} {out′} {r} e g = subst⁻¹ (λ (x : Answer). Gives x o
 pub gives-refused : {k : ℕ} {r : Writing} → r .number ≡ k → r .length ≡ 0 → (k ≡ 0 → ⊥) → (out : List ℕ) → Gives (refuse k) out r out
 gives-refused e z n out = rw (e, z) (answered.refusing n)
 
-pub gives-written : {bs out out′ : List ℕ} {r : Writing} {n : ℕ} → r .number ≡ 0 → r .length ≡ n → Wrote 0 bs out n out′ → Gives (written bs) out r out′
+pub gives-written : {bs out out′ : List ℕ} {r : Writing} {n : ℕ} → r .number ≡ 0 → r .length ≡ n → Wrote 0 bs out n out′
+    → Gives (written bs) out r out′
 gives-written e k w = rw (e, k) (answered.done refl w)
 
 -- ---- 2, 40, 41, 42, 4, 43
@@ -81,7 +82,7 @@ module _ {c : Carrier} {rs : List Fields} {w : Weighed} (g : Weighs c rs w) (roo
       small : anyLarge c rs ≡ false
       small = sym (g .large-is z) ∙ l
 
-      pub records-total : total ≡ length (octetsOf c rs)
+      records-total : total ≡ length (octetsOf c rs)
       records-total = t ∙ ap (totalOf c) (g .size-is z) ∙ total-octets c rs
 
       pub records-room : room < total → writeRecords c rs room ≡ refuse refusal.room
@@ -91,7 +92,8 @@ module _ {c : Carrier} {rs : List Fields} {w : Weighed} (g : Weighs c rs w) (roo
       records-written h = let k : length (octetsOf c rs) ≤ room = rw records-total at h in rw (none, small, le-ltb room (length (octetsOf c rs)) k)
 
 -- a sheet without a fault and without a large record is ready
-pub weighed-ready : {c : Carrier} {s : List ℕ} {w : Weighed} → Bytes s → TakenAs c s → Weighs c (recordsOf s) w → w .fault ≡ 0 → w .large ≡ false → Ready c s
+pub weighed-ready : {c : Carrier} {s : List ℕ} {w : Weighed} → Bytes s → TakenAs c s → Weighs c (recordsOf s) w
+    → w .fault ≡ 0 → w .large ≡ false → Ready c s
 weighed-ready {c} {s} {w} octets t g z l =
     let i = taken-sheet s c (recordsOf s) octets t in
     record { taken = t; sound = tested-sound c (recordsOf s) (i .each) (sym (g .first) ∙ z) (sym (g .large-is z) ∙ l) }

@@ -39,10 +39,10 @@ by-plain P d r i j Ike4 n = i
 by-plain P d r i j Ike6 n = j
 
 module _ (c : Carrier) (n : c ≡ Dhcp4 → ⊥) where
-  pub other-plain : Plain c
+  other-plain : Plain c
   other-plain = by-plain Plain tt tt tt tt c n
 
-  pub other-share : (r : Fields) → ownOption c r ≡ shareOf c r
+  other-share : (r : Fields) → ownOption c r ≡ shareOf c r
   other-share r = by-plain (λ d. ownOption d r ≡ shareOf d r) refl refl refl refl c n
 
   pub other-size : (full : Bool) (m a p : ℕ) → optionOctets c full m a p ≡ shareOctets c full m a p
@@ -51,7 +51,7 @@ module _ (c : Carrier) (n : c ≡ Dhcp4 → ⊥) where
   pub other-total : (m : ℕ) → totalOf c m ≡ m
   other-total m = by-plain (λ d. totalOf d m ≡ m) refl refl refl refl c n
 
-  pub other-octets : (rs : List Fields) → octetsOf c rs ≡ streamOf c rs
+  other-octets : (rs : List Fields) → octetsOf c rs ≡ streamOf c rs
   unfolding octetsOf
   other-octets rs = by-plain (λ d. octetsOf d rs ≡ streamOf d rs) refl refl refl refl c n
 
@@ -79,7 +79,8 @@ module _ (c : Carrier) (s : List ℕ) (p : Spot) (w : Writable c (fieldsAt s p))
         → Writable Dhcp4 (cutAt 0 s p) × (at + length (instanceOf (cutAt 0 s p)) ≤ n)
     instance-asked at h = (subst⁻¹ (Writable Dhcp4) instance-cut (rw e at w), rw instance-cut (rw e at h))
 
-    pub instance-laid : {at : ℕ} {out out′ : List ℕ} {r : ℕ} → Wrote at (instanceOf (cutAt 0 s p)) out r out′ → Wrote at (shareOf c (fieldsAt s p)) out r out′
+    pub instance-laid : {at : ℕ} {out out′ : List ℕ} {r : ℕ} → Wrote at (instanceOf (cutAt 0 s p)) out r out′
+        → Wrote at (shareOf c (fieldsAt s p)) out r out′
     instance-laid v = rw e (rw instance-cut at v)
 
   -- carriers 2 to 5
@@ -94,7 +95,8 @@ module _ (c : Carrier) (s : List ℕ) (p : Spot) (w : Writable c (fieldsAt s p))
       (subst⁻¹ (Writable c) (fields-cut s p) w, subst⁻¹ (λ (l : List ℕ). at + length l ≤ m) option-cut h),
     )
 
-    pub option-laid : {at : ℕ} {out out′ : List ℕ} {r : ℕ} → Wrote at (ownOption c (cutAt (p .lifetime) s p)) out r out′ → Wrote at (shareOf c (fieldsAt s p)) out r out′
+    pub option-laid : {at : ℕ} {out out′ : List ℕ} {r : ℕ} → Wrote at (ownOption c (cutAt (p .lifetime) s p)) out r out′
+        → Wrote at (shareOf c (fieldsAt s p)) out r out′
     option-laid {at} {out} {out′} {r} v = subst (λ (l : List ℕ). Wrote at l out r out′) option-cut v
 
 -- ---- the pass
@@ -119,7 +121,11 @@ module _ {c : Carrier} {s : List ℕ} {rs : List Fields} {from at o : ℕ} {out 
   pub laying-end : length s ≤ at → Wrote from (streamOf c rs) out o out′
   laying-end h =
       let z : w .rest ≡ [] = standing-none (w .standing) h in
-      let e : streamOf c rs ≡ w .done = w .are ∙ ap (λ (x : List Fields). w .done ++ streamOf c x) z ∙ ap (λ (x : List ℕ). w .done ++ x) (stream-none c) ∙ append-nil (w .done) in
+      let e : streamOf c rs ≡ w .done =
+      w .are
+      ∙ ap (λ (x : List Fields). w .done ++ streamOf c x) z
+      ∙ ap (λ (x : List ℕ). w .done ++ x) (stream-none c)
+      ∙ append-nil (w .done) in
       subst⁻¹ (λ (x : List ℕ). Wrote from x out o out′) e (w .wrote)
 
   module _ {p : Spot} (e : p ≡ spotOf c s at) (h : at < length s) where
@@ -195,7 +201,7 @@ joined-asked {c} {s} {size} {total} {room} e r m =
 
 module _ {s : List ℕ} {size total room : ℕ} (m : Measured Dhcp4 s size total room) where
   -- where the instances are joined
-  pub joined-place : (total - size + size ≡ cutOctets size) × (total - size + size ≡ total)
+  joined-place : (total - size + size ≡ cutOctets size) × (total - size + size ≡ total)
   joined-place = (omega (arith, m), omega (arith, m))
 
   pub joined-cut : {out out₁ out₂ : List ℕ} {o r : ℕ} → Wrote (total - size) (streamOf Dhcp4 (recordsOf s)) out o out₁

@@ -33,7 +33,7 @@ use Rattle.writing.specs.Weighing.{recordsOf, TakenAs, cutAt, judgedBy, 
 
 -- ---- octets
 
-pub share-length : (c : Carrier) (r : Fields) → length (shareOf c r) ≡ weightOf c r
+share-length : (c : Carrier) (r : Fields) → length (shareOf c r) ≡ weightOf c r
 share-length Dhcp4 r = instance-length r
 share-length Dhcp6 r = own-length Dhcp6 r
 share-length Router r = own-length Router r
@@ -63,7 +63,8 @@ large-by Dhcp4 r = refl
 large-by Dhcp6 r = refl
 large-by Router r = go (r .full) (length (r .name)) (length (r .addresses)) (length (r .parameters))
   where
-    go : (full : Bool) (n a p : ℕ) → largeBy Router (shareOctets Router full n a p) ≡ largeBy Router (unpaddedOctets full n a p + gap (unpaddedOctets full n a p))
+    go : (full : Bool) (n a p : ℕ)
+        → largeBy Router (shareOctets Router full n a p) ≡ largeBy Router (unpaddedOctets full n a p + gap (unpaddedOctets full n a p))
     go true n a p = let e : 2 + (14 + n + a + p + gap (14 + n + a + p) - 2) ≡ 14 + n + a + p + gap (14 + n + a + p) = omega arith in ap (largeBy Router) e
     go false n a p = let e : 2 + (10 + n + gap (10 + n) - 2) ≡ 10 + n + gap (10 + n) = omega arith in ap (largeBy Router) e
 large-by Ike4 r = refl
@@ -93,7 +94,7 @@ few-octets Router n h = omega arith
 few-octets Ike4 n h = omega arith
 few-octets Ike6 n h = omega arith
 
-pub passed-light : (c : Carrier) (r : Fields) → FitsRecord c r → faultOf Writing c r ≡ 0
+passed-light : (c : Carrier) (r : Fields) → FitsRecord c r → faultOf Writing c r ≡ 0
     → Light (length (r .name)) (length (r .addresses)) (length (r .parameters))
 passed-light c r f e =
     let p : Passed Writing c r = fault-passed Writing c r e in
@@ -133,13 +134,13 @@ module _ (s : List ℕ) (p : Spot) where
   fields-cut = rw (cut-out s (p .name) (p .nlen), cut-out s (p .addresses) (p .alen), cut-out s (p .parameters) (p .plen))
 
   module _ (i : Inside (length s) 0 p) where
-    pub name-length : length (fieldsAt s p .name) ≡ p .nlen
+    name-length : length (fieldsAt s p .name) ≡ p .nlen
     name-length = part-length s (p .name) (p .nlen) (i .name)
 
-    pub addresses-length : length (fieldsAt s p .addresses) ≡ p .alen
+    addresses-length : length (fieldsAt s p .addresses) ≡ p .alen
     addresses-length = part-length s (p .addresses) (p .alen) (i .addresses)
 
-    pub parameters-length : length (fieldsAt s p .parameters) ≡ p .plen
+    parameters-length : length (fieldsAt s p .parameters) ≡ p .plen
     parameters-length = part-length s (p .parameters) (p .plen) (i .parameters)
 
     module _ (c : Carrier) where
@@ -229,7 +230,7 @@ weighing-start c s octets e =
 
 module _ {c : Carrier} {s : List ℕ} {rs : List Fields} {at size : ℕ} {big : Bool} {p : Spot} (w : Weighing c s rs at big size) (e : p ≡ spotOf c s at)
     (h : at < length s) where
-  abbrev pub weighing-step : Step c s at (w .rest) p
+  abbrev weighing-step : Step c s at (w .rest) p
   weighing-step = standing-step e (w .standing) h
 
   rest-fits : All (FitsRecord c) (weighing-step .first ∷ weighing-step .rest)
@@ -290,7 +291,12 @@ weighing-end {c} {s} {rs} {at} {size} {big} w h e l k =
     let z : w .rest ≡ [] = standing-none (w .standing) h in
     record {
       first = e ∙ sym (first-none c) ∙ ap (firstFault c) (sym z) ∙ sym (w .faults);
-      large-is = λ _. l ∙ sym (or-false big) ∙ ap (λ (x : Bool). big || x) (sym (large-none c)) ∙ ap (λ (x : List Fields). big || anyLarge c x) (sym z) ∙ sym (w .larges);
+      large-is = λ _.
+          l
+          ∙ sym (or-false big)
+          ∙ ap (λ (x : Bool). big || x) (sym (large-none c))
+          ∙ ap (λ (x : List Fields). big || anyLarge c x) (sym z)
+          ∙ sym (w .larges);
       size-is = λ _. omega (arith, k, w .sizes, ap (λ (x : List Fields). length (streamOf c x)) z, ap length (stream-none c));
       small = omega (arith, k, w .small);
     }

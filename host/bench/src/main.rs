@@ -28,7 +28,7 @@ fn best(mut calls: [&mut dyn FnMut(); 3]) -> [f64; 3] {
     best
 }
 
-fn timed(carrier: u8, area: &[u8]) -> [f64; 3] {
+fn timed_reading(carrier: u8, area: &[u8]) -> [f64; 3] {
     let (mut one, mut two, mut three) = (vec![0u8; 36_775], vec![0u8; 36_775], vec![0u8; 40_960]);
     let check = compare::read(carrier, area, &mut one);
     assert_eq!(check, dnr_reference::read(carrier, area, &mut two));
@@ -39,16 +39,48 @@ fn timed(carrier: u8, area: &[u8]) -> [f64; 3] {
     ])
 }
 
-fn row(what: &str, carrier: u8, area: &[u8], doubled: Option<&[u8]>) {
-    let [library, reference, copy] = timed(carrier, area);
-    let growth = doubled.map_or("-".into(), |d| format!("{:.2}", timed(carrier, d)[0] / library));
+fn timed_writing(sheet: &[u8]) -> [f64; 3] {
+    let (mut one, mut two, mut three) = (vec![0u8; 40_960], vec![0u8; 40_960], vec![0u8; 40_960]);
+    let check = compare::write(sheet, &mut one);
+    assert_eq!(check, dnr_reference::write(sheet, &mut two));
+    assert_eq!(check.number, 0);
+    best([
+        &mut || { black_box(compare::write(black_box(sheet), black_box(&mut one))); },
+        &mut || { black_box(dnr_reference::write(black_box(sheet), black_box(&mut two))); },
+        &mut || { black_box(&mut three[..sheet.len()]).copy_from_slice(black_box(sheet)); },
+    ])
+}
+
+/// Prints a row, with the times of the same on twice the input where there are some.
+fn print(what: &str, octets: usize, times: [f64; 3], doubled: Option<[f64; 3]>) {
+    let [library, reference, copy] = times;
+    let growth = doubled.map_or("-".into(), |d| format!("{:.2}", d[0] / library));
     println!(
-        "| {what} | {} | {library:.0} | {reference:.0} | {:.2} | {:.0} | {:.1} | {growth} |",
-        area.len(),
+        "| {what} | {octets} | {library:.0} | {reference:.0} | {:.2} | {:.0} | {:.1} | {growth} |",
         library / reference,
-        area.len() as f64 / library * 1000.0,
+        octets as f64 / library * 1000.0,
         library / copy,
     );
+}
+
+fn row(what: &str, carrier: u8, area: &[u8], doubled: Option<&[u8]>) {
+    let more = doubled.map(|d| timed_reading(carrier, d));
+    print(&format!("reading {what}"), area.len(), timed_reading(carrier, area), more);
+}
+
+/// The sheet that an area is read to.
+fn sheet(carrier: u8, area: &[u8]) -> Vec<u8> {
+    let mut s = vec![0u8; 36_775];
+    let done = compare::read(carrier, area, &mut s);
+    assert_eq!(done.number, 0);
+    s.truncate(done.length);
+    s
+}
+
+fn write_row(what: &str, carrier: u8, area: &[u8], doubled: Option<&[u8]>) {
+    let more = doubled.map(|d| timed_writing(&sheet(carrier, d)));
+    let s = sheet(carrier, area);
+    print(&format!("writing {what}"), s.len(), timed_writing(&s), more);
 }
 
 const NAME: &[u8] = b"\x04doh1\x07example\x03com\x00";
@@ -148,22 +180,38 @@ fn mandatory(keys: u16) -> Vec<u8> {
     p
 }
 
+const CARRIERS: [(u8, &str); 5] = [(1, "DHCPv4"), (2, "DHCPv6"), (3, "router advertisement"), (4, "ENCDNS_IP4"), (5, "ENCDNS_IP6")];
+
+/// 16 full records of each carrier, and 8 with the growth to 16.
+fn full_rows(print_row: fn(&str, u8, &[u8], Option<&[u8]>)) {
+    let p = hints();
+    for (carrier, what) in CARRIERS {
+        let many = if carrier == 3 { 40 } else { 63 };
+        let (sixteen, eight) = (area(carrier, 16, many, &p), area(carrier, 8, many, &p));
+        print_row(&format!("16 full records, {what}"), carrier, &sixteen, None);
+        print_row(&format!("8 full records, {what}"), carrier, &eight, Some(&sixteen));
+    }
+}
+
 fn main() {
-    println!("| reading | octets | library ns | reference ns | ratio | octets/µs | against memcpy | growth ×2 |");
+    println!("| call | octets | library ns | reference ns | ratio | octets/µs | against memcpy | growth ×2 |");
     println!("|---|---|---|---|---|---|---|---|");
     let dot = b"\x00\x01\x00\x04\x03dot";
-    row("K1", 2, &option(2, &body(2, 1, NAME, 1, dot)), None);
-    for (carrier, what) in [(1, "DHCPv4"), (2, "DHCPv6"), (3, "router advertisement"), (4, "ENCDNS_IP4"), (5, "ENCDNS_IP6")] {
-        let p = hints();
-        let many = if carrier == 3 { 40 } else { 63 };
-        row(&format!("16 full records, {what}"), carrier, &area(carrier, 16, many, &p), None);
-        row(&format!("8 full records, {what}"), carrier, &area(carrier, 8, many, &p), Some(&area(carrier, 16, many, &p)));
-    }
+    let k1 = option(2, &body(2, 1, NAME, 1, dot));
+    row("K1", 2, &k1, None);
+    full_rows(row);
+    let one = area(1, 1, 20, &hints()[..39]);
+    row("a record in one option 162", 1, &one, None);
+    row("2 records in two options 162", 1, &area(1, 2, 20, &hints()[..39]), None);
     let foreign = |n: usize| [0u8, 1, 0, 4, 9, 9, 9, 9].repeat(n / 8);
-    row("foreign options", 2, &foreign(40_960), None);
     row("foreign options", 2, &foreign(20_480), Some(&foreign(40_960)));
+    row("foreign options", 2, &foreign(40_960), None);
     let small = |n: usize| option(2, &body(2, 0, NAME, 1, dot)).repeat(n);
     row("787 blocks with a fault", 2, &small(787), None);
     row("a 255-octet name", 2, &option(2, &body(2, 1, &longest(), 1, dot)), None);
     row("168 mandatory keys", 2, &option(2, &body(2, 1, NAME, 1, &mandatory(168))), None);
+    write_row("K1", 2, &k1, None);
+    full_rows(write_row);
+    write_row("a 255-octet name", 2, &option(2, &body(2, 1, &longest(), 1, dot)), None);
+    write_row("168 mandatory keys", 2, &option(2, &body(2, 1, NAME, 1, &mandatory(168))), None);
 }

@@ -4,7 +4,6 @@ use mathlib.Core.Path.{refl}
 use native.Mathlib.Omega.{arith}
 use Prim.Native.Nat.{_-_}
 use lib.ListN.{length}
-use denote.Ref.{now}
 use borrow.Author.Needs.{needs}
 use Rattle.octets.specs.NumbersLaws.{bytes-at}
 use Rattle.taking.specs.StandingLaws.{standing-within}

@@ -1,0 +1,8 @@
+pub mod Hexes
+pub mod HexesLaws
+pub mod Spelled
+pub mod Exactly
+pub mod Decoding
+pub mod DecodingLaws
+pub mod Turns
+pub mod Examples
