@@ -1,7 +1,7 @@
 # make            prove every crate and build what is built from them
 # make test       everything that the merge gate runs; ends in 'N passed, 0 failed'
 # make bench      the library against the reference implementation and memcpy, side by side in one run
-# make vectors    make the vectors' input and expected output anew from the reference implementation
+# make vectors    make the input and expected output of the programs vectors and boundaries anew from the reference implementation
 # make install    after make: the library, its header, dnr.pc for pkg-config and, if it is built, the program dnr, below DESTDIR and PREFIX
 # make uninstall  remove what make install put there, with the same DESTDIR and PREFIX
 # make fuzz       the library against the reference implementation on input that libFuzzer makes up, for SECONDS seconds (needs clang)
@@ -26,6 +26,7 @@ test:
 
 vectors:
 	cargo run --quiet --offline --release --manifest-path host/Cargo.toml -p vectors -- crates/vectors
+	cargo run --quiet --offline --release --manifest-path host/Cargo.toml -p vectors -- boundaries crates/boundaries
 
 install:
 	install -d "$(DESTDIR)$(PREFIX)/include" "$(DESTDIR)$(PREFIX)/lib/pkgconfig"

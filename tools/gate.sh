@@ -75,10 +75,17 @@ corpus_held() {
     python3 fuzz/corpus.py examples "$log/corpus" && diff -r "$log/corpus" fuzz/corpus
 }
 
-vectors_held() {
-    mkdir "$log/vectors" &&
-        cargo run --quiet --offline --release --manifest-path host/Cargo.toml -p vectors -- "$log/vectors" &&
-        cmp "$log/vectors/stdin" crates/vectors/stdin && cmp "$log/vectors/stdout" crates/vectors/stdout
+picture_held() {
+    python3 tools/picture.py >"$log/picture.svg" && cmp "$log/picture.svg" docs/picture.svg
+}
+
+# made_anew PROGRAM WORDS..: the program's input and expected output are those that the generator makes.
+made_anew() {
+    program=$1
+    shift
+    mkdir "$log/$program" &&
+        cargo run --quiet --offline --release --manifest-path host/Cargo.toml -p vectors -- "$@" "$log/$program" &&
+        cmp "$log/$program/stdin" "crates/$program/stdin" && cmp "$log/$program/stdout" "crates/$program/stdout"
 }
 
 step "layout of the sources" rt fmt --check
@@ -90,7 +97,9 @@ tool "examples" sh tools/examples.sh
 tool "installation" sh tools/install.sh
 tool "replayed inputs" sh fuzz/replay.sh
 step "fuzz/corpus is that of its script" corpus_held
+step "docs/picture.svg is that of its script" picture_held
 step "docs/PROOFS.md names theorems where they stand" python3 tools/theorems.py
-step "vectors are those of the reference" vectors_held
+step "vectors are those of the reference" made_anew vectors
+step "boundary cases are those of their generator" made_anew boundaries boundaries
 echo "$passed passed, $failed failed"
 [ "$failed" -eq 0 ]

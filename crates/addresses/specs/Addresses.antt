@@ -1,7 +1,7 @@
 -- Which addresses are dropped when read, and the kept ones in order (01, Addresses), over the width of an address.
 -- Assumes nothing: these are definitions.
 use mathlib.Core.Path.{_≡_}
-use mathlib.Core.Bool.{Bool, true, false, cond}
+use mathlib.Core.Bool.{Bool, true, false, cond, Bool·beq}
 use mathlib.Core.List.{List, [], _∷_}
 use Prim.Native.Nat.{ℕ, zero, suc, _+_, _*_, _/_, _≤_}
 use lib.Dec.{ltb, eqb}
@@ -40,10 +40,14 @@ unfoldable pub keptOf : ℕ → List (List ℕ) → List (List ℕ)
 keptOf w [] = []
 keptOf w (a ∷ more) = cond (unusable w a) (keptOf w more) (a ∷ keptOf w more)
 
+-- one of them is such that its being dropped is `wanted`
+unfoldable pub hasOf : ℕ → Bool → List (List ℕ) → Bool
+hasOf w wanted [] = false
+hasOf w wanted (a ∷ more) = cond (Bool·beq (unusable w a) wanted) true (hasOf w wanted more)
+
 -- one of them is to be dropped
-unfoldable pub anyOf : ℕ → List (List ℕ) → Bool
-anyOf w [] = false
-anyOf w (a ∷ more) = cond (unusable w a) true (anyOf w more)
+abbrev pub anyOf : ℕ → List (List ℕ) → Bool
+anyOf w more = hasOf w true more
 
 -- none of them stays
 abbrev pub noneOf : ℕ → List (List ℕ) → Bool

@@ -1,20 +1,20 @@
 -- The laws of address lists: how the tests of one address come out, the list is its addresses one after another, dropping nothing leaves
 -- the list, and what a loop over the list does in one turn. Assumes nothing.
 use mathlib.Core.Path.{_≡_, refl, sym, ap, _∙_}
-use mathlib.Core.Bool.{Bool, true, false, cond, false≢true}
+use mathlib.Core.Bool.{Bool, true, false, cond, not, Bool·beq, false≢true}
 use mathlib.Core.List.{List, [], _∷_, _++_}
 use Prim.Native.Nat.{ℕ, zero, suc, _+_, _-_, _*_, _/_, _%_, _≤_, _<_}
 use native.Mathlib.Nat.{div-eq-sub-div, div-eq-of-lt, div-add-mod', div-mul-le-self, add-sub-cancel-left}
 use native.Mathlib.Numerals.{add-one}
 use native.Mathlib.Omega.{arith}
 use lib.Dec.{ltb, eqb, eqb·suc-zero}
-use borrow.Author.Tests.{ne-eqb, lt-ltb, le-ltb}
+use borrow.Author.Tests.{ne-eqb, lt-ltb, le-ltb, not-true, not-false}
 use lib.ListN.{length, getD, take, drop, length-append, length-drop, take-append-drop}
 use lib.Seq.{length-take-le, drop-drop, take-at, drop-at}
 use Rattle.octets.specs.Lists.{All, flat}
 use Rattle.octets.specs.Numbers.{Bytes, allZero}
 use Rattle.octets.specs.NumbersLaws.{bytes-append, bytes-take, bytes-drop}
-use Rattle.addresses.specs.Addresses.{Width, unusable, unusable4, unusable16, addressesOf, listOf, keptOf, anyOf, noneOf}
+use Rattle.addresses.specs.Addresses.{Width, unusable, unusable4, unusable16, addressesOf, listOf, keptOf, hasOf, anyOf, noneOf}
 
 pub wide-some : {w : ℕ} → Width w → 0 < w
 wide-some h = let e = h .is in omega arith
@@ -40,18 +40,25 @@ module _ (x : ℕ) where
   unfolding unusable4
   unusable4-above h = rw (ne-eqb x 127 (omega arith), le-ltb x 224 h)
 
-module _ (a : List ℕ) where
-  pub unusable16-multicast : getD a 0 0 ≡ 255 → true ≡ unusable16 a
-  unfolding unusable16
-  unusable16-multicast e = rw e
+-- a first octet that is not 0 leaves multicast alone
+pub unusable16-first : (a : List ℕ) → (getD a 0 0 ≡ 0 → ⊥) → eqb (getD a 0 0) 255 ≡ unusable16 a
+unfolding unusable16 allZero
+unusable16-first [] n = absurd (n refl)
+unusable16-first (x ∷ xs) n = simp (ne-eqb x 0 n) (go (eqb x 255) (eqb (getD xs 14 0) 1))
+  where
+    go : (b c : Bool) → b ≡ cond b true (cond c false false)
+    go true c = refl
+    go false true = refl
+    go false false = refl
 
-  pub unusable16-one : (getD a 0 0 ≡ 255 → ⊥) → getD a 15 0 ≡ 1 → allZero (take 15 a) ≡ unusable16 a
+module _ (a : List ℕ) (z : getD a 0 0 ≡ 0) where
+  pub unusable16-one : {r : Bool} → getD a 15 0 ≡ 1 → r ≡ allZero (take 15 a) → r ≡ unusable16 a
   unfolding unusable16
-  unusable16-one n e = rw (ne-eqb (getD a 0 0) 255 n, e)
+  unusable16-one e q = rw (z, e) q
 
-  pub unusable16-other : (getD a 0 0 ≡ 255 → ⊥) → (getD a 15 0 ≡ 1 → ⊥) → false ≡ unusable16 a
+  pub unusable16-other : (getD a 15 0 ≡ 1 → ⊥) → false ≡ unusable16 a
   unfolding unusable16
-  unusable16-other n m = rw (ne-eqb (getD a 0 0) 255 n, ne-eqb (getD a 15 0) 1 m)
+  unusable16-other m = rw (z, ne-eqb (getD a 15 0) 1 m)
 
 -- ---- one address, and the rest
 
@@ -148,11 +155,11 @@ kept-bytes w s h = flat-bytes (keptOf w (listOf w s)) (kept-all Bytes w (listOf 
 
 -- what is dropped nowhere is kept whole
 pub none-dropped : (w : ℕ) (more : List (List ℕ)) → anyOf w more ≡ false → keptOf w more ≡ more
-unfolding anyOf keptOf
+unfolding hasOf keptOf
 none-dropped w [] e = refl
 none-dropped w (a ∷ more) e = go (unusable w a) refl e (none-dropped w more)
   where
-    go : (b : Bool) → unusable w a ≡ b → cond b true (anyOf w more) ≡ false → (anyOf w more ≡ false → keptOf w more ≡ more) → cond (unusable w a) (keptOf w more) (a ∷ keptOf w more) ≡ a ∷ more
+    go : (b : Bool) → unusable w a ≡ b → cond (Bool·beq b true) true (anyOf w more) ≡ false → (anyOf w more ≡ false → keptOf w more ≡ more) → cond (unusable w a) (keptOf w more) (a ∷ keptOf w more) ≡ a ∷ more
     go true t e ih = absurd (false≢true (sym e))
     go false t e ih = simp t (ap (λ (l : List (List ℕ)). a ∷ l) (ih e))
 
@@ -162,13 +169,23 @@ none-dropped-flat w s e h = ap flat (none-dropped w (listOf w s) h) ∙ flat-lis
 
 -- what is kept has nothing to drop
 pub kept-usable : (w : ℕ) (more : List (List ℕ)) → anyOf w (keptOf w more) ≡ false
-unfolding anyOf keptOf
+unfolding hasOf keptOf
 kept-usable w [] = refl
 kept-usable w (a ∷ more) = go (unusable w a) refl (kept-usable w more)
   where
     go : (b : Bool) → unusable w a ≡ b → anyOf w (keptOf w more) ≡ false → anyOf w (cond b (keptOf w more) (a ∷ keptOf w more)) ≡ false
     go true t ih = ih
     go false t ih = simp t ih
+
+-- none is kept where none that stays is there
+pub none-has : (w : ℕ) (more : List (List ℕ)) → not (hasOf w false more) ≡ noneOf w more
+unfolding hasOf keptOf
+none-has w [] = refl
+none-has w (a ∷ more) = go (unusable w a) (none-has w more)
+  where
+    go : (b : Bool) → not (hasOf w false more) ≡ noneOf w more → not (cond (Bool·beq b false) true (hasOf w false more)) ≡ eqb (length (cond b (keptOf w more) (a ∷ keptOf w more))) 0
+    go true ih = ih
+    go false ih = sym (eqb·suc-zero (length (keptOf w more)))
 
 pub kept-few : (w : ℕ) (more : List (List ℕ)) → length (keptOf w more) ≤ length more
 unfolding keptOf
@@ -181,49 +198,60 @@ kept-few w (a ∷ more) = go (unusable w a) (kept-few w more)
 
 -- ---- turns of a loop: the rest of the list from `at` on
 
-module _ (w : ℕ) (s : List ℕ) (at : ℕ) (p : 0 < w) (h : w ≤ length s - at) where
+module _ (w : ℕ) (s : List ℕ) (at : ℕ) (wide : Width w) (h : w ≤ length s - at) where
   turn : listOf w (drop at s) ≡ take w (drop at s) ∷ listOf w (drop (at + w) s)
   turn =
       let k : w ≤ length (drop at s) = rw length-drop h in
-      list-cons w (drop at s) p k ∙ ap (λ (l : List ℕ). take w (drop at s) ∷ listOf w l) (drop-drop w at s)
+      list-cons w (drop at s) (wide-some wide) k ∙ ap (λ (l : List ℕ). take w (drop at s) ∷ listOf w l) (drop-drop w at s)
 
   -- the slice's part from at to at + w is an address
   pub part-wide : length (take (at + w - at) (drop at s)) ≡ w
   part-wide = rw add-sub-cancel-left (length-take-le w (drop at s) (rw length-drop h))
 
-  -- an answer about the part is one about the address
-  pub part-tested : {b r : Bool} → r ≡ unusable w (take (at + w - at) (drop at s)) → r ≡ b → unusable w (take w (drop at s)) ≡ b
-  part-tested e t = rw add-sub-cancel-left at (sym e ∙ t)
+  module _ {r : Bool} (e : r ≡ unusable w (take (at + w - at) (drop at s))) where
+    -- an answer about the part is one about the address
+    part-tested : unusable w (take w (drop at s)) ≡ r
+    part-tested = rw add-sub-cancel-left at (sym e)
 
-  pub any-true : unusable w (take w (drop at s)) ≡ true → true ≡ anyOf w (listOf w (drop at s))
-  unfolding anyOf
-  any-true t = rw turn (simp t)
+    pub kept-drop : not r ≡ false → keptOf w (listOf w (drop at s)) ≡ keptOf w (listOf w (drop (at + w) s))
+    unfolding keptOf
+    kept-drop t = rw turn (simp (part-tested ∙ not-false _ t))
 
-  pub any-next : unusable w (take w (drop at s)) ≡ false → anyOf w (listOf w (drop (at + w) s)) ≡ anyOf w (listOf w (drop at s))
-  unfolding anyOf
-  any-next t = rw turn (simp t)
-
-  pub kept-drop : unusable w (take w (drop at s)) ≡ true → keptOf w (listOf w (drop at s)) ≡ keptOf w (listOf w (drop (at + w) s))
-  unfolding keptOf
-  kept-drop t = rw turn (simp t)
-
-  pub kept-keep : unusable w (take w (drop at s)) ≡ false → keptOf w (listOf w (drop at s)) ≡ take w (drop at s) ∷ keptOf w (listOf w (drop (at + w) s))
-  unfolding keptOf
-  kept-keep t = rw turn (simp t)
-
-  pub none-false : unusable w (take w (drop at s)) ≡ false → false ≡ noneOf w (listOf w (drop at s))
-  none-false t = sym (ap (λ (l : List (List ℕ)). eqb (length l) 0) (kept-keep t) ∙ eqb·suc-zero (length (keptOf w (listOf w (drop (at + w) s)))))
-
-  pub none-next : unusable w (take w (drop at s)) ≡ true → noneOf w (listOf w (drop (at + w) s)) ≡ noneOf w (listOf w (drop at s))
-  none-next t = sym (ap (λ (l : List (List ℕ)). eqb (length l) 0) (kept-drop t))
-
-pub any-end : (w : ℕ) (s : List ℕ) (at : ℕ) → length s - at < w → false ≡ anyOf w (listOf w (drop at s))
-unfolding anyOf
-any-end w s at h = let k : length (drop at s) < w = rw length-drop h in rw (list-nil w (drop at s) k)
+    pub kept-keep : not r ≡ true → keptOf w (listOf w (drop at s)) ≡ take w (drop at s) ∷ keptOf w (listOf w (drop (at + w) s))
+    unfolding keptOf
+    kept-keep t = rw turn (simp (part-tested ∙ not-true _ t))
 
 pub kept-end : (w : ℕ) (s : List ℕ) (at : ℕ) → length s - at < w → keptOf w (listOf w (drop at s)) ≡ []
 unfolding keptOf
 kept-end w s at h = let k : length (drop at s) < w = rw length-drop h in rw (list-nil w (drop at s) k)
 
-pub none-end : (w : ℕ) (s : List ℕ) (at : ℕ) → length s - at < w → true ≡ noneOf w (listOf w (drop at s))
-none-end w s at h = sym (ap (λ (l : List (List ℕ)). eqb (length l) 0) (kept-end w s at h))
+-- ---- whether an address is there whose being dropped is `wanted`
+
+-- what is left of the list decides
+pub record Looking (w : ℕ) (s : List ℕ) (wanted : Bool) (at : ℕ) : Type 0 where
+  pub within : at ≤ length s
+  pub left : hasOf w wanted (listOf w s) ≡ hasOf w wanted (listOf w (drop at s))
+
+module _ (w : ℕ) (s : List ℕ) (wanted : Bool) where
+  pub look-start : Looking w s wanted 0
+  look-start = record { within = omega arith; left = refl }
+
+  module _ (at : ℕ) (i : Looking w s wanted at) where
+    pub look-end : length s - at < w → false ≡ hasOf w wanted (listOf w s)
+    unfolding hasOf
+    look-end h =
+        let k : length (drop at s) < w = rw length-drop h in
+        sym (i .left ∙ ap (hasOf w wanted) (list-nil w (drop at s) k))
+
+    module _ {r : Bool} (wide : Width w) (h : w ≤ length s - at) (e : r ≡ unusable w (take (at + w - at) (drop at s))) where
+      look-at : hasOf w wanted (listOf w s) ≡ cond (Bool·beq r wanted) true (hasOf w wanted (listOf w (drop (at + w) s)))
+      unfolding hasOf
+      look-at =
+          i .left ∙ ap (hasOf w wanted) (turn w s at wide h)
+          ∙ ap (λ b. cond (Bool·beq b wanted) true (hasOf w wanted (listOf w (drop (at + w) s)))) (part-tested w s at wide h e)
+
+      pub look-found : Bool·beq r wanted ≡ true → true ≡ hasOf w wanted (listOf w s)
+      look-found t = sym (look-at ∙ simp t)
+
+      pub look-next : Bool·beq r wanted ≡ false → Looking w s wanted (at + w)
+      look-next t = record { within = omega (arith, i .within); left = look-at ∙ simp t }

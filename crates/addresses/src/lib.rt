@@ -6,7 +6,7 @@ ghost use Prim.Native.Nat.{_+_, _≤_};
 ghost use lib.ListN.{length};
 ghost use Rattle.octets.specs.Over.{Wrote};
 ghost use Rattle.octets.specs.Lists.{flat};
-ghost use Rattle.addresses.specs.Addresses.{Width, unusable, unusable4, unusable16, listOf, keptOf, anyOf, noneOf};
+ghost use Rattle.addresses.specs.Addresses.{Width, unusable, unusable4, unusable16, listOf, keptOf, hasOf, anyOf, noneOf};
 
 // 224.0.0.0/4 (RFC 5771 §3) and 127.0.0.0/8 (RFC 1122 §3.2.1.3), by the first octet.
 fn unusable4(first: u8) -> bool
@@ -21,13 +21,14 @@ fn unusable4(first: u8) -> bool
     first < 240
 }
 
-// ff00::/8 and ::1 (RFC 4291 §2.4).
+// ff00::/8 and ::1 (RFC 4291 §2.4). Most addresses begin with neither 255 nor 0, so that the first octet decides.
 fn unusable16(a: &[u8]) -> bool
     requires { ⌜ length (now a) ≡ 16 ⌝ }
     ensures { λ r. ⌜ r ≡ unusable16 (now (a .entry)) ⌝ }
 {
-    if a[0] == 255 {
-        return true;
+    let first = a[0];
+    if first != 0 {
+        return first == 255;
     }
     if a[15] == 1 {
         return octets::zeros(&a[..15]);
@@ -47,15 +48,15 @@ fn dropped(w: usize, a: &[u8]) -> bool
     unusable16(a)
 }
 
-// Whether the list holds an address that reading would drop.
-pub fn any_unusable(w: usize, s: &[u8]) -> bool
+// Whether the list has an address whose being dropped is `wanted`.
+fn has(w: usize, s: &[u8], wanted: bool) -> bool
     requires { ⌜ Width w ⌝ }
-    ensures { λ r. ⌜ r ≡ anyOf w (listOf w (now (s .entry))) ⌝ }
+    ensures { λ r. ⌜ r ≡ hasOf w wanted (listOf w (now (s .entry))) ⌝ }
 {
     let mut at: usize = 0;
     while w <= s.len() - at {
         let next = at + w;
-        if dropped(w, &s[at..next]) {
+        if dropped(w, &s[at..next]) == wanted {
             return true;
         }
         at = next;
@@ -63,21 +64,20 @@ pub fn any_unusable(w: usize, s: &[u8]) -> bool
     false
 }
 
+// Whether the list holds an address that reading would drop.
+pub fn any_unusable(w: usize, s: &[u8]) -> bool
+    requires { ⌜ Width w ⌝ }
+    ensures { λ r. ⌜ r ≡ anyOf w (listOf w (now (s .entry))) ⌝ }
+{
+    has(w, s, true)
+}
+
 // Whether no address is kept; the first that stays decides.
 pub fn none_kept(w: usize, s: &[u8]) -> bool
     requires { ⌜ Width w ⌝ }
     ensures { λ r. ⌜ r ≡ noneOf w (listOf w (now (s .entry))) ⌝ }
 {
-    let mut at: usize = 0;
-    while w <= s.len() - at {
-        let next = at + w;
-        if dropped(w, &s[at..next]) {
-            at = next;
-        } else {
-            return false;
-        }
-    }
-    true
+    !has(w, s, false)
 }
 
 // How many addresses are kept.
@@ -98,8 +98,8 @@ pub fn kept_count(w: usize, s: &[u8]) -> usize
     n
 }
 
-// Writes the addresses that are kept at `o` one by one, and returns the index after them.
-fn put_each(out: &mut [u8], o: usize, w: usize, s: &[u8]) -> usize
+// Writes the addresses that are kept at `o`, in their order, and returns the index after them.
+pub fn put_kept(out: &mut [u8], o: usize, w: usize, s: &[u8]) -> usize
     requires { ⌜ Width w ⌝ }
     requires { ⌜ o + length (flat (keptOf w (listOf w (now s)))) ≤ length (now out) ⌝ }
     ensures { λ r. ⌜ Wrote o (flat (keptOf w (listOf w (now (s .entry))))) (now (out .entry)) r (now (out .exit)) ⌝ }
@@ -115,19 +115,4 @@ fn put_each(out: &mut [u8], o: usize, w: usize, s: &[u8]) -> usize
         at = next;
     }
     next_out
-}
-
-// Writes the addresses that are kept at `o`, in their order, and returns the index after them; where none is to be dropped, as they stand.
-pub fn put_kept(out: &mut [u8], o: usize, w: usize, s: &[u8]) -> usize
-    requires { ⌜ Width w ⌝ }
-    requires { ⌜ o + length (flat (keptOf w (listOf w (now s)))) ≤ length (now out) ⌝ }
-    ensures { λ r. ⌜ Wrote o (flat (keptOf w (listOf w (now (s .entry))))) (now (out .entry)) r (now (out .exit)) ⌝ }
-{
-    if s.len() % w != 0 {
-        return put_each(out, o, w, s);
-    }
-    if any_unusable(w, s) {
-        return put_each(out, o, w, s);
-    }
-    octets::copy(out, o, s)
 }

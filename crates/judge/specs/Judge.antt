@@ -1,6 +1,6 @@
 -- The first fault of a record's fields, 21 to 28 in that order (01, Numbers given back: "A block's fault is the first of 20, 29, 21 to
 -- 28"; "Name only skips 24 to 28, and in carriers 1 to 3 also 23"). Assumes nothing: these are definitions.
-use mathlib.Core.Bool.{Bool, true, false, cond}
+use mathlib.Core.Bool.{Bool, cond, not}
 use mathlib.Core.List.{List}
 use Prim.Native.Nat.{ℕ, _/_, _%_}
 use lib.Dec.{ltb, eqb}
@@ -34,12 +34,11 @@ refusedOf Writing w addresses = anyOf w addresses
 unfoldable pub tailFault : Side → ℕ → List ℕ → List ℕ → ℕ
 tailFault side w addresses parameters =
     cond (eqb (length addresses) 0) fault.addresses
-    (cond (eqb (length addresses % w) 0)
+    (cond (not (eqb (length addresses % w) 0)) fault.addresses
     (cond (ltb limit.addresses (length addresses / w)) fault.limit
     (cond (ltb limit.parameters (length parameters)) fault.limit
     (cond (refusedOf side w (listOf w addresses)) fault.dropped
-    (paramsFault parameters))))
-    fault.addresses)
+    (paramsFault parameters)))))
 
 -- 23 of a record with a name only: there is no such form in carriers 4 and 5
 abbrev pub nameOnlyFault : Carrier → ℕ

@@ -1,6 +1,6 @@
 -- What each answer of the judge says of the fields: fault 0 is exactly `Passed`, and the bounds that follow. Assumes nothing.
 use mathlib.Core.Path.{_≡_, refl, sym, ap, _∙_}
-use mathlib.Core.Bool.{Bool, true, false, cond, true≢false, false≢true}
+use mathlib.Core.Bool.{Bool, true, false, cond, not, true≢false, false≢true}
 use mathlib.Core.Logic.{_↔_}
 use mathlib.Core.List.{List}
 use Prim.Native.Nat.{ℕ, _/_, _%_}
@@ -49,7 +49,7 @@ module _ (side : Side) (w : ℕ) (a p : List ℕ) where
       go : (none whole many long refused : Bool) → eqb (length a) 0 ≡ none → eqb (length a % w) 0 ≡ whole
           → ltb limit.addresses (length a / w) ≡ many → ltb limit.parameters (length p) ≡ long → refusedOf side w (listOf w a) ≡ refused
           → cond none fault.addresses
-          (cond whole (cond many fault.limit (cond long fault.limit (cond refused fault.dropped (paramsFault p)))) fault.addresses) ≡ 0
+          (cond (not whole) fault.addresses (cond many fault.limit (cond long fault.limit (cond refused fault.dropped (paramsFault p))))) ≡ 0
           → PassedTail side w a p
       go true whole many long refused n h m l r e = absurd (omega arith)
       go false false many long refused n h m l r e = absurd (omega arith)

@@ -1,6 +1,6 @@
 -- Which numbers the judge gives: 0, or 21 to 28 (01, Numbers given back). Assumes nothing.
 use mathlib.Core.Path.{_≡_, refl}
-use mathlib.Core.Bool.{Bool, true, false, cond}
+use mathlib.Core.Bool.{Bool, true, false, cond, not}
 use mathlib.Core.Logic.{_⊎_, inl, inr}
 use mathlib.Core.List.{List}
 use Prim.Native.Nat.{ℕ, _/_, _%_, _≤_}
@@ -39,7 +39,7 @@ tail-number side w a p =
   where
     go : (none whole many long refused : Bool)
         → FaultNumber (cond none fault.addresses
-        (cond whole (cond many fault.limit (cond long fault.limit (cond refused fault.dropped (paramsFault p)))) fault.addresses))
+        (cond (not whole) fault.addresses (cond many fault.limit (cond long fault.limit (cond refused fault.dropped (paramsFault p))))))
     go true whole many long refused = within _ (omega arith) (omega arith)
     go false false many long refused = within _ (omega arith) (omega arith)
     go false true true long refused = within _ (omega arith) (omega arith)

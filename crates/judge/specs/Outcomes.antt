@@ -1,9 +1,8 @@
 -- What the definitions say on each way through the code: one lemma for each return. Assumes nothing.
-use mathlib.Core.Path.{_≡_, refl, sym, ap, _∙_}
-use mathlib.Core.Bool.{Bool, true, false, cond}
+use mathlib.Core.Path.{_≡_, sym, _∙_}
+use mathlib.Core.Bool.{Bool, true, false}
 use mathlib.Core.List.{List}
 use Prim.Native.Nat.{ℕ, _/_, _%_, _≤_, _<_}
-use lib.Dec.{ltb, eqb}
 use lib.ListN.{length}
 use borrow.Author.Tests.{eq-eqb, ne-eqb, lt-ltb, le-ltb}
 use Rattle.numbers.specs.Fault as fault
@@ -17,7 +16,6 @@ use Rattle.addresses.specs.Addresses.{listOf, anyOf, noneOf}
 use Rattle.svcparams.specs.Params.{paramsFault}
 use Rattle.judge.specs.declared.Side.{Side}
 use Rattle.judge.specs.declared.Side.the-variants.{Reading, Writing}
-use Rattle.judge.specs.declared.Judged.{Judged}
 use Rattle.judge.specs.Judge.{nameOf, refusedOf, tailFault, nameOnlyFault, judged, judgedOf}
 
 module _ (side : Side) (c : Carrier) (name : List ℕ) (r : Name) where

@@ -1,9 +1,8 @@
--- The parameters that a field begins with, whether or not they tile it: what the passes after the first one read, so that they need no
--- premise. Where the field is tiled these are its parameters. Assumes nothing: these are definitions.
+-- The parameters that a field begins with, whether or not they tile it: what the checks of values read, so that they need no premise.
+-- Where the field is tiled these are its parameters. Assumes nothing: these are definitions.
 use Prim.Native.Nat.{ℕ, zero, suc}
-use mathlib.Core.Bool.{Bool, false}
 use mathlib.Core.List.{List, [], _∷_}
-use Rattle.svcparams.specs.Params.{Param, sizeOf, first, Tiled, bad, tiled, keys, ordered}
+use Rattle.svcparams.specs.Params.{Param, sizeOf, first, keys}
 
 -- `s` begins with a parameter of so many octets; `go k` reads what stands k octets past its first
 abbrev pub afterEntry : List ℕ → ℕ → (ℕ → List Param) → List Param
@@ -22,8 +21,3 @@ entries p = entriesFrom 0 p
 -- the keys of a field's parameters
 abbrev pub keysIn : List ℕ → List ℕ
 keysIn p = keys (entries p)
-
--- parameters tile the field, and their keys are as they must be
-abbrev pub orderly : ℕ → Tiled → Bool
-orderly least bad = false
-orderly least (tiled kvs) = ordered least (keys kvs)

@@ -1,7 +1,7 @@
 -- The theorems of service parameters: a field of octets is its parameters one after another, in one way only; it has no fault exactly if
 -- it is accepted; and its fault is the first in the order tiling and keys, hints, values. Assumes nothing.
 use mathlib.Core.Path.{_≡_, refl, ap, _∙_}
-use mathlib.Core.Bool.{Bool, true, false, cond}
+use mathlib.Core.Bool.{Bool, true, false, cond, not}
 use mathlib.Core.Logic.{_↔_, _⊎_, inl, inr}
 use mathlib.Core.List.{List}
 use Prim.Native.Nat.{ℕ}
@@ -80,7 +80,7 @@ pub fault-number : (p : List ℕ) → FaultNumber (paramsFault p)
 unfolding paramsFault
 fault-number p = tile (pairs p)
   where
-    judge : (a b d : Bool) → FaultNumber (cond a (cond b fault.hint (cond d 0 fault.value)) fault.parameters)
+    judge : (a b d : Bool) → FaultNumber (cond (not a) fault.parameters (cond b fault.hint (cond (not d) fault.value 0)))
     judge false b d = inr (inl refl)
     judge true true d = inr (inr (inl refl))
     judge true false false = inr (inr (inr refl))

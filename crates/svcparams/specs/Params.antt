@@ -120,10 +120,10 @@ allGood (kv ∷ kvs) ks = valueGood (kv .key) (kv .value) ks && allGood kvs ks
 
 abbrev pub listFault : List Param → ℕ
 listFault kvs =
-    cond (ordered 0 (keys kvs))
+    cond (not (ordered 0 (keys kvs))) fault.parameters
     (cond (hasHint (keys kvs)) fault.hint
-    (cond (allGood kvs (keys kvs)) 0 fault.value))
-    fault.parameters
+    (cond (not (allGood kvs (keys kvs))) fault.value
+    0))
 
 abbrev pub tiledFault : Tiled → ℕ
 tiledFault bad = fault.parameters

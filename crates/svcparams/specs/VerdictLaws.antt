@@ -47,7 +47,7 @@ values-allowed p kvs o w e = values-means (keys kvs) kvs (field-octets kvs (subs
 -- ---- from the reason to the fault
 
 module _ (p : List ℕ) (kvs : List Param) (w : Ordered p kvs) where
-  ordered-fault : paramsFault p ≡ cond (hasHint (keys kvs)) fault.hint (cond (allGood kvs (keys kvs)) 0 fault.value)
+  ordered-fault : paramsFault p ≡ cond (hasHint (keys kvs)) fault.hint (cond (not (allGood kvs (keys kvs))) fault.value 0)
   unfolding paramsFault
   ordered-fault = ap tiledFault (ordered-tiled p kvs w) ∙ simp (ordered-true p kvs w)
 
@@ -90,7 +90,7 @@ verdict p o = tile (pairs p) refl
         true≢false (sym (ordered-true p lws w) ∙ ap (λ (l : List Param). ordered 0 (keys l)) s ∙ e)
 
     judge : (kvs : List Param) → pairs p ≡ tiled kvs → (a b d : Bool) → ordered 0 (keys kvs) ≡ a → hasHint (keys kvs) ≡ b → allGood kvs (keys kvs) ≡ d
-        → Verdict p (cond a (cond b fault.hint (cond d 0 fault.value)) fault.parameters)
+        → Verdict p (cond (not a) fault.parameters (cond b fault.hint (cond (not d) fault.value 0)))
     judge kvs q false b d ea eb ed = unordered refl (λ lws w. other kvs lws q ea w)
     judge kvs q true true d ea eb ed = hinted refl kvs (true-ordered p kvs o q ea) (hint-means kvs eb)
     judge kvs q true false false ea eb ed =

@@ -1,71 +1,104 @@
--- The laws of the passes over a field, each with the invariant of its loop, and how they decide the fault. Assumes nothing.
+-- The laws of the passes over a field, each with the invariant of its loop. Assumes nothing.
 use mathlib.Core.Path.{_≡_, refl, sym, ap, _∙_}
-use mathlib.Core.Bool.{Bool, true, false, cond, not, and-false}
+use mathlib.Core.Bool.{Bool, true, false, cond, not, _||_, and-false, or-false, or-assoc}
 use mathlib.Core.List.{List, [], _∷_}
 use Prim.Native.Nat.{ℕ, _+_, _≤_, _<_}
 use native.Mathlib.Omega.{arith}
+use lib.Dec.{eqb}
 use lib.ListN.{length, drop}
 use borrow.Author.Tests.{le-leb, lt-leb, eq-eqb, ne-eqb, not-true, not-false}
 use Rattle.octets.specs.Numbers.{at16}
 use Rattle.numbers.specs.Fault as fault
 use Rattle.svcparams.specs.Key as key
-use Rattle.svcparams.specs.Params.{Param, sizeOf, Tiled, bad, tiled, onto, pairs, keys, rising, has, ordered, hasHint, valueGood, allGood, listFault, tiledFault, paramsFault}
-use Rattle.svcparams.specs.Entries.{entries, keysIn, orderly}
+use Rattle.svcparams.specs.Params.{Param, sizeOf, Tiled, bad, tiled, onto, pairs, keys, rising, has, ordered, hasHint, valueGood, allGood, tiledFault, paramsFault}
+use Rattle.svcparams.specs.Entries.{entries, keysIn}
 use Rattle.svcparams.specs.TilingLaws.{rest, end-of, valueAt, paramAt, pairs-none, entries-tiled, stop-pairs, stop-entries, next-room, next-pairs, next-entries}
 
--- ---- tiling and the order of keys
+-- ---- tiling, the order of keys, and hints
 
-onto-low : (least : ℕ) (kv : Param) (t : Tiled) → kv .key < least → orderly least (onto kv t) ≡ false
-unfolding rising keys
-onto-low least kv bad h = refl
-onto-low least kv (tiled kvs) h = simp (lt-leb _ _ h)
+-- the fault of the values of a field
+abbrev valuesFault : List ℕ → ℕ
+valuesFault p = cond (not (allGood (entries p) (keysIn p))) fault.value 0
 
-onto-invalid : (least : ℕ) (kv : Param) (t : Tiled) → kv .key ≡ key.invalid → orderly least (onto kv t) ≡ false
-unfolding has keys
-onto-invalid least kv bad h = refl
-onto-invalid least kv (tiled kvs) h = simp (eq-eqb _ _ h, and-false)
+-- the fault of the field p by what is left of it: its keys are from `least` on, and `hinted` is whether a hint stood before
+abbrev faultFrom : List ℕ → ℕ → Bool → Tiled → ℕ
+faultFrom p least hinted bad = fault.parameters
+faultFrom p least hinted (tiled kvs) =
+    cond (not (ordered least (keys kvs))) fault.parameters
+    (cond (hinted || hasHint (keys kvs)) fault.hint
+    (valuesFault p))
 
-onto-next : (least : ℕ) (kv : Param) (t : Tiled) → least ≤ kv .key → (kv .key ≡ key.invalid → ⊥) → orderly least (onto kv t) ≡ orderly (kv .key + 1) t
-unfolding rising has keys
-onto-next least kv bad h g = refl
-onto-next least kv (tiled kvs) h g = simp (le-leb _ _ h, ne-eqb _ _ g)
+module _ (p : List ℕ) (least : ℕ) (hinted : Bool) (kv : Param) where
+  onto-low : (t : Tiled) → kv .key < least → faultFrom p least hinted (onto kv t) ≡ fault.parameters
+  unfolding rising keys
+  onto-low bad h = refl
+  onto-low (tiled kvs) h = simp (lt-leb _ _ h)
 
--- what is left of the field decides, its keys from `least` on
-pub record InOrder (p : List ℕ) (at least : ℕ) : Type 0 where
+  onto-invalid : (t : Tiled) → kv .key ≡ key.invalid → faultFrom p least hinted (onto kv t) ≡ fault.parameters
+  unfolding has keys
+  onto-invalid bad h = refl
+  onto-invalid (tiled kvs) h = simp (eq-eqb _ _ h, and-false)
+
+  onto-next : (t : Tiled) → least ≤ kv .key → (kv .key ≡ key.invalid → ⊥)
+      → faultFrom p least hinted (onto kv t) ≡ faultFrom p (kv .key + 1) (hinted || eqb (kv .key) key.ipv4hint || eqb (kv .key) key.ipv6hint) t
+  unfolding rising has hasHint keys
+  onto-next bad h g = refl
+  onto-next (tiled kvs) h g = simp (le-leb _ _ h, ne-eqb _ _ g, or-assoc)
+
+-- what is left of the field decides its fault
+pub record InOrder (p : List ℕ) (at least : ℕ) (hinted : Bool) : Type 0 where
   pub within : at ≤ length p
-  pub left : orderly 0 (pairs p) ≡ orderly least (pairs (drop at p))
+  pub left : paramsFault p ≡ faultFrom p least hinted (pairs (drop at p))
 
-pub order-start : (p : List ℕ) → InOrder p 0 0
-order-start p = record { within = omega arith; left = refl }
+pub order-start : (p : List ℕ) → InOrder p 0 0 false
+unfolding paramsFault
+order-start p = record { within = omega arith; left = whole (pairs p) refl }
+  where
+    whole : (t : Tiled) → pairs p ≡ t → tiledFault t ≡ faultFrom p 0 false t
+    whole bad e = refl
+    whole (tiled kvs) e = simp (entries-tiled p kvs e)
 
-pub order-end : (p : List ℕ) (at least : ℕ) → InOrder p at least → length p ≤ at → true ≡ orderly 0 (pairs p)
-unfolding rising has keys
-order-end p at least i h =
-    sym (i .left ∙ ap (λ (l : List ℕ). orderly least (pairs l)) (end-of p at (i .within) h) ∙ ap (orderly least) pairs-none)
+module _ (p : List ℕ) (at least : ℕ) (hinted : Bool) (i : InOrder p at least hinted) where
+  module _ (h : length p ≤ at) where
+    order-end : paramsFault p ≡ cond hinted fault.hint (valuesFault p)
+    unfolding rising has hasHint keys
+    order-end =
+        i .left ∙ ap (λ (l : List ℕ). faultFrom p least hinted (pairs l)) (end-of p at (i .within) h)
+        ∙ ap (faultFrom p least hinted) pairs-none ∙ simp or-false
 
-module _ (p : List ℕ) (at least : ℕ) {n : ℕ} (i : InOrder p at least) (e : n ≡ sizeOf (rest p at)) where
-  pub order-bad : at < length p → n ≡ 0 → false ≡ orderly 0 (pairs p)
-  order-bad h z = sym (i .left ∙ ap (orderly least) (stop-pairs p at e h z))
+    pub order-hint : hinted ≡ true → fault.hint ≡ paramsFault p
+    order-hint z = sym (order-end ∙ simp z)
 
-  module _ {k : ℕ} (z : n ≡ 0 → ⊥) (q : k ≡ at16 (rest p at) 0) where
-    onward : orderly 0 (pairs p) ≡ orderly least (onto (paramAt p at n) (pairs (drop (at + n) p)))
-    onward = i .left ∙ ap (orderly least) (next-pairs p at e z)
+    module _ {v : Bool} (none : hinted ≡ false) (e : v ≡ allGood (entries p) (keysIn p)) where
+      pub order-value : not v ≡ true → fault.value ≡ paramsFault p
+      order-value z = sym (order-end ∙ simp (none, sym e, z))
 
-    pub order-low : k < least → false ≡ orderly 0 (pairs p)
-    order-low h = sym (onward ∙ onto-low least (paramAt p at n) (pairs (drop (at + n) p)) (omega arith))
+      pub order-none : not v ≡ false → 0 ≡ paramsFault p
+      order-none z = sym (order-end ∙ simp (none, sym e, z))
 
-    pub order-invalid : k ≡ key.invalid → false ≡ orderly 0 (pairs p)
-    order-invalid h = sym (onward ∙ onto-invalid least (paramAt p at n) (pairs (drop (at + n) p)) (omega arith))
+  module _ {n : ℕ} (e : n ≡ sizeOf (rest p at)) where
+    pub order-bad : at < length p → n ≡ 0 → fault.parameters ≡ paramsFault p
+    order-bad h z = sym (i .left ∙ ap (faultFrom p least hinted) (stop-pairs p at e h z))
 
-    pub order-next : least ≤ k → (k ≡ key.invalid → ⊥) → InOrder p (at + n) (k + 1)
-    order-next h g =
-        let r = next-room p at e in
-        let w = i .within in
-        record {
-          within = omega arith;
-          left = onward ∙ onto-next least (paramAt p at n) (pairs (drop (at + n) p)) (omega arith) (λ y. g (q ∙ y))
-              ∙ ap (λ (m : ℕ). orderly (m + 1) (pairs (drop (at + n) p))) (sym q);
-        }
+    module _ {k : ℕ} (z : n ≡ 0 → ⊥) (q : k ≡ at16 (rest p at) 0) where
+      onward : paramsFault p ≡ faultFrom p least hinted (onto (paramAt p at n) (pairs (drop (at + n) p)))
+      onward = i .left ∙ ap (faultFrom p least hinted) (next-pairs p at e z)
+
+      pub order-low : k < least → fault.parameters ≡ paramsFault p
+      order-low h = sym (onward ∙ onto-low p least hinted (paramAt p at n) (pairs (drop (at + n) p)) (omega arith))
+
+      pub order-invalid : k ≡ key.invalid → fault.parameters ≡ paramsFault p
+      order-invalid h = sym (onward ∙ onto-invalid p least hinted (paramAt p at n) (pairs (drop (at + n) p)) (omega arith))
+
+      pub order-next : least ≤ k → (k ≡ key.invalid → ⊥) → InOrder p (at + n) (k + 1) (hinted || eqb k key.ipv4hint || eqb k key.ipv6hint)
+      order-next h g =
+          let r = next-room p at e in
+          let w = i .within in
+          record {
+            within = omega arith;
+            left = onward ∙ onto-next p least hinted (paramAt p at n) (pairs (drop (at + n) p)) (omega arith) (λ y. g (q ∙ y))
+                ∙ ap (λ (m : ℕ). faultFrom p (m + 1) (hinted || eqb m key.ipv4hint || eqb m key.ipv6hint) (pairs (drop (at + n) p))) (sym q);
+          }
 
 -- ---- a pass over the parameters, for any test of a list of them
 
@@ -89,32 +122,6 @@ module _ {test : List Param → Bool} (p : List ℕ) (at : ℕ) {n : ℕ} (i : W
       let r = next-room p at e in
       let w = i .within in
       record { within = omega arith; left = walk-at z ∙ same }
-
--- ---- whether a parameter is an address hint
-
-abbrev pub Hints : List ℕ → ℕ → Type 0
-Hints p at = Walk (λ es. hasHint (keys es)) p at
-
-pub hint-start : (p : List ℕ) → Hints p 0
-hint-start p = walk-start _ p
-
-module _ (p : List ℕ) (at : ℕ) {n : ℕ} (i : Hints p at) (e : n ≡ sizeOf (rest p at)) where
-  pub hint-end : n ≡ 0 → false ≡ hasHint (keysIn p)
-  unfolding hasHint keys
-  hint-end z = sym (walk-end p at i e z)
-
-  module _ {k : ℕ} (z : n ≡ 0 → ⊥) (q : k ≡ at16 (rest p at) 0) where
-    pub hint-ipv4 : k ≡ key.ipv4hint → true ≡ hasHint (keysIn p)
-    unfolding hasHint keys
-    hint-ipv4 h = sym (walk-at p at i e z ∙ simp (eq-eqb _ _ (sym q ∙ h)))
-
-    pub hint-ipv6 : (k ≡ key.ipv4hint → ⊥) → k ≡ key.ipv6hint → true ≡ hasHint (keysIn p)
-    unfolding hasHint keys
-    hint-ipv6 g h = sym (walk-at p at i e z ∙ simp (ne-eqb _ _ (λ y. g (q ∙ y)), eq-eqb _ _ (sym q ∙ h)))
-
-    pub hint-next : (k ≡ key.ipv4hint → ⊥) → (k ≡ key.ipv6hint → ⊥) → Hints p (at + n)
-    unfolding hasHint keys
-    hint-next g h = walk-next p at i e z (simp (ne-eqb _ _ (λ y. g (q ∙ y)), ne-eqb _ _ (λ y. h (q ∙ y))))
 
 -- ---- whether a key is a parameter's
 
@@ -162,39 +169,3 @@ module _ (p : List ℕ) (at : ℕ) {n : ℕ} (i : Valued p at) (e : n ≡ sizeOf
     pub values-next : not b ≡ false → Valued p (at + n)
     unfolding allGood
     values-next y = walk-next p at i e z (simp (judged ∙ not-false _ y))
-
--- ---- the fault
-
-tiled-fault : (p : List ℕ) (t : Tiled) → pairs p ≡ t → true ≡ orderly 0 t → tiledFault t ≡ listFault (entries p)
-tiled-fault p bad e o = let z : _≡_ {A = ℕ} 0 1 = cc in absurd (omega arith)
-tiled-fault p (tiled kvs) e o = ap listFault (sym (entries-tiled p kvs e))
-
-tiled-ordered : (p : List ℕ) (t : Tiled) → pairs p ≡ t → true ≡ orderly 0 t → true ≡ ordered 0 (keysIn p)
-tiled-ordered p bad e o = let z : _≡_ {A = ℕ} 0 1 = cc in absurd (omega arith)
-tiled-ordered p (tiled kvs) e o = o ∙ ap (λ (l : List Param). ordered 0 (keys l)) (sym (entries-tiled p kvs e))
-
-unordered-fault : (t : Tiled) → false ≡ orderly 0 t → fault.parameters ≡ tiledFault t
-unordered-fault bad o = refl
-unordered-fault (tiled kvs) o = simp (sym o)
-
-module _ (p : List ℕ) {o : Bool} (eo : o ≡ orderly 0 (pairs p)) where
-  pub fault-parameters : not o ≡ true → fault.parameters ≡ paramsFault p
-  unfolding paramsFault
-  fault-parameters z = unordered-fault (pairs p) (sym (not-true _ z) ∙ eo)
-
-  ordered-fault : not o ≡ false → paramsFault p ≡ cond (hasHint (keysIn p)) fault.hint (cond (allGood (entries p) (keysIn p)) 0 fault.value)
-  unfolding paramsFault
-  ordered-fault z =
-      let y : true ≡ orderly 0 (pairs p) = sym (not-false _ z) ∙ eo in
-      tiled-fault p (pairs p) refl y ∙ simp (sym (tiled-ordered p (pairs p) refl y))
-
-  module _ {h : Bool} (yes : not o ≡ false) (eh : h ≡ hasHint (keysIn p)) where
-    pub fault-hint : h ≡ true → fault.hint ≡ paramsFault p
-    fault-hint z = sym (ordered-fault yes ∙ simp (sym eh ∙ z))
-
-    module _ {v : Bool} (none : h ≡ false) (ev : v ≡ allGood (entries p) (keysIn p)) where
-      pub fault-value : not v ≡ true → fault.value ≡ paramsFault p
-      fault-value z = sym (ordered-fault yes ∙ simp (sym eh ∙ none, sym ev ∙ not-true _ z))
-
-      pub fault-none : not v ≡ false → 0 ≡ paramsFault p
-      fault-none z = sym (ordered-fault yes ∙ simp (sym eh ∙ none, sym ev ∙ not-false _ z))

@@ -5,8 +5,8 @@
 ghost use mathlib.Core.Path.{_≡_};
 ghost use Prim.Native.Nat.{_≤_};
 ghost use lib.ListN.{length};
-ghost use Rattle.svcparams.specs.Params.{sizeOf, pairs, rising, hasHint, allIn, words, mandatoryGood, alpnGood, valueGood, allGood, paramsFault};
-ghost use Rattle.svcparams.specs.Entries.{entries, keysIn, orderly};
+ghost use Rattle.svcparams.specs.Params.{sizeOf, rising, allIn, words, mandatoryGood, alpnGood, valueGood, allGood, paramsFault};
+ghost use Rattle.svcparams.specs.Entries.{entries, keysIn};
 use numbers::Fault;
 use octets::get16;
 use octets::wide;
@@ -45,53 +45,6 @@ fn size(s: &[u8]) -> usize
         return 0;
     }
     n
-}
-
-// Whether parameters tile the field, and their keys rise strictly without the invalid one.
-fn in_order(p: &[u8]) -> bool
-    ensures { λ r. ⌜ r ≡ orderly 0 (pairs (now (p .entry))) ⌝ }
-{
-    let mut at: usize = 0;
-    let mut least: usize = 0;
-    while at < p.len() {
-        let s = &p[at..];
-        let n = size(s);
-        if n == 0 {
-            return false;
-        }
-        let key = get16(s, 0);
-        if key < least {
-            return false;
-        }
-        if key == Key::INVALID {
-            return false;
-        }
-        least = key + 1;
-        at += n;
-    }
-    true
-}
-
-// Whether a parameter is an address hint.
-fn has_hint(p: &[u8]) -> bool
-    ensures { λ r. ⌜ r ≡ hasHint (keysIn (now (p .entry))) ⌝ }
-{
-    let mut at: usize = 0;
-    loop {
-        let s = &p[at..];
-        let n = size(s);
-        if n == 0 {
-            return false;
-        }
-        let key = get16(s, 0);
-        if key == Key::IPV4HINT {
-            return true;
-        }
-        if key == Key::IPV6HINT {
-            return true;
-        }
-        at += n;
-    }
 }
 
 // Whether the keys of a mandatory list rise strictly, without 0.
@@ -214,14 +167,31 @@ fn values(p: &[u8]) -> bool
     }
 }
 
-// The first fault of the field, or 0.
+// The first fault of the field, or 0. Tiling and keys go before hints over the whole field: a hint is remembered, and answered at the end.
 pub fn params_fault(p: &[u8]) -> usize
     ensures { λ r. ⌜ r ≡ paramsFault (now (p .entry)) ⌝ }
 {
-    if !in_order(p) {
-        return Fault::PARAMETERS;
+    let mut at: usize = 0;
+    let mut least: usize = 0;
+    let mut hinted = false;
+    while at < p.len() {
+        let s = &p[at..];
+        let n = size(s);
+        if n == 0 {
+            return Fault::PARAMETERS;
+        }
+        let key = get16(s, 0);
+        if key < least {
+            return Fault::PARAMETERS;
+        }
+        if key == Key::INVALID {
+            return Fault::PARAMETERS;
+        }
+        hinted = hinted | (key == Key::IPV4HINT) | (key == Key::IPV6HINT);
+        least = key + 1;
+        at += n;
     }
-    if has_hint(p) {
+    if hinted {
         return Fault::HINT;
     }
     if !values(p) {

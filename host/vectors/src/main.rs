@@ -1,8 +1,14 @@
-//! Writes the files `stdin` and `stdout` of the vectors over names, addresses
-//! and parameters into a directory: cases, one a line, and for each the line
-//! that the reference answers. The same octets every time.
+//! Writes test vectors into a directory, as files `stdin` and `stdout`. The
+//! same octets every time.
+//!
+//! - `vectors DIRECTORY`: vectors over names, addresses and parameters, one a
+//!   line, and for each the line that the reference answers.
+//! - `vectors boundaries DIRECTORY [LIST]`: boundary cases of reading and
+//!   writing, in octets, and for each the line that document 01 states and the
+//!   reference confirms. The file LIST tells the source of each line.
 
 mod addresses;
+mod boundaries;
 mod cases;
 mod names;
 mod numbers;
@@ -10,6 +16,7 @@ mod params;
 
 use cases::Cases;
 use numbers::Numbers;
+use std::ffi::OsString;
 use std::path::Path;
 use std::{env, fs, io, process};
 
@@ -35,14 +42,30 @@ fn write_files(directory: &Path) -> io::Result<()> {
     fs::write(directory.join("stdout"), cases.stdout())
 }
 
+/// Does what the arguments ask for; none if they ask for nothing known.
+fn run(arguments: &[OsString]) -> Option<io::Result<()>> {
+    match arguments {
+        [directory] => Some(write_files(Path::new(directory))),
+        [kind, directory, list @ ..] if kind == "boundaries" && list.len() < 2 => {
+            let list = list.first().map(Path::new);
+            Some(boundaries::write_files(Path::new(directory), list))
+        }
+        _ => None,
+    }
+}
+
 fn main() {
-    let Some(directory) = env::args_os().nth(1) else {
-        eprintln!("usage: vectors DIRECTORY");
-        process::exit(2);
-    };
-    if let Err(error) = write_files(Path::new(&directory)) {
-        eprintln!("vectors: {error}");
-        process::exit(1);
+    let arguments: Vec<OsString> = env::args_os().skip(1).collect();
+    match run(&arguments) {
+        Some(Ok(())) => {}
+        Some(Err(error)) => {
+            eprintln!("vectors: {error}");
+            process::exit(1);
+        }
+        None => {
+            eprintln!("usage: vectors DIRECTORY | vectors boundaries DIRECTORY [LIST]");
+            process::exit(2);
+        }
     }
 }
 

@@ -1,13 +1,12 @@
 -- `addresses::kept_count` meets its contract. The loop's invariant: the count so far, with those kept of the addresses that are left,
 -- is the whole count. Assumes nothing.
-use borrow.Author.Tests.{not-true, not-false}
+use borrow.Author.Needs.{needs}
 use native.Mathlib.Omega.{arith}
 use mathlib.Core.Path.{_≡_, ap}
-use mathlib.Core.Bool.{true, false}
 use Prim.Native.Nat.{_+_, _-_, _≤_}
 use lib.ListN.{length, drop}
 use Rattle.addresses.specs.Addresses.{listOf, keptOf}
-use Rattle.addresses.specs.AddressesLaws.{wide-some, part-wide, part-tested, kept-drop, kept-keep, kept-end}
+use Rattle.addresses.specs.AddressesLaws.{part-wide, kept-drop, kept-keep, kept-end}
 use Rattle.addresses.proofs.kept_count.Statement.{statement}
 use Rattle.addresses.proofs.kept_count.Tie as tie
 
@@ -36,10 +35,7 @@ part-dropped-end : tie.Need-part-dropped-end Inv-loop μ-loop
 part-dropped-end c = omega arith
 
 dropped-requires : tie.Need-dropped-requires Inv-loop μ-loop
-dropped-requires c κs =
-    let at-loop = c .before .before in
-    let wide = at-loop .before .before .pre in
-    (wide, part-wide _ _ (at-loop .loop .at) (wide-some wide) (c .before .loop-test .taken))
+dropped-requires c κs = search (needs, part-wide)
 
 add-n : tie.Need-add-n Inv-loop μ-loop
 add-n c = omega arith
@@ -51,10 +47,7 @@ loop-again : tie.Need-loop-again Inv-loop μ-loop
 loop-again c =
     let in-loop = c .before .before .before in
     let at-loop = in-loop .before in
-    let some = wide-some (at-loop .before .before .pre) in
-    let h = in-loop .loop-test .taken in
-    let stays : c .before .dropped .result ≡ false = search not-true in
-    let kept = kept-keep _ _ (at-loop .loop .at) some h (part-tested _ _ (at-loop .loop .at) some h (c .before .dropped .ensures) stays) in
+    let kept = kept-keep _ _ (at-loop .loop .at) (at-loop .before .before .pre) (in-loop .loop-test .taken) (c .before .dropped .ensures) (c .if1 .taken) in
     (omega arith, omega arith, omega (arith, ap length kept))
 
 loop-less-2 : tie.Need-loop-less-2 Inv-loop μ-loop
@@ -64,10 +57,7 @@ loop-again-2 : tie.Need-loop-again-2 Inv-loop μ-loop
 loop-again-2 c =
     let in-loop = c .before .before .before in
     let at-loop = in-loop .before in
-    let some = wide-some (at-loop .before .before .pre) in
-    let h = in-loop .loop-test .taken in
-    let goes : c .before .dropped .result ≡ true = search not-false in
-    let kept = kept-drop _ _ (at-loop .loop .at) some h (part-tested _ _ (at-loop .loop .at) some h (c .before .dropped .ensures) goes) in
+    let kept = kept-drop _ _ (at-loop .loop .at) (at-loop .before .before .pre) (in-loop .loop-test .taken) (c .before .dropped .ensures) (c .if1 .left) in
     (omega arith, omega arith, omega (arith, ap length kept))
 
 returns : tie.Need-returns Inv-loop μ-loop

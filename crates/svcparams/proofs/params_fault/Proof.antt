@@ -1,38 +1,90 @@
--- `svcparams::params_fault` meets its contract. Assumes nothing.
+-- `svcparams::params_fault` meets its contract. The loop's invariant: what is left of the field decides. Assumes nothing.
 use borrow.Author.Needs.{needs}
-use Rattle.svcparams.specs.WalkLaws.{fault-parameters, fault-hint, fault-value, fault-none}
+use native.Mathlib.Omega.{arith}
+use Prim.Native.Nat.{_-_}
+use lib.ListN.{length}
+use Rattle.svcparams.specs.TilingLaws.{size-head}
+use Rattle.svcparams.specs.WalkLaws.{InOrder, order-start, order-bad, order-low, order-invalid, order-next, order-hint, order-value, order-none}
 use Rattle.svcparams.proofs.params_fault.Statement.{statement}
 use Rattle.svcparams.proofs.params_fault.Tie as tie
 
-in-order-requires : tie.Need-in-order-requires
-in-order-requires c κs = search needs
+abbrev Inv-loop : tie.InvT-loop
+Inv-loop p at₀ least₀ hinted₀ at least hinted = InOrder p at least hinted
 
-returns : tie.Need-returns
-returns c = search (needs, fault-parameters)
+abbrev μ-loop : tie.MeasureT-loop
+μ-loop p at₀ least₀ hinted₀ at least hinted = length p - at
 
-has-hint-requires : tie.Need-has-hint-requires
-has-hint-requires c κs = search needs
+loop-holds : tie.Need-loop-holds Inv-loop μ-loop
+loop-holds c = order-start _
 
-returns-2 : tie.Need-returns-2
-returns-2 c = search (needs, fault-hint)
+sub-s : tie.Need-sub-s Inv-loop μ-loop
+sub-s c = search needs
 
-values-requires : tie.Need-values-requires
+part-s-start : tie.Need-part-s-start Inv-loop μ-loop
+part-s-start c = search needs
+
+part-s-end : tie.Need-part-s-end Inv-loop μ-loop
+part-s-end c = search needs
+
+size-requires : tie.Need-size-requires Inv-loop μ-loop
+size-requires c κs = search needs
+
+returns : tie.Need-returns Inv-loop μ-loop
+returns c = search (needs, order-bad)
+
+get16-requires : tie.Need-get16-requires Inv-loop μ-loop
+get16-requires c κs = omega (arith, size-head _ (c .before .size .ensures .0) (c .if1 .left))
+
+returns-2 : tie.Need-returns-2 Inv-loop μ-loop
+returns-2 c = search (needs, order-low)
+
+returns-3 : tie.Need-returns-3 Inv-loop μ-loop
+returns-3 c = search (needs, order-invalid)
+
+add-least : tie.Need-add-least Inv-loop μ-loop
+add-least c = search needs
+
+add-at : tie.Need-add-at Inv-loop μ-loop
+add-at c = search needs
+
+loop-less : tie.Need-loop-less Inv-loop μ-loop
+loop-less c = search needs
+
+loop-again : tie.Need-loop-again Inv-loop μ-loop
+loop-again c = search (needs, order-next)
+
+returns-4 : tie.Need-returns-4 Inv-loop μ-loop
+returns-4 c = search (needs, order-hint)
+
+values-requires : tie.Need-values-requires Inv-loop μ-loop
 values-requires c κs = search needs
 
-returns-3 : tie.Need-returns-3
-returns-3 c = search (needs, fault-value)
+returns-5 : tie.Need-returns-5 Inv-loop μ-loop
+returns-5 c = search (needs, order-value)
 
-returns-4 : tie.Need-returns-4
-returns-4 c = search (needs, fault-none)
+returns-6 : tie.Need-returns-6 Inv-loop μ-loop
+returns-6 c = search (needs, order-none)
 
 pub params-fault-spec : {M : Type 1} → statement M
 params-fault-spec =
     tie.close
     (tie.spec
-    in-order-requires
+    Inv-loop
+    μ-loop
+    loop-holds
+    sub-s
+    part-s-start
+    part-s-end
+    size-requires
     returns
-    has-hint-requires
+    get16-requires
     returns-2
-    values-requires
     returns-3
-    returns-4)
+    add-least
+    add-at
+    loop-less
+    loop-again
+    returns-4
+    values-requires
+    returns-5
+    returns-6)

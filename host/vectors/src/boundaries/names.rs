@@ -1,0 +1,170 @@
+//! Names of the greatest and least lengths, and names that document 01 does
+//! not accept (01 Names, addresses, parameters; points N1 to N4, B12, B13).
+
+use super::layout::{address, area, name_of, one, option, sheet, text, two, Resolver, P};
+use super::pieces::{k1, k3};
+use super::table::{Table, ROOM};
+
+/// A resolver with this name, in the smallest form of the carrier.
+fn with(carrier: u8, name: &[u8]) -> [Resolver; 1] {
+    [Resolver::small(carrier, 1, name)]
+}
+
+/// Wire names of 255 octets, which are texts of 253, are good in all carriers.
+/// So are labels of 63 octets, names of 3 octets, and upper case, which is
+/// kept.
+fn add_good(table: &mut Table) {
+    let upper = b"\x04DoH1\x07eXample\x03COM\0".to_vec();
+    for carrier in 1..=5 {
+        for (name, what) in [
+            (name_of(&[63, 63, 63, 61]), "255 octets of long labels"),
+            (name_of(&[1; 127]), "255 octets of short labels"),
+            (name_of(&[63]), "a label of 63 octets"),
+            (name_of(&[1]), "3 octets"),
+            (upper.clone(), "upper case"),
+            (b"\x0dxn--bcher-kva\x011\0".to_vec(), "hyphens and digits"),
+        ] {
+            let source = format!("01 Names, {what}, carrier {carrier}");
+            table.goes_round(source, carrier, &with(carrier, &name));
+        }
+    }
+}
+
+/// 256 octets in wire form are possible with the 16-bit ADN length of carriers
+/// 2 and 3 (point B13), 254 and 255 octets of text with the 8-bit length of
+/// carriers 4 and 5 (point B12). A sheet cannot hold them.
+fn add_too_long(table: &mut Table) {
+    let name = name_of(&[63, 63, 63, 62]);
+    assert_eq!((name.len(), text(&name).len()), (256, 254));
+    for carrier in [2, 3] {
+        let source = format!("01 Names, 256 octets in carrier {carrier}");
+        table.discarded(source, carrier, &area(carrier, &with(carrier, &name)), 22);
+        let source = format!("point B13, ADN length 400 in carrier {carrier}");
+        let name = name_of(&[63, 63, 63, 63, 63, 63, 14]);
+        assert_eq!(name.len(), 400);
+        table.discarded(source, carrier, &area(carrier, &with(carrier, &name)), 22);
+    }
+    for carrier in [4, 5] {
+        for last in [62, 63] {
+            let name = name_of(&[63, 63, 63, last]);
+            let length = text(&name).len();
+            let source = format!("01 Names, text of {length} octets in carrier {carrier}");
+            table.discarded(source, carrier, &area(carrier, &with(carrier, &name)), 22);
+        }
+    }
+}
+
+/// A label of 64 octets, alone and behind another label.
+fn add_long_labels(table: &mut Table) {
+    for carrier in 1..=5 {
+        for lengths in [&[64][..], &[3, 64]] {
+            let resolvers = with(carrier, &name_of(lengths));
+            let source = format!("01 Names, a label of 64 octets, carrier {carrier}");
+            table.discarded(source.clone(), carrier, &area(carrier, &resolvers), 22);
+            table.write_refused(source, ROOM, &sheet(carrier, &resolvers), 22);
+        }
+    }
+}
+
+/// Wire names that are not accepted.
+const BAD_WIRE: [(&[u8], &str); 14] = [
+    (b"", "no octets"),
+    (b"\0", "the root alone"),
+    (b"\x01a", "no root"),
+    (b"\x03ab\0", "a label past the end"),
+    (b"\x01a\0\0", "an octet after the root"),
+    (b"\x01a\0\x01b\0", "a second name"),
+    (b"\x01a\xc0\x00", "compression"),
+    (b"\xc0\x0c\0", "compression alone"),
+    (b"\x02-a\0", "a hyphen first in a label"),
+    (b"\x02a-\0", "a hyphen last in a label"),
+    (b"\x01-\0", "a hyphen alone"),
+    (b"\x03a_b\0", "an underscore"),
+    (b"\x03a.b\0", "a dot within a label"),
+    (b"\x02\xc3\xa4\0", "octets above 127"),
+];
+
+/// The same as text, and what only a text can have.
+const BAD_TEXT: [(&[u8], &str); 14] = [
+    (b"", "no octets"),
+    (b".", "a dot alone"),
+    (b"a.", "a final dot"),
+    (b".a", "a dot first"),
+    (b"a..b", "an empty label"),
+    (b"-a", "a hyphen first"),
+    (b"a-", "a hyphen last"),
+    (b"a.-b", "a hyphen after a dot"),
+    (b"a-.b", "a hyphen before a dot"),
+    (b"a_b", "an underscore"),
+    (b"a\0", "NULL at the end (RFC 9464 section 3.1)"),
+    (b"a\r", "CR at the end (RFC 9464 section 3.1)"),
+    (b"\x01a\0", "wire form"),
+    (b"\xc3\xa4.example", "octets above 127"),
+];
+
+/// A block with this name as it stands, name only in carriers 1 to 3 and full
+/// in carriers 4 and 5.
+fn raw_block(carrier: u8, name: &[u8]) -> Vec<u8> {
+    let length = one(name.len());
+    let fields = match carrier {
+        1 => {
+            let instance = [&[0, 1], &length[..], name].concat();
+            [&two(instance.len())[..], &instance].concat()
+        }
+        2 => [&[0, 1, 0], &length[..], name].concat(),
+        3 => [&[0, 1, 0, 0, 0, 9, 0], &length[..], name].concat(),
+        _ => {
+            let address = address(carrier, 1);
+            [&[0, 1, 1], &length[..], &address, name, P].concat()
+        }
+    };
+    option(carrier, &fields)
+}
+
+/// Names of the two lists above, 22 in every carrier; in a sheet all carriers
+/// have the wire form.
+fn add_bad(table: &mut Table) {
+    for (name, what) in BAD_WIRE {
+        for carrier in 1..=3 {
+            let source = format!("01 Names, {what}, carrier {carrier}");
+            table.discarded(source, carrier, &raw_block(carrier, name), 22);
+        }
+        for carrier in 1..=5 {
+            let source = format!("01 Names, {what}, sheet of carrier {carrier}");
+            let sheet = sheet(carrier, &with(carrier, name));
+            table.write_refused(source, ROOM, &sheet, 22);
+        }
+    }
+    for (name, what) in BAD_TEXT {
+        for carrier in [4, 5] {
+            let source = format!("01 Names, text with {what}, carrier {carrier}");
+            table.discarded(source, carrier, &raw_block(carrier, name), 22);
+        }
+    }
+}
+
+/// A name must fill the ADN length exactly: with an ADN length one less the
+/// root is left out, and with one more the octet behind it is taken in.
+fn add_lengths(table: &mut Table) {
+    // In K1 the address length is then 0, behind the cut name, or 4,128, which
+    // runs past the end. In K3 the zeros behind the name become part of it.
+    let in_k1: &[(u8, usize)] = &[(17, 22), (19, 20)];
+    let in_k3: &[(u8, usize)] = &[(17, 22), (19, 22), (22, 22), (23, 20)];
+    for (carrier, octets, place, faults) in [(2, k1(), 7, in_k1), (3, k3(), 9, in_k3)] {
+        for (length, fault) in faults {
+            let mut octets = octets.clone();
+            octets[place] = *length;
+            let source = format!("01 Names, ADN length {length} for N in carrier {carrier}");
+            table.discarded(source, carrier, &octets, *fault);
+        }
+    }
+}
+
+/// All of the above.
+pub fn add(table: &mut Table) {
+    add_good(table);
+    add_too_long(table);
+    add_long_labels(table);
+    add_bad(table);
+    add_lengths(table);
+}
