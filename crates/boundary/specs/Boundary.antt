@@ -18,7 +18,7 @@ use Rattle.names.specs.Wire as wire
 use Rattle.texts.specs.TextCheck.{textCheck}
 use Rattle.texts.specs.TextCheck as text
 use Rattle.texts.specs.Texts.{run, wireFrom, wireOf, dotsFrom, textOf}
-use Rattle.addresses.specs.Addresses.{unusable4, unusable16, unusable, listOf, keptOf, anyOf}
+use Rattle.addresses.specs.Addresses.{unusable4, unusable16, unusable, listOf, keptOf, hasOf}
 use Rattle.svcparams.specs.Params.{paramsFault, pairsFrom, sizeOf, keys, rising, has, hasHint, stringsFrom, alpnGood, valueGood, allGood}
 use Rattle.frames.specs.Frame.{frameFrom}
 use Rattle.blocks.specs.Block.{isPadding, parse, layout}
@@ -94,7 +94,7 @@ unfolding readOf chosenOf frameFrom parse part number counted isPadding allZero 
     tailFault listOf keptOf unusable unusable4 unusable16
     paramsFault pairsFrom sizeOf keys rising has hasHint stringsFrom alpnGood valueGood allGood
     recordOf frontOf sheetOf
-    writeOf takeOf same recordsFrom anyOf firstFault anyLarge octetsOf layout textOf dotsFrom cutOf pieces
+    writeOf takeOf same recordsFrom hasOf firstFault anyLarge octetsOf layout textOf dotsFrom cutOf pieces
 boundary =
     back k1 (λ room. refl) (λ room. refl)
     and back k2 (λ room. refl) (λ room. refl)

@@ -1,6 +1,6 @@
 -- The answer by a tally is the answer of the definitions. Assumes nothing.
 use mathlib.Core.Path.{_≡_, refl, sym, ap, _∙_, subst, subst⁻¹}
-use mathlib.Core.Bool.{Bool, true, false, false≢true}
+use mathlib.Core.Bool.{Bool, true, false}
 use mathlib.Core.List.{List, [], _∷_, map}
 use Prim.Native.Nat.{ℕ, _+_, _≤_, _<_}
 use native.Mathlib.Omega.{arith}
@@ -19,18 +19,20 @@ use Rattle.carriers.specs.declared.Chosen.the-variants.{Known, Unknown}
 use Rattle.carriers.specs.Carriers.{chosenOf}
 use Rattle.octets.specs.Lists.{flat}
 use Rattle.frames.specs.Frame.{Framed, framed, frame}
-use Rattle.frames.specs.Frame as area
-use Rattle.frames.specs.Gather.{Joined}
+use Rattle.frames.specs.declared.Gathered.the-variants.{Many}
+use Rattle.frames.specs.Gather.{GatheredFrom, Joined}
+use Rattle.frames.specs.declared.Step.{Step}
+use Rattle.frames.specs.Step.{stepAt}
+use Rattle.frames.specs.WalkLaws.{walked-end, walked-fault}
 use Rattle.blocks.specs.Block.{Fields}
 use Rattle.records.specs.Records.{recordOf}
 use Rattle.sheets.specs.Sheets.{sheetOf}
 use Rattle.sheets.specs.SheetsLaws.{length-sheet}
 use Rattle.reading.specs.declared.Reading.{Reading}
-use Rattle.reading.specs.declared.Tally.{Tally}
-use Rattle.reading.specs.Reading.{joinedYield, yieldOf, arrivals, inOrder, Answer, refuse, readBlocks, readFramed, readArea, readChosen, readOf, Reads}
-use Rattle.reading.specs.Tally.{recordsAt, Shows, Tallied, Ready, answerOf, Gives}
-use Rattle.reading.specs.TallyLaws.{shows-ready}
+use Rattle.reading.specs.Reading.{yieldOf, arrivals, inOrder, Answer, refuse, readBlocks, readFramed, readArea, readChosen, readOf, Reads}
+use Rattle.reading.specs.Tally.{recordsAt, Tally, Shows, alone, answerOf, Gives}
 use Rattle.reading.specs.ListLaws.{sort-laid}
+use Rattle.reading.specs.Walks.{Tallying}
 
 module _ (c : Carrier) (source : List ℕ) (room : ℕ) where
   -- a tally that shows what the blocks yield answers for them
@@ -44,7 +46,7 @@ module _ (c : Carrier) (source : List ℕ) (room : ℕ) where
       go : (b : Bool) → ltb 16 (length rs) ≡ b → answerOf c source t room ≡ readBlocks c blocks room
       go true e =
           let more : t .held .more ≡ true = s .holds .more ∙ e in
-          rw (s .framed, more, e)
+          rw (more, e)
       go false e =
           let more : t .held .more ≡ false = s .holds .more ∙ e in
           let l = s .holds .lists (ltb-false _ _ e) in
@@ -54,71 +56,71 @@ module _ (c : Carrier) (source : List ℕ) (room : ℕ) where
           ∙ ap (λ (n : ℕ). 7 + n) (sym (sort-laid (recordOf c) (λ (f : Fields). f .priority) rs))
           ∙ sym (length-sheet c (inOrder rs)) in
           let found : t .found ≡ length blocks = s .found ∙ length-map blocks (yieldOf c) in
-          rw (s .framed, more, e, l .records, size, found, s .discarded, s .fault)
+          rw (more, e, l .records, size, found, s .discarded, s .fault)
 
--- carriers 2 to 5
-module _ (source : List ℕ) (room : ℕ) (t : Tally) where
-  pub answer-tallied : (c : Carrier) (f : Framed) → (c ≡ Dhcp4 → ⊥) → Tallied c source f t → answerOf c source t room ≡ readFramed c f room
-  unfolding answerOf Tallied
-  answer-tallied c area.fault n h = rw h
-  answer-tallied Dhcp4 (framed bs) n h = absurd (n refl)
-  answer-tallied Dhcp6 (framed bs) n h = answer-blocks Dhcp6 source room bs h
-  answer-tallied Router (framed bs) n h = answer-blocks Router source room bs h
-  answer-tallied Ike4 (framed bs) n h = answer-blocks Ike4 source room bs h
-  answer-tallied Ike6 (framed bs) n h = answer-blocks Ike6 source room bs h
+-- ---- carriers 2 to 5
 
-pub tallied-ready : (c : Carrier) (source : List ℕ) (f : Framed) (t : Tally) → Tallied c source f t → Ready c source t
-unfolding Tallied
-tallied-ready c source area.fault t h = λ e m. absurd (false≢true (sym h ∙ e))
-tallied-ready c source (framed bs) t h = shows-ready c source h
+module _ (c : Carrier) (area : List ℕ) (room : ℕ) {at : ℕ} {t : Tally} (g : Tallying c area at t) where
+  -- at the area's end the tally answers for it
+  pub answer-end : (c ≡ Dhcp4 → ⊥) → stepAt c area at ≡ Step.End → readFramed c (frame c area) room ≡ answerOf c area t room
+  answer-end n e = ap (λ (f : Framed). readFramed c f room) (walked-end c area (g .walked) e) ∙ go c n (g .shows)
+    where
+      go : (k : Carrier) → (k ≡ Dhcp4 → ⊥) → Shows k area (map (alone k) (g .bodies)) t → readFramed k (framed (g .bodies)) room ≡ answerOf k area t room
+      go Dhcp4 n s = absurd (n refl)
+      go Dhcp6 n s = sym (answer-blocks Dhcp6 area room (g .bodies) s)
+      go Router n s = sym (answer-blocks Router area room (g .bodies) s)
+      go Ike4 n s = sym (answer-blocks Ike4 area room (g .bodies) s)
+      go Ike6 n s = sym (answer-blocks Ike6 area room (g .bodies) s)
+
+  -- where the walk cannot go on, the area cannot be framed
+  pub answer-fault : stepAt c area at ≡ Step.Fault → readFramed c (frame c area) room ≡ refuse refusal.framing
+  answer-fault e = ap (λ (f : Framed). readFramed c f room) (walked-fault c area (g .walked) e)
 
 -- ---- carrier 1
 
 -- no option 162
-pub answer-absent : (source : List ℕ) (room : ℕ) {f : Framed} {t : Tally} → f ≡ framed [] → Shows Dhcp4 source [] t
-    → answerOf Dhcp4 source t room ≡ readFramed Dhcp4 f room
-answer-absent source room {f} {t} e s = answer-blocks Dhcp4 source room [] s ∙ ap (λ (x : Framed). readFramed Dhcp4 x room) (sym e)
+pub answer-absent : (room : ℕ) {f : Framed} → f ≡ framed [] → readFramed Dhcp4 f room ≡ readBlocks Dhcp4 [] room
+answer-absent room e = ap (λ (x : Framed). readFramed Dhcp4 x room) e
 
 -- one or more: their data joined
-pub answer-joined : (source : List ℕ) (room : ℕ) {f : Framed} {t : Tally} (bs : List (List ℕ)) → f ≡ framed bs → 0 < length bs → source ≡ flat bs
-    → Shows Dhcp4 source (joinedYield source ∷ []) t → answerOf Dhcp4 source t room ≡ readFramed Dhcp4 f room
-answer-joined source room {f} {t} [] e h q s = absurd (omega arith)
-answer-joined source room {f} {t} (b ∷ bs) e h q s =
-    answer-blocks Dhcp4 source room (source ∷ []) s
-    ∙ ap (λ (l : List ℕ). readBlocks Dhcp4 (l ∷ []) room) q
-    ∙ ap (λ (x : Framed). readFramed Dhcp4 x room) (sym e)
+pub answer-joined : (source : List ℕ) (room : ℕ) {f : Framed} (bs : List (List ℕ)) → f ≡ framed bs → 0 < length bs → source ≡ flat bs
+    → readFramed Dhcp4 f room ≡ readBlocks Dhcp4 (source ∷ []) room
+answer-joined source room [] e h q = absurd (omega arith)
+answer-joined source room (b ∷ bs) e h q =
+    ap (λ (x : Framed). readFramed Dhcp4 x room) e ∙ ap (λ (l : List ℕ). readBlocks Dhcp4 (l ∷ []) room) (sym q)
 
--- what `join` wrote is the front of its buffer
-pub front-joined : (f : Framed) (bs : List (List ℕ)) (l l′ : List ℕ) (n : ℕ) → f ≡ framed bs → Joined f l n l′
-    → (take n l′ ≡ flat bs) × (length (take n l′) ≡ n)
-unfolding over
-front-joined f bs l l′ n e j =
-    let w : Wrote 0 (flat bs) l n l′ = subst (λ (f : Framed). Joined f l n l′) e j in
-    let size : length (flat bs) ≡ n = omega (arith, w .next) in
-    let front : take n l′ ≡ flat bs = ap (take n) (w .laid) ∙ take-at (flat bs) _ n size in
-    (front, ap length front ∙ size)
+-- several: what `join` wrote at the front of its buffer
+module _ (area l l′ : List ℕ) (n : ℕ) (g : GatheredFrom area Many) (j : Joined (frame Dhcp4 area) l n l′) where
+  many-wrote : Wrote 0 (flat (g .0)) l n l′
+  many-wrote = subst (λ (f : Framed). Joined f l n l′) (g .1) j
+
+  many-front : take n l′ ≡ flat (g .0)
+  unfolding over
+  many-front = ap (take n) (many-wrote .laid) ∙ take-at (flat (g .0)) _ n (omega (arith, many-wrote .next))
+
+  pub many-length : length (take n l′) ≡ n
+  many-length = omega (arith, ap length many-front, many-wrote .next)
+
+  pub answer-many : (room : ℕ) → readFramed Dhcp4 (frame Dhcp4 area) room ≡ readBlocks Dhcp4 (take n l′ ∷ []) room
+  answer-many room = answer-joined (take n l′) room (g .0) (g .1) (omega (arith, g .2)) many-front
 
 -- ---- the answer by a tally, test by test
 
 module _ (c : Carrier) (source : List ℕ) (t : Tally) (room : ℕ) where
-  pub answer-framing : t .framed ≡ false → answerOf c source t room ≡ refuse refusal.framing
+  pub answer-records : t .held .more ≡ true → answerOf c source t room ≡ refuse refusal.records
   unfolding answerOf
-  answer-framing f = rw f
+  answer-records m = rw m
 
-  pub answer-records : t .framed ≡ true → t .held .more ≡ true → answerOf c source t room ≡ refuse refusal.records
+  pub answer-room : t .held .more ≡ false → room < t .held .size → answerOf c source t room ≡ refuse refusal.room
   unfolding answerOf
-  answer-records f m = rw (f, m)
+  answer-room m h = rw (m, lt-ltb room (t .held .size) h)
 
-  pub answer-room : t .framed ≡ true → t .held .more ≡ false → room < t .held .size → answerOf c source t room ≡ refuse refusal.room
-  unfolding answerOf
-  answer-room f m h = rw (f, m, lt-ltb room (t .held .size) h)
-
-  pub answer-done : {n : ℕ} {out out′ : List ℕ} → t .framed ≡ true → t .held .more ≡ false → t .held .size ≤ room
+  pub answer-done : {n : ℕ} {out out′ : List ℕ} → t .held .more ≡ false → t .held .size ≤ room
       → Wrote 0 (sheetOf c (inOrder (recordsAt c source (t .held .slots)))) out n out′
       → Reads (answerOf c source t room) out 0 n (t .found) (t .discarded) (t .fault) out′
   unfolding answerOf
-  answer-done {n} {out} {out′} f m h w =
-      rw (f, m, le-ltb room (t .held .size) h) (record { answered = answered.done refl w; found-is = refl; discarded-is = refl; fault-is = refl })
+  answer-done {n} {out} {out′} m h w =
+      rw (m, le-ltb room (t .held .size) h) (record { answered = answered.done refl w; found-is = refl; discarded-is = refl; fault-is = refl })
 
 -- ---- 1 and 2
 
@@ -143,6 +145,10 @@ module _ (n : ℕ) (s : List ℕ) (room : ℕ) where
 -- the same answer gives the same
 pub gives-as : {a b : Answer} {out out′ : List ℕ} {r : Reading} → a ≡ b → Gives b out r out′ → Gives a out r out′
 gives-as {a} {b} {out} {out′} {r} e g = subst⁻¹ (λ (x : Answer). Gives x out r out′) e g
+
+-- and so does the same buffer
+pub gives-from : (f : ℕ → Answer) {out out₀ out′ : List ℕ} {r : Reading} → out ≡ out₀ → Gives (f (length out)) out r out′ → Gives (f (length out₀)) out₀ r out′
+gives-from f {out} {out₀} {out′} {r} e g = subst (λ (l : List ℕ). Gives (f (length l)) l r out′) e g
 
 pub gives-refused : {k : ℕ} (r : Reading) → r ≡ record { number = k; length = 0; found = 0; discarded = 0; fault = 0 } → (k ≡ 0 → ⊥) → (out : List ℕ)
     → Gives (refuse k) out r out

@@ -1,7 +1,8 @@
--- What a reading has at hand before it writes: where kept bodies stand in their source, and what a tally tells of the blocks met.
+-- What a reading has at hand before it writes: where kept bodies stand in their source, what is held of their records, and what a tally
+-- tells of the blocks met. The code has the parts of `Held` and `Tally` as numbers of its own; the laws speak of them together.
 -- Assumes nothing: these are definitions.
 use mathlib.Core.Path.{_≡_}
-use mathlib.Core.Bool.{true, false, cond}
+use mathlib.Core.Bool.{Bool, true, false, cond}
 use mathlib.Core.List.{List, [], _∷_, _++_, map}
 use Prim.Native.Nat.{ℕ, _+_, _-_, _*_, _≤_, _<_, min}
 use lib.Dec.{ltb}
@@ -9,8 +10,7 @@ use lib.ListN.{length, take, drop}
 use Rattle.numbers.specs.Refusal as refusal
 use Rattle.numbers.specs.Limit as limit
 use Rattle.carriers.specs.declared.Carrier.{Carrier}
-use Rattle.frames.specs.Frame.{Framed, framed}
-use Rattle.frames.specs.Frame as area
+use Rattle.frames.specs.Step.{part}
 use Rattle.blocks.specs.Block.{Fields}
 use Rattle.order.specs.declared.Slot.{Slot}
 use Rattle.order.specs.declared.Slots.{Slots}
@@ -18,11 +18,9 @@ use Rattle.octets.specs.Lists.{All}
 use Rattle.order.specs.Listed.{listed}
 use Rattle.records.specs.declared.Examined.{Examined}
 use Rattle.records.specs.Records.{Outcome, faulty, kept, outcomeOf}
-use Rattle.records.specs.Examined.{Kept}
+use Rattle.records.specs.Examined.{examinedOf, Clean, Kept}
 use Rattle.sheets.specs.Sheets.{sheetOf}
 use Rattle.reading.specs.declared.Reading.{Reading}
-use Rattle.reading.specs.declared.Held.{Held}
-use Rattle.reading.specs.declared.Tally.{Tally}
 use Rattle.reading.specs.Reading.{Yield, single, arrivals, discardedIn, firstFault, inOrder, Answer, refuse, done, Reads}
 
 -- ---- slots
@@ -39,17 +37,29 @@ recordIn (kept r) = r
 abbrev pub recordAt : Carrier → List ℕ → Slot → Fields
 recordAt c source s = recordIn (outcomeOf c (bodyAt source s))
 
--- a slot's body stands in the source, yields a record, and the record has the slot's priority
-pub record Good (c : Carrier) (source : List ℕ) (s : Slot) : Type 0 where
+-- a slot's body stands in the source, yields a record that has the slot's priority, and is clean where that is claimed
+pub record Good (c : Carrier) (source : List ℕ) (claimed : Bool) (s : Slot) : Type 0 where
   pub within : s .place + s .length ≤ length source
   pub yields : Kept (outcomeOf c (bodyAt source s))
   pub ranked : recordAt c source s .priority ≡ s .priority
+  pub clean : claimed ≡ true → Clean c (bodyAt source s)
 
 -- the records of a list of slots
 abbrev pub recordsAt : Carrier → List ℕ → Slots → List Fields
 recordsAt c source slots = map (recordAt c source) (listed slots)
 
 -- ---- records kept
+
+-- where the bodies of the first 16 records stand, the octets of a sheet of those, whether their bodies are all known to be clean, and
+-- whether there are more records
+pub record Held : Type 0 where
+  pub slots : Slots
+  pub size : ℕ
+  pub clean : Bool
+  pub more : Bool
+
+abbrev pub heldOf : Slots → ℕ → Bool → Bool → Held
+heldOf slots size clean more = record { slots = slots; size = size; clean = clean; more = more }
 
 -- octets of a sheet of n records, at most: a head of 7 and 2,298 for a record (01, The record sheet)
 abbrev pub largest : ℕ → ℕ
@@ -59,16 +69,24 @@ largest n = 7 + 2298 * n
 abbrev pub slotOf : Examined → ℕ → ℕ → Slot
 slotOf e start end = record { priority = e .priority; place = start; length = end - start }
 
--- r is h with one body more: its slot at the end while there is room, else that there are more
-pub record Added (h : Held) (e : Examined) (start end : ℕ) (r : Held) : Type 0 where
+-- e tells of the body from `start` to `end` of the source
+pub record Seen (c : Carrier) (source : List ℕ) (start end : ℕ) (e : Examined) : Type 0 where
+  pub low : start ≤ end
+  pub high : end ≤ length source
+  pub tells : e ≡ examinedOf c (outcomeOf c (part start end source)) (e .clean)
+  pub small : e .size ≤ 2298
+  pub clean : e .clean ≡ true → Clean c (part start end source)
+
+-- there was room in h, the slots s are those of h and one more, of the body that e tells of, and `clean` claims no more of them than is known
+pub record Grown (h : Held) (e : Examined) (start end : ℕ) (s : Slots) (clean : Bool) : Type 0 where
   pub room : h .slots .count < limit.records
-      → (r .slots .count ≡ h .slots .count + 1) × (listed (r .slots) ≡ listed (h .slots) ++ (slotOf e start end ∷ []))
-      × (r .size ≡ h .size + e .size) × (r .more ≡ false)
-  pub full : limit.records ≤ h .slots .count → r ≡ record { slots = h .slots; size = h .size; more = true }
+  pub count : s .count ≡ h .slots .count + 1
+  pub list : listed s ≡ listed (h .slots) ++ (slotOf e start end ∷ [])
+  pub claims : clean ≡ true → (h .clean ≡ true) × (e .clean ≡ true)
 
 -- h has a slot for each of the records rs, and the octets of their sheet
 pub record Lists (c : Carrier) (source : List ℕ) (rs : List Fields) (h : Held) : Type 0 where
-  pub good : All (Good c source) (listed (h .slots))
+  pub good : All (Good c source (h .clean)) (listed (h .slots))
   pub records : recordsAt c source (h .slots) ≡ rs
   pub size : h .size ≡ length (sheetOf c rs)
 
@@ -81,9 +99,18 @@ pub record Holds (c : Carrier) (source : List ℕ) (rs : List Fields) (h : Held)
 
 -- ---- tallies
 
+-- what is held of the records, the blocks found, the blocks discarded and the first discarded block's fault
+pub record Tally : Type 0 where
+  pub held : Held
+  pub found : ℕ
+  pub discarded : ℕ
+  pub fault : ℕ
+
+abbrev pub tallyOf : Held → ℕ → ℕ → ℕ → Tally
+tallyOf held found discarded fault = record { held = held; found = found; discarded = discarded; fault = fault }
+
 -- t tells of blocks that yield ys
 pub record Shows (c : Carrier) (source : List ℕ) (ys : List Yield) (t : Tally) : Type 0 where
-  pub framed : t .framed ≡ true
   pub holds : Holds c source (arrivals ys) (t .held)
   pub found : t .found ≡ length ys
   pub discarded : t .discarded ≡ discardedIn ys
@@ -100,42 +127,30 @@ pub record Open (t : Tally) : Type 0 where
   pub found : t .found < limit.input
   pub discarded : t .discarded ≤ t .found
 
--- r is t with one block more, which yields y
-abbrev pub Extends : Carrier → List ℕ → Yield → Tally → Tally → Type 0
-Extends c source y t r = (ys : List Yield) → Shows c source ys t → Shows c source (ys ++ (y ∷ [])) r
-
--- t tells of the blocks of an area, each of one body, or that it cannot be framed
-unfoldable pub Tallied : Carrier → List ℕ → Framed → Tally → Type 0
-Tallied c source area.fault t = t .framed ≡ false
-Tallied c source (framed bodies) t = Shows c source (map (alone c) bodies) t
-
 -- ---- the answer by a tally
 
 -- the slots can be ordered, and their records written
-pub record Sound (c : Carrier) (source : List ℕ) (slots : Slots) : Type 0 where
+pub record Sound (c : Carrier) (source : List ℕ) (claimed : Bool) (slots : Slots) : Type 0 where
   pub few : slots .count ≤ limit.records
   pub whole : length (listed slots) ≡ slots .count
-  pub good : All (Good c source) (listed slots)
+  pub good : All (Good c source claimed) (listed slots)
 
 -- where 0 or 5 is to be answered, the slots are sound, and the sheet's size is known
-abbrev pub Ready : Carrier → List ℕ → Tally → Type 0
-Ready c source t =
-    t .framed ≡ true → t .held .more ≡ false
-    → Sound c source (t .held .slots) × (t .held .size ≡ length (sheetOf c (recordsAt c source (t .held .slots))))
+abbrev pub Ready : Carrier → List ℕ → Held → Type 0
+Ready c source h =
+    h .more ≡ false → Sound c source (h .clean) (h .slots) × (h .size ≡ length (sheetOf c (recordsAt c source (h .slots))))
 
--- 3, 4, 5, or what is done
+-- 4, 5, or what is done
 unfoldable pub answerOf : Carrier → List ℕ → Tally → ℕ → Answer
 answerOf c source t room =
-    cond (t .framed)
-    (cond (t .held .more) (refuse refusal.records)
+    cond (t .held .more) (refuse refusal.records)
     (cond (ltb room (t .held .size)) (refuse refusal.room)
     (done (record {
       sheet = sheetOf c (inOrder (recordsAt c source (t .held .slots)));
       found = t .found;
       discarded = t .discarded;
       fault = t .fault;
-    }))))
-    (refuse refusal.framing)
+    })))
 
 -- `Reads` of the numbers of a `Reading`
 abbrev pub Gives : Answer → List ℕ → Reading → List ℕ → Type 0

@@ -13,10 +13,8 @@ use Rattle.blocks.specs.Block.{Fields}
 use Rattle.order.specs.declared.Slot.{Slot}
 use Rattle.records.specs.Records.{outcomeOf}
 use Rattle.records.specs.Examined.{octetsIn}
-use Rattle.reading.specs.declared.Held.{Held}
-use Rattle.reading.specs.declared.Tally.{Tally}
 use Rattle.reading.specs.Reading.{Yield, discarded, yields, instancesFrom, joinedYield}
-use Rattle.reading.specs.Tally.{bodyAt, Holds, Shows, alone}
+use Rattle.reading.specs.Tally.{bodyAt, Held, Holds, Tally, Shows, alone}
 
 -- ---- the blocks of an area
 

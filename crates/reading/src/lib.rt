@@ -4,19 +4,17 @@
 ghost use mathlib.Core.Path.{_≡_};
 ghost use mathlib.Core.Bool.{true};
 ghost use mathlib.Core.List.{List, [], _∷_};
-ghost use Prim.Native.Nat.{ℕ, _+_, _≤_, _<_};
+ghost use Prim.Native.Nat.{ℕ, _≤_, _<_};
 ghost use lib.ListN.{length};
 ghost use Rattle.octets.specs.Over.{Wrote};
 ghost use Rattle.numbers.specs.Limit as limit;
-ghost use Rattle.carriers.specs.declared.Carrier.{Carrier};
 ghost use Rattle.carriers.specs.declared.Carrier.the-variants.{Dhcp4};
 ghost use Rattle.frames.specs.Frame.{frame};
-ghost use Rattle.frames.specs.Step.{part};
 ghost use Rattle.frames.specs.declared.Gathered.the-variants.{Many};
 ghost use Rattle.frames.specs.Gather.{GatheredFrom};
 ghost use Rattle.sheets.specs.Sheets.{sheetOf};
-ghost use Rattle.reading.specs.Reading.{discarded, joinedYield, inOrder, refuse, readFramed, readOf, Reads};
-ghost use Rattle.reading.specs.Tally.{recordsAt, largest, Added, Holds, Shows, alone, Open, Extends, Tallied, Sound, Ready, answerOf, Gives};
+ghost use Rattle.reading.specs.Reading.{discarded, joinedYield, inOrder, refuse, readBlocks, readFramed, readOf, Reads};
+ghost use Rattle.reading.specs.Tally.{recordsAt, heldOf, slotOf, tallyOf, Sound, Ready, answerOf, Gives};
 use carriers::Carrier;
 use carriers::Chosen;
 use frames::Gathered;
@@ -28,6 +26,10 @@ use order::Slot;
 use order::Slots;
 use records::Examined;
 
+// Octets of a usual message: in an area of at most so many, the data of several options 162 are joined in a buffer of this size, which
+// is cleared in a tenth of the time that one of the largest input's size takes.
+const USUAL: usize = 4096;
+
 // What a reading gives back: 0 and the sheet's length, the blocks found, the blocks discarded and the first discarded block's
 // fault; or a refusal's number and zeros.
 pub struct Reading {
@@ -36,22 +38,6 @@ pub struct Reading {
     pub found: usize,
     pub discarded: usize,
     pub fault: usize,
-}
-
-// The records kept so far: where the bodies of the first 16 stand, the octets of a sheet of those, and whether there are more.
-struct Held {
-    slots: Slots,
-    size: usize,
-    more: bool,
-}
-
-// What the walk of an area has met so far: whether it is framed, the records kept, and the blocks' counts.
-struct Tally {
-    framed: bool,
-    held: Held,
-    found: usize,
-    discarded: usize,
-    fault: usize,
 }
 
 fn refused(number: usize) -> Reading
@@ -66,167 +52,41 @@ fn refused(number: usize) -> Reading
     }
 }
 
-fn nothing_held() -> Held
-    ensures { λ r. ⌜ ((c : Carrier) (source : List ℕ) → Holds c source [] r) ⌝ }
+// The slot of the body from `start` to `end`, of which `e` tells.
+fn slot_of(e: Examined, start: usize, end: usize) -> Slot
+    requires { ⌜ (start ≤ end) × (end ≤ limit.input) × (e .priority < 65536) ⌝ }
+    ensures { λ r. ⌜ r ≡ slotOf e start end ⌝ }
 {
-    Held {
-        slots: order::empty(),
-        size: sheets::FRONT,
-        more: false,
-    }
-}
-
-// No blocks, of an area that is framed or not.
-fn nothing_found(framed: bool) -> Tally
-    ensures { λ r. ⌜ r .framed ≡ framed ⌝ }
-    ensures { λ r. ⌜ (framed ≡ true → (c : Carrier) (source : List ℕ) → Shows c source [] r) ⌝ }
-{
-    Tally {
-        framed,
-        held: nothing_held(),
-        found: 0,
-        discarded: 0,
-        fault: 0,
-    }
-}
-
-// The records kept, with the one of the body from `start` to `end`.
-fn with_body(held: Held, e: Examined, start: usize, end: usize) -> Held
-    requires { ⌜ (held .slots .count ≤ limit.records) × (held .size ≤ largest (held .slots .count)) ⌝ }
-    requires { ⌜ (start ≤ end) × (end ≤ limit.input) × (e .priority < 65536) × (e .size ≤ 2298) ⌝ }
-    ensures { λ r. ⌜ Added held e start end r ⌝ }
-{
-    let slots = held.slots;
-    if Limit::RECORDS <= slots.count {
-        return Held {
-            slots,
-            size: held.size,
-            more: true,
-        };
-    }
-    let slot = Slot {
+    Slot {
         priority: e.priority as u16,
         place: start as u16,
         length: (end - start) as u16,
-    };
-    Held {
-        slots: order::push(slots, slot),
-        size: held.size + e.size,
-        more: false,
     }
 }
 
-// The tally with one more block, which is discarded.
-fn with_discarded(t: Tally, fault: usize) -> Tally
-    requires { ⌜ (t .found < limit.input) × (t .discarded ≤ t .found) ⌝ }
-    ensures { λ r. ⌜ ((c : Carrier) (source : List ℕ) → Extends c source (discarded fault) t r) ⌝ }
+// What is claimed of all and of one more.
+fn both(all: bool, one: bool) -> bool
+    ensures { λ r. ⌜ (r ≡ true → (all ≡ true) × (one ≡ true)) ⌝ }
 {
-    let held = t.held;
-    let first = if t.discarded == 0 { fault } else { t.fault };
-    Tally {
-        framed: true,
-        held,
-        found: t.found + 1,
-        discarded: t.discarded + 1,
-        fault: first,
+    if all {
+        return one;
     }
+    false
 }
 
-// A tally of one block, which is discarded.
-fn discarded_whole(fault: usize) -> Tally
-    ensures { λ r. ⌜ ((c : Carrier) (source : List ℕ) → Shows c source (discarded fault ∷ []) r) ⌝ }
+// The first discarded block's fault, with one more block discarded: `first` is that of those before it.
+fn first_fault(discarded: usize, first: usize, fault: usize) -> usize
+    ensures { λ r. ⌜ (discarded ≡ 0 → r ≡ fault) × ((discarded ≡ 0 → ⊥) → r ≡ first) ⌝ }
 {
-    with_discarded(nothing_found(true), fault)
+    if discarded == 0 {
+        return fault;
+    }
+    first
 }
 
-// The tally with one more block, of one body from `start` to `end`.
-fn with_block(t: Tally, c: Carrier, area: &[u8], start: usize, end: usize) -> Tally
-    requires { ⌜ Open t ⌝ }
-    requires { ⌜ (start ≤ end) × (end ≤ length (now area)) × (length (now area) ≤ limit.input) ⌝ }
-    ensures { λ r. ⌜ Extends c (now (area .entry)) (alone c (part start end (now (area .entry)))) t r ⌝ }
-{
-    let e = records::examine(c, &area[start..end]);
-    let fault = e.fault;
-    if fault != 0 {
-        return with_discarded(t, fault);
-    }
-    let held = t.held;
-    let found = t.found + 1;
-    Tally {
-        framed: true,
-        held: with_body(held, e, start, end),
-        found,
-        discarded: t.discarded,
-        fault: t.fault,
-    }
-}
-
-// Carriers 2 to 5: the blocks of an area.
-fn tally_blocks(c: Carrier, area: &[u8]) -> Tally
-    requires { ⌜ length (now area) ≤ limit.input ⌝ }
-    ensures { λ r. ⌜ Tallied c (now (area .entry)) (frame c (now (area .entry))) r ⌝ }
-{
-    let mut t = nothing_found(true);
-    let mut at: usize = 0;
-    loop {
-        match frames::next_block(c, area, at) {
-            Step::Block { start, end } => {
-                t = with_block(t, c, area, start, end);
-                at = end;
-            }
-            Step::Skipped { end: past } => {
-                at = past;
-            }
-            Step::End => {
-                return t;
-            }
-            Step::Fault => {
-                return nothing_found(false);
-            }
-        }
-    }
-}
-
-// Carrier 1: the one block of joined data, each instance read from its own octets and nothing around them.
-fn tally_instances(joined: &[u8]) -> Tally
-    requires { ⌜ length (now joined) ≤ limit.input ⌝ }
-    ensures { λ r. ⌜ Shows Dhcp4 (now (joined .entry)) (joinedYield (now (joined .entry)) ∷ []) r ⌝ }
-{
-    if joined.len() == 0 {
-        return discarded_whole(Fault::FIELD);
-    }
-    let mut held = nothing_held();
-    let mut at: usize = 0;
-    while at < joined.len() {
-        if joined.len() - at < 2 {
-            return discarded_whole(Fault::FIELD);
-        }
-        let long = octets::get16(joined, at);
-        let start = at + 2;
-        if joined.len() - start < long {
-            return discarded_whole(Fault::FIELD);
-        }
-        let end = start + long;
-        let e = records::examine(Carrier::Dhcp4, &joined[start..end]);
-        let fault = e.fault;
-        if fault != 0 {
-            return discarded_whole(fault);
-        }
-        held = with_body(held, e, start, end);
-        at = end;
-    }
-    Tally {
-        framed: true,
-        held,
-        found: 1,
-        discarded: 0,
-        fault: 0,
-    }
-}
-
-// Orders the kept bodies of `source` and writes the sheet of their records.
-fn put_sheet(out: &mut [u8], c: Carrier, source: &[u8], slots: Slots) -> usize
-    requires { ⌜ Sound c (now source) slots ⌝ }
+// Orders the kept bodies of `source` and writes the sheet of their records. `clean`: every address of theirs is known to stay.
+fn put_sheet(out: &mut [u8], c: Carrier, source: &[u8], slots: Slots, clean: bool) -> usize
+    requires { ⌜ Sound c (now source) clean slots ⌝ }
     requires { ⌜ length (sheetOf c (recordsAt c (now source) slots)) ≤ length (now out) ⌝ }
     ensures { λ r. ⌜ Wrote 0 (sheetOf c (inOrder (recordsAt c (now (source .entry)) slots))) (now (out .entry)) r (now (out .exit)) ⌝ }
 {
@@ -239,47 +99,159 @@ fn put_sheet(out: &mut [u8], c: Carrier, source: &[u8], slots: Slots) -> usize
         let slot = order::at(sorted, i);
         let start = slot.place as usize;
         let end = start + slot.length as usize;
-        o = records::put_record(out, o, c, &source[start..end]);
+        o = records::put_record(out, o, c, clean, &source[start..end]);
         i += 1;
     }
     o
 }
 
-// 3, 4, 5, or the sheet.
-fn settle(out: &mut [u8], c: Carrier, source: &[u8], t: Tally) -> Reading
-    requires { ⌜ Ready c (now source) t ⌝ }
-    ensures { λ r. ⌜ Gives (answerOf c (now (source .entry)) t (length (now (out .entry)))) (now (out .entry)) r (now (out .exit)) ⌝ }
+// 4, 5, or the sheet of what is held of the records, with the blocks' counts.
+fn settle(
+    out: &mut [u8],
+    c: Carrier,
+    source: &[u8],
+    slots: Slots,
+    size: usize,
+    clean: bool,
+    more: bool,
+    found: usize,
+    discarded: usize,
+    fault: usize,
+) -> Reading
+    requires { ⌜ Ready c (now source) (heldOf slots size clean more) ⌝ }
+    ensures { λ r. ⌜ Gives (answerOf c (now (source .entry)) (tallyOf (heldOf slots size clean more) found discarded fault) (length (now (out .entry)))) (now (out .entry)) r (now (out .exit)) ⌝ }
 {
-    if !t.framed {
-        return refused(Refusal::FRAMING);
-    }
-    let held = t.held;
-    if held.more {
+    if more {
         return refused(Refusal::RECORDS);
     }
-    if out.len() < held.size {
+    if out.len() < size {
         return refused(Refusal::ROOM);
     }
-    let slots = held.slots;
-    let length = put_sheet(out, c, source, slots);
+    let length = put_sheet(out, c, source, slots, clean);
     Reading {
         number: 0,
         length,
-        found: t.found,
-        discarded: t.discarded,
-        fault: t.fault,
+        found,
+        discarded,
+        fault,
     }
 }
 
-// Carrier 1 with several options 162: their data joined in a local buffer.
+// Carriers 2 to 5: the blocks of an area, each of one body. Of those found, the bad ones are discarded.
+fn read_blocks(c: Carrier, area: &[u8], out: &mut [u8]) -> Reading
+    requires { ⌜ (c ≡ Dhcp4 → ⊥) × (length (now area) ≤ limit.input) ⌝ }
+    ensures { λ r. ⌜ Gives (readFramed c (frame c (now (area .entry))) (length (now (out .entry)))) (now (out .entry)) r (now (out .exit)) ⌝ }
+{
+    let mut slots = order::empty();
+    let mut size = sheets::FRONT;
+    let mut clean = true;
+    let mut more = false;
+    let mut found: usize = 0;
+    let mut bad: usize = 0;
+    let mut fault: usize = 0;
+    let mut at: usize = 0;
+    loop {
+        match frames::next_block(c, area, at) {
+            Step::Block { start, end } => {
+                let e = records::examine(c, &area[start..end]);
+                found += 1;
+                at = end;
+                if e.fault != 0 {
+                    fault = first_fault(bad, fault, e.fault);
+                    bad += 1;
+                } else if slots.count < Limit::RECORDS {
+                    slots = order::push(slots, slot_of(e, start, end));
+                    size += e.size;
+                    clean = both(clean, e.clean);
+                } else {
+                    more = true;
+                }
+            }
+            Step::Skipped { end: past } => at = past,
+            Step::End => return settle(out, c, area, slots, size, clean, more, found, bad, fault),
+            Step::Fault => return refused(Refusal::FRAMING),
+        }
+    }
+}
+
+// Carrier 1, where the one block is discarded.
+fn discard_joined(joined: &[u8], out: &mut [u8], fault: usize) -> Reading
+    requires { ⌜ joinedYield (now joined) ≡ discarded fault ⌝ }
+    ensures { λ r. ⌜ Gives (readBlocks Dhcp4 (now (joined .entry) ∷ []) (length (now (out .entry)))) (now (out .entry)) r (now (out .exit)) ⌝ }
+{
+    let none = order::empty();
+    settle(
+        out,
+        Carrier::Dhcp4,
+        joined,
+        none,
+        sheets::FRONT,
+        true,
+        false,
+        1,
+        1,
+        fault,
+    )
+}
+
+// Carrier 1: the one block of joined data, each instance read from its own octets and nothing around them.
+fn read_instances(joined: &[u8], out: &mut [u8]) -> Reading
+    requires { ⌜ length (now joined) ≤ limit.input ⌝ }
+    ensures { λ r. ⌜ Gives (readBlocks Dhcp4 (now (joined .entry) ∷ []) (length (now (out .entry)))) (now (out .entry)) r (now (out .exit)) ⌝ }
+{
+    if joined.len() == 0 {
+        return discard_joined(joined, out, Fault::FIELD);
+    }
+    let c = Carrier::Dhcp4;
+    let mut slots = order::empty();
+    let mut size = sheets::FRONT;
+    let mut clean = true;
+    let mut more = false;
+    let mut at: usize = 0;
+    while at < joined.len() {
+        if joined.len() - at < 2 {
+            return discard_joined(joined, out, Fault::FIELD);
+        }
+        let long = octets::get16(joined, at);
+        let start = at + 2;
+        if joined.len() - start < long {
+            return discard_joined(joined, out, Fault::FIELD);
+        }
+        let end = start + long;
+        let e = records::examine(c, &joined[start..end]);
+        if e.fault != 0 {
+            return discard_joined(joined, out, e.fault);
+        }
+        at = end;
+        if slots.count < Limit::RECORDS {
+            slots = order::push(slots, slot_of(e, start, end));
+            size += e.size;
+            clean = both(clean, e.clean);
+        } else {
+            more = true;
+        }
+    }
+    settle(out, c, joined, slots, size, clean, more, 1, 0, 0)
+}
+
+// Carrier 1 with several options 162 in an area of a usual message: their data joined in a small local buffer.
+fn read_few(area: &[u8], out: &mut [u8]) -> Reading
+    requires { ⌜ (length (now area) ≤ 4096) × GatheredFrom (now area) Many ⌝ }
+    ensures { λ r. ⌜ Gives (readFramed Dhcp4 (frame Dhcp4 (now (area .entry))) (length (now (out .entry)))) (now (out .entry)) r (now (out .exit)) ⌝ }
+{
+    let mut buffer = [0u8; USUAL];
+    let n = frames::join(area, &mut buffer);
+    read_instances(&buffer[..n], out)
+}
+
+// The same in an area of any size.
 fn read_many(area: &[u8], out: &mut [u8]) -> Reading
     requires { ⌜ (length (now area) ≤ limit.input) × GatheredFrom (now area) Many ⌝ }
     ensures { λ r. ⌜ Gives (readFramed Dhcp4 (frame Dhcp4 (now (area .entry))) (length (now (out .entry)))) (now (out .entry)) r (now (out .exit)) ⌝ }
 {
     let mut buffer = [0u8; Limit::INPUT];
     let n = frames::join(area, &mut buffer);
-    let joined = &buffer[..n];
-    settle(out, Carrier::Dhcp4, joined, tally_instances(joined))
+    read_instances(&buffer[..n], out)
 }
 
 // Carrier 1: the data of all options 162 are one block.
@@ -289,12 +261,28 @@ fn read_joined(area: &[u8], out: &mut [u8]) -> Reading
 {
     match frames::gather(area) {
         Gathered::Broken => refused(Refusal::FRAMING),
-        Gathered::Absent => settle(out, Carrier::Dhcp4, area, nothing_found(true)),
-        Gathered::One { start, end } => {
-            let joined = &area[start..end];
-            settle(out, Carrier::Dhcp4, joined, tally_instances(joined))
+        Gathered::Absent => {
+            let none = order::empty();
+            settle(
+                out,
+                Carrier::Dhcp4,
+                area,
+                none,
+                sheets::FRONT,
+                true,
+                false,
+                0,
+                0,
+                0,
+            )
         }
-        Gathered::Many => read_many(area, out),
+        Gathered::One { start, end } => read_instances(&area[start..end], out),
+        Gathered::Many => {
+            if area.len() <= USUAL {
+                return read_few(area, out);
+            }
+            read_many(area, out)
+        }
     }
 }
 
@@ -306,7 +294,7 @@ fn read_area(c: Carrier, area: &[u8], out: &mut [u8]) -> Reading
     match c {
         Carrier::Dhcp4 => read_joined(area, out),
         Carrier::Dhcp6 | Carrier::Router | Carrier::Ike4 | Carrier::Ike6 => {
-            settle(out, c, area, tally_blocks(c, area))
+            read_blocks(c, area, out)
         }
     }
 }

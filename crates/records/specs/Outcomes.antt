@@ -1,8 +1,8 @@
 -- What the definitions say on each way through the functions over the parts of a body. Assumes nothing.
-use mathlib.Core.Path.{_≡_, sym, ap, _∙_}
-use mathlib.Core.Bool.{true, false}
+use mathlib.Core.Path.{_≡_, sym, ap, _∙_, subst⁻¹}
+use mathlib.Core.Bool.{Bool, true, false, false≢true}
 use mathlib.Core.List.{List, _++_}
-use Prim.Native.Nat.{ℕ, _+_, _*_, _≤_}
+use Prim.Native.Nat.{ℕ, _+_, _*_, _≤_, _<_}
 use native.Mathlib.Omega.{arith}
 use lib.ListN.{length}
 use Rattle.octets.specs.Numbers.{be}
@@ -12,15 +12,18 @@ use Rattle.carriers.specs.Carriers.{addressWidth, asText}
 use Rattle.texts.specs.Texts.{wireOf}
 use Rattle.texts.specs.Convert.{wire-length}
 use Rattle.addresses.specs.Addresses.{listOf, keptOf}
+use Rattle.addresses.specs.AddressesLaws.{wide-some}
 use Rattle.blocks.specs.Block.{Fields, nameOnly, whole}
 use Rattle.judge.specs.declared.Side.the-variants.{Reading}
 use Rattle.judge.specs.declared.Judged.{Judged}
 use Rattle.judge.specs.Judge.{judgedOf, faultOf}
-use Rattle.judge.specs.JudgeLaws.{fault-passed}
+use Rattle.judge.specs.JudgeLaws.{carrier-width, fault-passed}
+use Rattle.records.specs.declared.Examined.{Examined}
 use Rattle.records.specs.Records.{staying, keepOf, recordOf}
 use Rattle.records.specs.Examined.{examinedOf}
 use Rattle.records.specs.Parts.{yieldOf, discarded, nameIn, namePart}
 use Rattle.records.specs.RecordsLaws.{yield-kept, yield-faulty, length-record, staying-length, kept-small}
+use Rattle.records.specs.CleanLaws.{staying-whole}
 
 -- ---- a name
 
@@ -44,16 +47,22 @@ module _ (c : Carrier) (name : List ℕ) where
 abbrev judgedIn : Carrier → Fields → Judged
 judgedIn c f = judgedOf Reading c (f .priority) (f .name) (f .full) (f .addresses) (f .parameters)
 
+-- a fault claims no clean addresses
+pub unclean : (k : ℕ) {r : Examined} → r ≡ discarded k → r .clean ≡ true → ⊥
+unclean k s t = false≢true (sym (ap (λ (x : Examined). x .clean) s) ∙ t)
+
 module _ (c : Carrier) (f : Fields) {j : Judged} (e : j ≡ judgedIn c f) where
   same-fault : j .fault ≡ faultOf Reading c f
   same-fault = ap (λ (j : Judged). j .fault) e
 
-  pub examined-faulty : (j .fault ≡ 0 → ⊥) → discarded (j .fault) ≡ examinedOf c (yieldOf c f)
-  examined-faulty n = rw (yield-faulty c f (λ z. n (same-fault ∙ z))) (ap discarded same-fault)
+  pub examined-faulty : {r : Examined} → r ≡ discarded (j .fault) → (j .fault ≡ 0 → ⊥) → r ≡ examinedOf c (yieldOf c f) (r .clean)
+  examined-faulty s n =
+      subst⁻¹ (λ (x : Examined). x ≡ examinedOf c (yieldOf c f) (x .clean)) s
+      (rw (yield-faulty c f (λ z. n (same-fault ∙ z))) (ap discarded same-fault))
 
   module _ (z : j .fault ≡ 0) {size : ℕ} (s : size ≡ length (recordOf c (keepOf c f))) where
-    examined-kept : record { fault = 0; priority = f .priority; size = size } ≡ examinedOf c (yieldOf c f)
-    examined-kept = rw (yield-kept c f (sym same-fault ∙ z), s)
+    examined-kept : (clean : Bool) → record { fault = 0; priority = f .priority; size = size; clean = clean } ≡ examinedOf c (yieldOf c f) clean
+    examined-kept clean = rw (yield-kept c f (sym same-fault ∙ z), s)
 
     examined-small : size ≤ 2298
     examined-small = rw s (kept-small c f (fault-passed Reading c f (sym same-fault ∙ z)))
@@ -67,8 +76,8 @@ module _ (c : Carrier) (p : ℕ) (name : List ℕ) {j : Judged} {n : ℕ} (e : j
   pub name-only-small : 8 + n ≤ 2298
   name-only-small = examined-small c (nameOnly p 0 name) e z (name-only-size 0)
 
-  pub name-only-kept : (t : ℕ) → record { fault = 0; priority = p; size = 8 + n } ≡ examinedOf c (yieldOf c (nameOnly p t name))
-  name-only-kept t = examined-kept c (nameOnly p t name) e z (name-only-size t)
+  pub name-only-kept : (t : ℕ) → record { fault = 0; priority = p; size = 8 + n; clean = true } ≡ examinedOf c (yieldOf c (nameOnly p t name)) true
+  name-only-kept t = examined-kept c (nameOnly p t name) e z (name-only-size t) true
 
 -- and of addresses of w octets, m of which stay
 module _ (c : Carrier) (p : ℕ) (name a q : List ℕ) {j : Judged} {n w m : ℕ} (e : j ≡ judgedIn c (whole p 0 name a q)) (z : j .fault ≡ 0)
@@ -81,5 +90,12 @@ module _ (c : Carrier) (p : ℕ) (name a q : List ℕ) {j : Judged} {n w m : ℕ
   pub full-small : 8 + n + 3 + m * w + length q ≤ 2298
   full-small = examined-small c (whole p 0 name a q) e z (full-size 0)
 
-  pub full-kept : (t : ℕ) → record { fault = 0; priority = p; size = 8 + n + 3 + m * w + length q } ≡ examinedOf c (yieldOf c (whole p t name a q))
-  full-kept t = examined-kept c (whole p t name a q) e z (full-size t)
+  pub full-kept : (clean : Bool) (t : ℕ)
+      → record { fault = 0; priority = p; size = 8 + n + 3 + m * w + length q; clean = clean } ≡ examinedOf c (yieldOf c (whole p t name a q)) clean
+  full-kept clean t = examined-kept c (whole p t name a q) e z (full-size t) clean
+
+  -- as many octets stay as there are
+  pub full-clean : m * w ≡ length a → staying (addressWidth c) a ≡ a
+  full-clean h =
+      let wide : 0 < addressWidth c = wide-some (carrier-width c) in
+      staying-whole (addressWidth c) wide a (rw (← ew, ← em) h)

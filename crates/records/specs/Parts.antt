@@ -1,5 +1,5 @@
 -- What the functions over the parts of a body answer and write. Assumes nothing: these are definitions.
-use mathlib.Core.Bool.{cond}
+use mathlib.Core.Bool.{false, cond}
 use mathlib.Core.List.{List, _++_}
 use Prim.Native.Nat.{ℕ}
 use lib.Dec.{eqb}
@@ -21,7 +21,7 @@ yieldOf c f = cond (eqb (faultOf Reading c f) 0) (kept (keepOf c f)) (faulty (fa
 
 -- what is answered of a body with a fault
 abbrev pub discarded : ℕ → Examined
-discarded k = record { fault = k; priority = 0; size = 0 }
+discarded k = record { fault = k; priority = 0; size = 0; clean = false }
 
 -- a name as a sheet holds it: in wire form
 abbrev pub nameIn : Carrier → List ℕ → List ℕ

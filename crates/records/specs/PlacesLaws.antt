@@ -1,5 +1,5 @@
 -- What the places that `split` answers say on each way through `examine` and `put_record`. Assumes nothing.
-use mathlib.Core.Path.{_≡_, refl, sym, ap, _∙_}
+use mathlib.Core.Path.{_≡_, refl, sym, ap, _∙_, subst⁻¹}
 use mathlib.Core.Bool.{Bool, true, false, cond}
 use mathlib.Core.List.{List, _++_, append-assoc, append-nil}
 use Prim.Native.Nat.{ℕ, _+_, _-_, _/_, _≤_, _<_}
@@ -23,33 +23,42 @@ use Rattle.judge.specs.Judge.{faultOf}
 use Rattle.judge.specs.Passed.{Passed}
 use Rattle.judge.specs.JudgeLaws.{carrier-width, fault-passed}
 use Rattle.records.specs.declared.Examined.{Examined}
-use Rattle.records.specs.Records.{faulty, kept, outcomeOf, staying, keepOf, recordOf}
-use Rattle.records.specs.Examined.{examinedOf, Kept, octetsIn}
+use Rattle.records.specs.Records.{Outcome, faulty, kept, outcomeOf, staying, keepOf, recordOf}
+use Rattle.records.specs.Examined.{examinedOf, Clean, Kept, octetsIn}
 use Rattle.records.specs.Parts.{yieldOf, discarded, nameIn, headPart, tailPart}
 use Rattle.records.specs.RecordsLaws.{yield-kept, outcome-bad, outcome-fields, length-record, staying-length, name-small, kept-count-small, kept-small}
+use Rattle.records.specs.CleanLaws.{staying-none, clean-fields}
+use Rattle.records.specs.Outcomes.{unclean}
 
 -- ---- what is answered
 
 -- an answer is within its bounds
-yield-bounds : (c : Carrier) (f : Fields) → f .priority < 65536
-    → (examinedOf c (yieldOf c f) .priority < 65536) × (examinedOf c (yieldOf c f) .size ≤ 2298)
-yield-bounds c f h = go (eqb (faultOf Reading c f) 0) refl
+yield-bounds : (c : Carrier) (f : Fields) (clean : Bool) → f .priority < 65536
+    → (examinedOf c (yieldOf c f) clean .priority < 65536) × (examinedOf c (yieldOf c f) clean .size ≤ 2298)
+yield-bounds c f clean h = go (eqb (faultOf Reading c f) 0) refl
   where
-    go : (b : Bool) → eqb (faultOf Reading c f) 0 ≡ b → let r : Examined = examinedOf c (cond b (kept (keepOf c f)) (faulty (faultOf Reading c f))) in
+    go : (b : Bool) → eqb (faultOf Reading c f) 0 ≡ b → let r : Examined = examinedOf c (cond b (kept (keepOf c f)) (faulty (faultOf Reading c f))) clean in
         (r .priority < 65536) × (r .size ≤ 2298)
     go true t = (h, kept-small c f (fault-passed Reading c f (eqb-true _ _ t)))
     go false t = (omega arith, omega arith)
 
 -- what `examine` answers
 abbrev Answer : Carrier → List ℕ → Examined → Type 0
-Answer c b r = (r ≡ examinedOf c (outcomeOf c b)) × ((r .priority < 65536) × (r .size ≤ 2298))
+Answer c b r =
+    (r ≡ examinedOf c (outcomeOf c b) (r .clean)) × (((r .priority < 65536) × (r .size ≤ 2298)) × (r .clean ≡ true → Clean c b))
 
 module _ (c : Carrier) (b : List ℕ) where
   answer-bad : (k : ℕ) {r : Examined} → bad k ≡ parse c b → r ≡ discarded k → Answer c b r
-  answer-bad k e s = (rw (outcome-bad c b k (sym e)) s, rw s (omega arith, omega arith))
+  answer-bad k {r} e s =
+      let is : discarded k ≡ examinedOf c (outcomeOf c b) false = rw (outcome-bad c b k (sym e)) in
+      (subst⁻¹ (λ (x : Examined). x ≡ examinedOf c (outcomeOf c b) (x .clean)) s is, (rw s (omega arith, omega arith), λ t. absurd (unclean k s t)))
 
-  answer-fields : (f : Fields) {r : Examined} → fields f ≡ parse c b → f .priority < 65536 → r ≡ examinedOf c (yieldOf c f) → Answer c b r
-  answer-fields f e h s = (rw (outcome-fields c b f (sym e)) s, rw s (yield-bounds c f h))
+  answer-fields : (f : Fields) {r : Examined} → fields f ≡ parse c b → f .priority < 65536 → r ≡ examinedOf c (yieldOf c f) (r .clean)
+      → (r .clean ≡ true → staying (addressWidth c) (f .addresses) ≡ f .addresses) → Answer c b r
+  answer-fields f {r} e h s all =
+      let is : r ≡ examinedOf c (outcomeOf c b) (r .clean) = s ∙ ap (λ (o : Outcome). examinedOf c o (r .clean)) (sym (outcome-fields c b f (sym e))) in
+      let bounds = yield-bounds c f (r .clean) h in
+      (is, (subst⁻¹ (λ (x : Examined). (x .priority < 65536) × (x .size ≤ 2298)) s bounds, λ t. clean-fields c b f e (all t)))
 
 -- ---- what is written
 
@@ -118,8 +127,10 @@ module _ (c : Carrier) (b : List ℕ) {s : Places} (e : told b s ≡ parse c b) 
   name-only-numbers : Numbers c p t
   name-only-numbers = (rw is at h) .0
 
-  pub examine-name-only : {r : Examined} → ((t : ℕ) → r ≡ examinedOf c (yieldOf c (nameOnly p t (cut b i n)))) → Answer c b r
-  examine-name-only a = answer-fields c b nameFields name-only-fields (name-only-numbers .priority) (a t)
+  pub examine-name-only : {r : Examined} → ((t : ℕ) → r ≡ examinedOf c (yieldOf c (nameOnly p t (cut b i n))) (r .clean)) → Answer c b r
+  examine-name-only a =
+      answer-fields c b nameFields name-only-fields (name-only-numbers .priority) (a t)
+      (λ _. staying-none (addressWidth c) (wide-some (carrier-width c)))
 
   module _ (k : Kept (outcomeOf c b)) (at : ℕ) (l : List ℕ) where
     -- what `put_head` asks
@@ -145,8 +156,9 @@ module _ (c : Carrier) (b : List ℕ) {s : Places} (e : told b s ≡ parse c b) 
   full-numbers : Numbers c p t
   full-numbers = (rw is at h) .0
 
-  pub examine-full : {r : Examined} → ((t : ℕ) → r ≡ examinedOf c (yieldOf c (whole p t (cut b i n) (cut b j m) (cut b q k)))) → Answer c b r
-  examine-full a = answer-fields c b fullFields full-fields (full-numbers .priority) (a t)
+  pub examine-full : {r : Examined} → ((t : ℕ) → r ≡ examinedOf c (yieldOf c (whole p t (cut b i n) (cut b j m) (cut b q k))) (r .clean))
+      → (r .clean ≡ true → staying (addressWidth c) (cut b j m) ≡ cut b j m) → Answer c b r
+  examine-full a all = answer-fields c b fullFields full-fields (full-numbers .priority) (a t) all
 
   module _ (kept-one : Kept (outcomeOf c b)) (at : ℕ) (l : List ℕ) (room : at + length (octetsIn c (outcomeOf c b)) ≤ length l) where
     full-room : at + (8 + length (nameIn c (cut b i n)) + (3 + length (staying (addressWidth c) (cut b j m)) + length (cut b q k))) ≤ length l
@@ -163,15 +175,17 @@ module _ (c : Carrier) (b : List ℕ) {s : Places} (e : told b s ≡ parse c b) 
 
     module _ {w r : ℕ} {l′ : List ℕ} (ew : w ≡ addressWidth c) (head : Wrote at (headPart p t 1 (nameIn c (cut b i n))) l r l′) where
       -- what `put_tail` asks
-      pub full-asks-tail : let a : List ℕ = cut b j m in
+      pub full-asks-tail : {clean : Bool} → (clean ≡ true → Clean c b) → let a : List ℕ = cut b j m in
           Width w
+          × ((clean ≡ true → staying w a ≡ a)
           × (((length (keptOf w (listOf w a)) ≤ 63) × (length (cut b q k) ≤ 1024))
-          × (r + 3 + length (staying w a) + length (cut b q k) ≤ length l′))
-      full-asks-tail =
+          × (r + 3 + length (staying w a) + length (cut b q k) ≤ length l′)))
+      full-asks-tail all =
           let y = kept-passed c b kept-one fullFields full-fields .tail refl in
           let o = full-room in
           let same : length l′ ≡ length l = ap length (head .laid) ∙ over-length at _ l (head .room) in
-          rw ew (carrier-width c, ((kept-count-small (addressWidth c) (cut b j m) (y .few), y .short), omega (arith, head .next)))
+          rw ew
+          (carrier-width c, (λ z. all z fullFields (sym full-fields), ((kept-count-small (addressWidth c) (cut b j m) (y .few), y .short), omega (arith, head .next))))
 
       pub full-writes : {r′ : ℕ} {l″ : List ℕ} → Wrote r (tailPart w (cut b j m) (cut b q k)) l′ r′ l″ → Wrote at (octetsIn c (outcomeOf c b)) l r′ l″
       full-writes v =

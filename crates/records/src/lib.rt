@@ -1,23 +1,27 @@
 // One body, in carrier 1 one instance: whether it yields a record, how many octets the record has in a sheet, and writing it there.
 // This is the one place where reading puts a record into a sheet, and where unusable addresses are dropped.
 ghost use mathlib.Core.Path.{_≡_};
+ghost use mathlib.Core.Bool.{true};
 ghost use Prim.Native.Nat.{ℕ, _+_, _≤_, _<_};
 ghost use lib.ListN.{length};
 ghost use Rattle.octets.specs.Over.{Wrote};
 ghost use Rattle.addresses.specs.Addresses.{Width, listOf, keptOf};
+ghost use Rattle.carriers.specs.Carriers.{addressWidth};
 ghost use Rattle.blocks.specs.Block.{nameOnly, whole};
 ghost use Rattle.records.specs.Records.{outcomeOf, staying};
-ghost use Rattle.records.specs.Examined.{examinedOf, Kept, octetsIn};
+ghost use Rattle.records.specs.Examined.{examinedOf, Clean, Kept, octetsIn};
 ghost use Rattle.records.specs.Parts.{yieldOf, discarded, nameIn, namePart, headPart, tailPart};
 use blocks::Places;
 use carriers::Carrier;
 use judge::Side;
 
-// A body's fault, or 0 with its record's priority and size in a sheet.
+// A body's fault, or 0 with its record's priority and size in a sheet, and whether every address is known to stay, so that the
+// list can be copied as it stands. Of a body with a fault nothing is known.
 pub struct Examined {
     pub fault: usize,
     pub priority: usize,
     pub size: usize,
+    pub clean: bool,
 }
 
 // Octets of a record before its name: priority, lifetime, mode and name length.
@@ -34,6 +38,7 @@ fn faulty(fault: usize) -> Examined
         fault,
         priority: 0,
         size: 0,
+        clean: false,
     }
 }
 
@@ -49,7 +54,7 @@ fn name_size(c: Carrier, name: &[u8]) -> usize
 
 // A name-only body, whatever its lifetime.
 fn examine_name_only(c: Carrier, priority: usize, name: &[u8]) -> Examined
-    ensures { λ r. ⌜ ((lifetime : ℕ) → r ≡ examinedOf c (yieldOf c (nameOnly priority lifetime (now (name .entry))))) ⌝ }
+    ensures { λ r. ⌜ ((lifetime : ℕ) → r ≡ examinedOf c (yieldOf c (nameOnly priority lifetime (now (name .entry)))) (r .clean)) ⌝ }
 {
     let none = &name[..0];
     let judged = judge::judge_fields(Side::Reading, c, priority, name, false, none, none);
@@ -62,6 +67,7 @@ fn examine_name_only(c: Carrier, priority: usize, name: &[u8]) -> Examined
         fault: 0,
         priority,
         size,
+        clean: true,
     }
 }
 
@@ -73,7 +79,8 @@ fn examine_full(
     addresses: &[u8],
     parameters: &[u8],
 ) -> Examined
-    ensures { λ r. ⌜ ((lifetime : ℕ) → r ≡ examinedOf c (yieldOf c (whole priority lifetime (now (name .entry)) (now (addresses .entry)) (now (parameters .entry))))) ⌝ }
+    ensures { λ r. ⌜ ((lifetime : ℕ) → r ≡ examinedOf c (yieldOf c (whole priority lifetime (now (name .entry)) (now (addresses .entry)) (now (parameters .entry)))) (r .clean)) ⌝ }
+    ensures { λ r. ⌜ (r .clean ≡ true → staying (addressWidth c) (now (addresses .entry)) ≡ now (addresses .entry)) ⌝ }
 {
     let judged = judge::judge_fields(
         Side::Reading,
@@ -97,6 +104,7 @@ fn examine_full(
         fault: 0,
         priority,
         size,
+        clean: staying == addresses.len(),
     }
 }
 
@@ -135,15 +143,36 @@ fn put_head(
     put_name(out, after_mode, c, name)
 }
 
-// Writes what mode 1 adds, with the addresses that stay, of `w` octets each.
-fn put_tail(out: &mut [u8], at: usize, w: usize, addresses: &[u8], parameters: &[u8]) -> usize
+// Writes the addresses that stay, of `w` octets each: a list that is known to be clean is not looked at again.
+fn put_addresses(out: &mut [u8], at: usize, w: usize, clean: bool, addresses: &[u8]) -> usize
     requires { ⌜ Width w ⌝ }
+    requires { ⌜ (clean ≡ true → staying w (now addresses) ≡ now addresses) ⌝ }
+    requires { ⌜ at + length (staying w (now addresses)) ≤ length (now out) ⌝ }
+    ensures { λ r. ⌜ Wrote at (staying w (now (addresses .entry))) (now (out .entry)) r (now (out .exit)) ⌝ }
+{
+    if clean {
+        return octets::copy(out, at, addresses);
+    }
+    addresses::put_kept(out, at, w, addresses)
+}
+
+// Writes what mode 1 adds, with the addresses that stay, of `w` octets each.
+fn put_tail(
+    out: &mut [u8],
+    at: usize,
+    w: usize,
+    clean: bool,
+    addresses: &[u8],
+    parameters: &[u8],
+) -> usize
+    requires { ⌜ Width w ⌝ }
+    requires { ⌜ (clean ≡ true → staying w (now addresses) ≡ now addresses) ⌝ }
     requires { ⌜ (length (keptOf w (listOf w (now addresses))) ≤ 63) × (length (now parameters) ≤ 1024) ⌝ }
     requires { ⌜ at + 3 + length (staying w (now addresses)) + length (now parameters) ≤ length (now out) ⌝ }
     ensures { λ r. ⌜ Wrote at (tailPart w (now (addresses .entry)) (now (parameters .entry))) (now (out .entry)) r (now (out .exit)) ⌝ }
 {
     let from = at + 1;
-    let after_addresses = addresses::put_kept(out, from, w, addresses);
+    let after_addresses = put_addresses(out, from, w, clean, addresses);
     let count = (after_addresses - from) / w;
     octets::put8(out, at, count as u8);
     let after_length = octets::put16(out, after_addresses, parameters.len());
@@ -152,8 +181,9 @@ fn put_tail(out: &mut [u8], at: usize, w: usize, addresses: &[u8], parameters: &
 
 // Whether a body yields a record.
 pub fn examine(c: Carrier, body: &[u8]) -> Examined
-    ensures { λ r. ⌜ r ≡ examinedOf c (outcomeOf c (now (body .entry))) ⌝ }
+    ensures { λ r. ⌜ r ≡ examinedOf c (outcomeOf c (now (body .entry))) (r .clean) ⌝ }
     ensures { λ r. ⌜ (r .priority < 65536) × (r .size ≤ 2298) ⌝ }
+    ensures { λ r. ⌜ (r .clean ≡ true → Clean c (now (body .entry))) ⌝ }
 {
     match blocks::split(c, body) {
         Places::Bad { fault } => faulty(fault),
@@ -190,9 +220,10 @@ pub fn examine(c: Carrier, body: &[u8]) -> Examined
     }
 }
 
-// Writes the record that a body yields at `at`, and returns the index after it.
-pub fn put_record(out: &mut [u8], at: usize, c: Carrier, body: &[u8]) -> usize
+// Writes the record that a body yields at `at`, and returns the index after it. `clean`: every address is known to stay.
+pub fn put_record(out: &mut [u8], at: usize, c: Carrier, clean: bool, body: &[u8]) -> usize
     requires { ⌜ Kept (outcomeOf c (now body)) ⌝ }
+    requires { ⌜ (clean ≡ true → Clean c (now body)) ⌝ }
     requires { ⌜ at + length (octetsIn c (outcomeOf c (now body))) ≤ length (now out) ⌝ }
     ensures { λ r. ⌜ Wrote at (octetsIn c (outcomeOf c (now (body .entry)))) (now (out .entry)) r (now (out .exit)) ⌝ }
 {
@@ -225,6 +256,7 @@ pub fn put_record(out: &mut [u8], at: usize, c: Carrier, body: &[u8]) -> usize
                 out,
                 tail,
                 c.address_width(),
+                clean,
                 &body[addresses..addresses_end],
                 &body[parameters..parameters_end],
             )

@@ -10,16 +10,16 @@ use Rattle.order.specs.Listed.{listed}
 use Rattle.sheets.specs.SheetsLaws.{length-sheet}
 use Rattle.reading.specs.Tally.{Good, recordsAt}
 use Rattle.reading.specs.Walks.{Written}
-use Rattle.reading.specs.SlotLaws.{ordered-length, ordered-at, cut-kept, written-length, written-room, written-next, written-start, sheet-written}
+use Rattle.reading.specs.SlotLaws.{ordered-length, ordered-at, cut-kept, cut-clean, written-length, written-room, written-next, written-start, sheet-written}
 use borrow.Author.Needs.{needs}
 use Rattle.reading.proofs.put_sheet.Statement.{statement}
 use Rattle.reading.proofs.put_sheet.Tie as tie
 
 abbrev Inv-loop : tie.InvT-loop
-Inv-loop out₀ c source sorted count o₀ i₀ out o i = Written c source (listed sorted) o₀ out₀ i o out
+Inv-loop out₀ c source clean sorted count o₀ i₀ out o i = Written c source (listed sorted) o₀ out₀ i o out
 
 abbrev μ-loop : tie.MeasureT-loop
-μ-loop out₀ c source sorted count o₀ i₀ out o i = count - i
+μ-loop out₀ c source clean sorted count o₀ i₀ out o i = count - i
 
 -- in a turn: what was ordered, that the slot is one of the list, and that it is good
 abbrev sorted : tie.After-at Inv-loop μ-loop → tie.After-ordered Inv-loop μ-loop
@@ -37,7 +37,7 @@ inside c =
       ordered-length _ _ (start c .pre .0) (sorted c .ordered .ensures),
     )
 
-good : (c : tie.After-at Inv-loop μ-loop) → Good (start c .args .c) (now (start c .args .source)) (c .at .result)
+good : (c : tie.After-at Inv-loop μ-loop) → Good (start c .args .c) (now (start c .args .source)) (start c .args .clean) (c .at .result)
 good c = ordered-at _ _ (start c .pre .0) (sorted c .ordered .ensures) (c .before .loop-test .taken) (c .at .ensures)
 
 ordered-requires : tie.Need-ordered-requires Inv-loop μ-loop
@@ -81,7 +81,7 @@ part-put-record-end c = omega (arith, good (c .before .before .before) .within)
 put-record-requires : tie.Need-put-record-requires Inv-loop μ-loop
 put-record-requires c κs =
     let t = c .before .before .before .before in
-    (cut-kept _ _ (good t), written-room (t .before .before .loop .inv) (inside t) (t .at .ensures))
+    (cut-kept _ _ (good t), (cut-clean _ _ (good t), written-room (t .before .before .loop .inv) (inside t) (t .at .ensures)))
 
 add-i : tie.Need-add-i Inv-loop μ-loop
 add-i c = omega arith

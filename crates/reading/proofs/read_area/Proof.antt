@@ -1,5 +1,5 @@
 -- `reading::read_area` meets its contract: carrier 1 is read joined, the others block by block. Assumes nothing.
-use mathlib.Core.Path.{_≡_, sym, ap}
+use mathlib.Core.Path.{_≡_, ap}
 use mathlib.Core.Logic.{⊎-elim}
 use native.Mathlib.Omega.{arith}
 use lib.ListN.{length}
@@ -8,7 +8,7 @@ use Rattle.carriers.specs.declared.Carrier.{Carrier}
 use Rattle.carriers.specs.declared.Carrier.the-variants.{Dhcp4}
 use Rattle.frames.specs.Frame.{frame}
 use Rattle.reading.specs.Reading.{readFramed}
-use Rattle.reading.specs.AnswerLaws.{gives-as, answer-tallied, tallied-ready}
+use Rattle.reading.specs.AnswerLaws.{gives-as}
 use borrow.Author.Needs.{needs}
 use Rattle.reading.proofs.read_area.Statement.{statement}
 use Rattle.reading.proofs.read_area.Tie as tie
@@ -24,11 +24,8 @@ enum-told c = search needs
 read-joined-requires : tie.Need-read-joined-requires
 read-joined-requires c κs = search needs
 
-tally-blocks-requires : tie.Need-tally-blocks-requires
-tally-blocks-requires c κs = search needs
-
-settle-requires : tie.Need-settle-requires
-settle-requires c κs = tallied-ready _ _ _ _ (c .tally-blocks .ensures)
+read-blocks-requires : tie.Need-read-blocks-requires
+read-blocks-requires c κs = (other (c .before), c .before .before .before .before .pre)
 
 same-length : tie.Need-same-length
 same-length c = search needs
@@ -44,10 +41,7 @@ same-length-2 : tie.Need-same-length-2
 same-length-2 c = search needs
 
 returns-2 : tie.Need-returns-2
-returns-2 c =
-    let t = c .before .before .before in
-    let a = t .before .before .before .before .before .args in
-    gives-as (sym (answer-tallied _ _ _ (a .c) (frame (a .c) (now (a .area))) (other (t .before .before)) (t .tally-blocks .ensures))) (c .before .before .settle .ensures)
+returns-2 c = search needs
 
 pub read-area-spec : {M : Type 1} → statement M
 read-area-spec =
@@ -55,8 +49,7 @@ read-area-spec =
     (tie.spec
     enum-told
     read-joined-requires
-    tally-blocks-requires
-    settle-requires
+    read-blocks-requires
     same-length
     returns
     same-length-2

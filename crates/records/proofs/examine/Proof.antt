@@ -93,7 +93,7 @@ returns-3 c =
     let found = c .before .before .before .before .before in
     let divided = found .before .before in
     let args = divided .before .before .args in
-    examine-full (args .c) (args .body .now) (divided .split .ensures .0) (divided .split .ensures .1 .1) (found .priority2 .given .1) (c .examine-full .ensures)
+    examine-full (args .c) (args .body .now) (divided .split .ensures .0) (divided .split .ensures .1 .1) (found .priority2 .given .1) (c .examine-full .ensures .0) (c .examine-full .ensures .1)
 
 pub examine-spec : {M : Type 1} → statement M
 examine-spec =

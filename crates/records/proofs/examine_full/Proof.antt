@@ -1,13 +1,14 @@
 -- `records::examine_full` meets its contract: a fault, or none. Assumes nothing.
 use borrow.Author.Needs.{needs}
 use native.Mathlib.Omega.{arith}
-use mathlib.Core.Path.{_≡_, refl, _∙_}
+use borrow.Author.Tests.{eqb-true}
+use mathlib.Core.Path.{_≡_, refl}
 use Prim.Native.Nat.{ℕ, _+_, _*_, _≤_}
 use lib.ListN.{length}
 use Rattle.blocks.specs.Block.{whole}
 use Rattle.judge.specs.JudgeLaws.{carrier-width}
 use Rattle.records.specs.Parts.{nameIn}
-use Rattle.records.specs.Outcomes.{examined-faulty, full-small, full-kept}
+use Rattle.records.specs.Outcomes.{unclean, examined-faulty, full-small, full-kept, full-clean}
 use Rattle.records.proofs.examine_full.Statement.{statement}
 use Rattle.records.proofs.examine_full.Tie as tie
 
@@ -18,12 +19,14 @@ faulty-requires : tie.Need-faulty-requires
 faulty-requires c κs = search needs
 
 returns : tie.Need-returns
-returns c t =
+returns c =
     let judged = c .before .before in
-    let args = judged .before .before .before .before .args in
-    c .faulty .ensures
-    ∙ examined-faulty (args .c) (whole (args .priority) t (args .name .now) (args .addresses .now) (args .parameters .now))
-    (judged .judge-fields .ensures) (c .before .if1 .taken)
+    let args = judged .before .before .before .before .args in (
+      λ t.
+          examined-faulty (args .c) (whole (args .priority) t (args .name .now) (args .addresses .now) (args .parameters .now))
+          (judged .judge-fields .ensures) (c .faulty .ensures) (c .before .if1 .taken),
+      λ z. absurd (unclean _ (c .faulty .ensures) z),
+    )
 
 address-width-requires : tie.Need-address-width-requires
 address-width-requires c κs = search needs
@@ -63,8 +66,10 @@ returns-2 : tie.Need-returns-2
 returns-2 c =
     let wide = c .before .before in
     let judged = wide .before .before in
-    let args = judged .before .before .before .before .args in
-    full-kept (args .c) (args .priority) (args .name .now) (args .addresses .now) (args .parameters .now) (judged .judge-fields .ensures) (wide .before .if1 .left) (c .name-size .ensures) (wide .address-width .ensures) (c .before .kept-count .ensures .0)
+    let args = judged .before .before .before .before .args in (
+      full-kept (args .c) (args .priority) (args .name .now) (args .addresses .now) (args .parameters .now) (judged .judge-fields .ensures) (wide .before .if1 .left) (c .name-size .ensures) (wide .address-width .ensures) (c .before .kept-count .ensures .0) _,
+      λ z. full-clean (args .c) (args .priority) (args .name .now) (args .addresses .now) (args .parameters .now) (judged .judge-fields .ensures) (wide .before .if1 .left) (c .name-size .ensures) (wide .address-width .ensures) (c .before .kept-count .ensures .0) (eqb-true _ _ z),
+    )
 
 pub examine-full-spec : {M : Type 1} → statement M
 examine-full-spec =

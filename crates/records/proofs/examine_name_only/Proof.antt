@@ -1,7 +1,6 @@
 -- `records::examine_name_only` meets its contract: a fault, or none. Assumes nothing.
 use borrow.Author.Needs.{needs}
 use native.Mathlib.Omega.{arith}
-use mathlib.Core.Path.{_∙_}
 use Rattle.blocks.specs.Block.{nameOnly}
 use Rattle.records.specs.Outcomes.{examined-faulty, name-only-small, name-only-kept}
 use Rattle.records.proofs.examine_name_only.Statement.{statement}
@@ -20,8 +19,7 @@ returns : tie.Need-returns
 returns c t =
     let judged = c .before .before in
     let args = judged .before .before .before .args in
-    c .faulty .ensures
-    ∙ examined-faulty (args .c) (nameOnly (args .priority) t (args .name .now)) (judged .judge-fields .ensures) (c .before .if1 .taken)
+    examined-faulty (args .c) (nameOnly (args .priority) t (args .name .now)) (judged .judge-fields .ensures) (c .faulty .ensures) (c .before .if1 .taken)
 
 name-size-requires : tie.Need-name-size-requires
 name-size-requires c κs = search needs

@@ -32,7 +32,7 @@ put-head-requires c κs =
     let divided = found .before .before in
     let start = divided .before .before .before in
     let args = start .args in
-    name-only-asks (args .c) (args .body .now) (divided .split .ensures .0) (divided .split .ensures .1 .1) (found .priority .given .1) (start .pre .0) (args .at) (args .out .now) (start .pre .1)
+    name-only-asks (args .c) (args .body .now) (divided .split .ensures .0) (divided .split .ensures .1 .1) (found .priority .given .1) (start .pre .0) (args .at) (args .out .now) (start .pre .1 .1)
 
 enum-known-priority-2 : tie.Need-enum-known-priority-2
 enum-known-priority-2 c = search needs
@@ -61,7 +61,7 @@ put-head-requires-2 c κs =
     let divided = found .before .before in
     let start = divided .before .before .before in
     let args = start .args in
-    full-asks-head (args .c) (args .body .now) (divided .split .ensures .0) (divided .split .ensures .1 .1) (found .priority2 .given .1) (start .pre .0) (args .at) (args .out .now) (start .pre .1)
+    full-asks-head (args .c) (args .body .now) (divided .split .ensures .0) (divided .split .ensures .1 .1) (found .priority2 .given .1) (start .pre .0) (args .at) (args .out .now) (start .pre .1 .1)
 
 address-width-requires : tie.Need-address-width-requires
 address-width-requires c κs = search needs
@@ -92,7 +92,7 @@ put-tail-requires c κs =
     let divided = found .before .before in
     let start = divided .before .before .before in
     let args = start .args in
-    full-asks-tail (args .c) (args .body .now) (divided .split .ensures .0) (divided .split .ensures .1 .1) (found .priority2 .given .1) (start .pre .0) (args .at) (args .out .now) (start .pre .1) (wide .address-width .ensures) (headed .put-head2 .ensures)
+    full-asks-tail (args .c) (args .body .now) (divided .split .ensures .0) (divided .split .ensures .1 .1) (found .priority2 .given .1) (start .pre .0) (args .at) (args .out .now) (start .pre .1 .1) (wide .address-width .ensures) (headed .put-head2 .ensures) (start .pre .1 .0)
 
 returns : tie.Need-returns
 returns c =
@@ -124,7 +124,7 @@ returns-3 c =
     let divided = found .before .before in
     let start = divided .before .before .before in
     let args = start .args in
-    full-writes (args .c) (args .body .now) (divided .split .ensures .0) (divided .split .ensures .1 .1) (found .priority2 .given .1) (start .pre .0) (args .at) (args .out .now) (start .pre .1) (wide .address-width .ensures) (headed .put-head2 .ensures) (tailed .put-tail .ensures)
+    full-writes (args .c) (args .body .now) (divided .split .ensures .0) (divided .split .ensures .1 .1) (found .priority2 .given .1) (start .pre .0) (args .at) (args .out .now) (start .pre .1 .1) (wide .address-width .ensures) (headed .put-head2 .ensures) (tailed .put-tail .ensures)
 
 pub put-record-spec : {M : Type 1} → statement M
 put-record-spec =

@@ -12,8 +12,8 @@ use Rattle.records.proofs.put_tail.Tie as tie
 add-from : tie.Need-add-from
 add-from c = search needs
 
-put-kept-requires : tie.Need-put-kept-requires
-put-kept-requires c κs = search needs
+put-addresses-requires : tie.Need-put-addresses-requires
+put-addresses-requires c κs = search needs
 
 sub-count : tie.Need-sub-count
 sub-count c = search needs
@@ -24,7 +24,7 @@ div-count c = search needs
 cast-put8 : tie.Need-cast-put8
 cast-put8 c =
     let stayed = c .before .before .before in
-    let e = staying-count _ _ _ _ (wide-some (c .before .before .before .before .before .before .before .before .pre .0)) (stayed .put-kept .ensures .next) in
+    let e = staying-count _ _ _ _ (wide-some (c .before .before .before .before .before .before .before .before .pre .0)) (stayed .put-addresses .ensures .next) in
     omega (arith, e)
 
 put8-requires : tie.Need-put8-requires
@@ -45,15 +45,15 @@ returns c =
     let sized = copied .before .before .before .before in
     let counted = sized .before .before .before .before in
     let stayed = counted .before .before .before .before in
-    let e = staying-count _ _ _ _ (wide-some (stayed .before .before .before .before .before .pre .0)) (stayed .put-kept .ensures .next) in
-    rw (e, append-assoc) at (then (before refl (stayed .put-kept .ensures) (counted .put8 .ensures)) (then (sized .put16 .ensures) (copied .copy .ensures)))
+    let e = staying-count _ _ _ _ (wide-some (stayed .before .before .before .before .before .pre .0)) (stayed .put-addresses .ensures .next) in
+    rw (e, append-assoc) at (then (before refl (stayed .put-addresses .ensures) (counted .put8 .ensures)) (then (sized .put16 .ensures) (copied .copy .ensures)))
 
 pub put-tail-spec : {M : Type 1} → statement M
 put-tail-spec =
     tie.close
     (tie.spec
     add-from
-    put-kept-requires
+    put-addresses-requires
     sub-count
     div-count
     cast-put8

@@ -1,0 +1,25 @@
+-- `reading::discard_joined` meets its contract: one block found and discarded, and nothing held. Assumes nothing.
+use mathlib.Core.Path.{sym}
+use mathlib.Core.List.{[], _∷_}
+use Rattle.reading.specs.TallyLaws.{holds-none, holds-ready, shows-joined-discarded}
+use Rattle.reading.specs.AnswerLaws.{gives-as, answer-blocks}
+use borrow.Author.Needs.{needs}
+use Rattle.reading.proofs.discard_joined.Statement.{statement}
+use Rattle.reading.proofs.discard_joined.Tie as tie
+
+empty-requires : tie.Need-empty-requires
+empty-requires c κs = search needs
+
+settle-requires : tie.Need-settle-requires
+settle-requires c κs = holds-ready (holds-none _ _ (c .before .empty .ensures .0) (c .before .empty .ensures .1))
+
+same-length : tie.Need-same-length
+same-length c = search needs
+
+returns : tie.Need-returns
+returns c =
+    let e = c .before .before .before .before in
+    gives-as (sym (answer-blocks _ _ _ (_ ∷ []) (shows-joined-discarded _ (holds-none _ _ (e .empty .ensures .0) (e .empty .ensures .1)) (e .before .before .before .pre)))) (c .before .before .settle .ensures)
+
+pub discard-joined-spec : {M : Type 1} → statement M
+discard-joined-spec = tie.close (tie.spec empty-requires settle-requires same-length returns)

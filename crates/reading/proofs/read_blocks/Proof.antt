@@ -1,0 +1,242 @@
+-- `reading::read_blocks` meets its contract. The invariant: what is counted tells of the blocks passed, and nothing is written. The measure
+-- is what is left of the area. Assumes nothing.
+use mathlib.Core.Path.{_≡_, refl, sym, ap, _∙_}
+use mathlib.Core.List.{[], _∷_, _++_}
+use native.Mathlib.Omega.{arith}
+use Prim.Native.Nat.{_-_}
+use lib.ListN.{length}
+use denote.Ref.{now}
+use Rattle.frames.specs.declared.Step.{Step}
+use Rattle.frames.specs.Frame.{frame}
+use Rattle.frames.specs.Step.{stepAt}
+use Rattle.frames.specs.Laws.{step-block, step-skipped}
+use Rattle.order.specs.declared.Slot.{Slot}
+use Rattle.order.specs.Listed.{listed}
+use Rattle.reading.specs.Reading.{readFramed}
+use Rattle.reading.specs.Tally.{heldOf, Seen, tallyOf, Open}
+use Rattle.reading.specs.Walks.{Tallying}
+use Rattle.reading.specs.TallyLaws.{holds-none, holds-ready, tallying-start, tallying-open, tallying-discarded, tallying-kept, tallying-full, tallying-skipped}
+use Rattle.reading.specs.AnswerLaws.{gives-as, gives-from, answer-end, answer-fault}
+use borrow.Author.Needs.{needs}
+use Rattle.reading.proofs.read_blocks.Statement.{statement}
+use Rattle.reading.proofs.read_blocks.Tie as tie
+
+abbrev Inv-loop : tie.InvT-loop
+Inv-loop c area out₀ slots₀ size₀ clean₀ more₀ found₀ bad₀ fault₀ at₀ out slots size clean more found bad fault at =
+    Tallying c area at (tallyOf (heldOf slots size clean more) found bad fault) × (out ≡ out₀)
+
+abbrev μ-loop : tie.MeasureT-loop
+μ-loop c area out₀ slots₀ size₀ clean₀ more₀ found₀ bad₀ fault₀ at₀ out slots size clean more found bad fault at = length area - at
+
+abbrev start : tie.At-loop Inv-loop μ-loop → tie.Start Inv-loop μ-loop
+start c = c .before .before .before .before
+
+-- in the arm of a block: the step that was taken
+block : (c : tie.After-start Inv-loop μ-loop)
+    → let l = c .before .before .before in
+    let a = start l .args in
+    stepAt (a .c) (now (a .area)) (l .loop .at) ≡ Step.Block (c .start .given .0 .0) (c .start .given .0 .1 .0)
+block c = sym (c .before .before .next-block .ensures) ∙ c .start .given .1
+
+-- what the body's examination tells
+seen : (c : tie.After-examine Inv-loop μ-loop)
+    → let k = c .before .before .before in
+    let a = start (k .before .before .before) .args in
+    Seen (a .c) (now (a .area)) (k .start .given .0 .0) (k .start .given .0 .1 .0) (c .examine .result)
+seen c =
+    let m = step-block _ _ _ (block (c .before .before .before)) in
+    record { low = m .1; high = m .2; tells = c .examine .ensures .0; small = c .examine .ensures .1 .0 .1; clean = c .examine .ensures .1 .1 }
+
+-- there is room in the counts for one more block
+open-more : (c : tie.After-start Inv-loop μ-loop)
+    → let l = (c .before .before .before .loop) in
+    Open (tallyOf (heldOf (l .slots) (l .size) (l .clean) (l .more)) (l .found) (l .bad) (l .fault))
+open-more c =
+    let l = c .before .before .before in
+    let m = step-block _ _ _ (block c) in
+    tallying-open _ _ (l .loop .inv .0) (omega (arith, m .0, m .2, start l .pre .1))
+
+skipped : (c : tie.After-past Inv-loop μ-loop)
+    → let l = c .before .before .before in
+    let a = start l .args in
+    stepAt (a .c) (now (a .area)) (l .loop .at) ≡ Step.Skipped (c .past .given .0 .0)
+skipped c = sym (c .before .before .next-block .ensures) ∙ c .past .given .1
+
+empty-requires : tie.Need-empty-requires Inv-loop μ-loop
+empty-requires c κs = search needs
+
+loop-holds : tie.Need-loop-holds Inv-loop μ-loop
+loop-holds c = (tallying-start _ _ (holds-none _ _ (c .empty .ensures .0) (c .empty .ensures .1)), refl)
+
+next-block-requires : tie.Need-next-block-requires Inv-loop μ-loop
+next-block-requires c κs = search needs
+
+enum-known-start : tie.Need-enum-known-start Inv-loop μ-loop
+enum-known-start c = search needs
+
+sub-examine : tie.Need-sub-examine Inv-loop μ-loop
+sub-examine c = let m = step-block _ _ _ (block (c .before)) in omega arith
+
+part-examine-start : tie.Need-part-examine-start Inv-loop μ-loop
+part-examine-start c = let m = step-block _ _ _ (block (c .before)) in omega arith
+
+part-examine-end : tie.Need-part-examine-end Inv-loop μ-loop
+part-examine-end c = let m = step-block _ _ _ (block (c .before)) in omega arith
+
+examine-requires : tie.Need-examine-requires Inv-loop μ-loop
+examine-requires c κs = search needs
+
+add-found : tie.Need-add-found Inv-loop μ-loop
+add-found c = omega (arith, open-more (c .before .before .before) .found)
+
+first-fault-requires : tie.Need-first-fault-requires Inv-loop μ-loop
+first-fault-requires c κs = search needs
+
+add-bad : tie.Need-add-bad Inv-loop μ-loop
+add-bad c =
+    let o = open-more (c .before .before .before .before .before .before) in
+    omega (arith, o .found, o .discarded)
+
+loop-less : tie.Need-loop-less Inv-loop μ-loop
+loop-less c = let m = step-block _ _ _ (block (c .before .before .before .before .before .before)) in omega arith
+
+loop-again : tie.Need-loop-again Inv-loop μ-loop
+loop-again c =
+    let x = c .before .before .before in
+    let k = x .before .before .before in
+    let i = k .before .before .before .loop .inv in
+    (tallying-discarded _ _ (i .0) (block k) (seen x) (c .before .if1 .taken) (c .first-fault .ensures), i .1)
+
+slot-of-requires : tie.Need-slot-of-requires Inv-loop μ-loop
+slot-of-requires c κs =
+    let x = c .before .before .before .before in
+    let k = x .before .before .before in
+    let m = step-block _ _ _ (block k) in
+    (m .1, omega (arith, m .2, start (k .before .before .before) .pre .1), x .examine .ensures .1 .0 .0)
+
+push-requires : tie.Need-push-requires Inv-loop μ-loop
+push-requires c κs = search needs
+
+add-size : tie.Need-add-size Inv-loop μ-loop
+add-size c =
+    let x = c .before .before .before .before .before .before .before in
+    let o = open-more (x .before .before .before) in
+    omega (arith, o .few, o .small, x .examine .ensures .1 .0 .1)
+
+both-requires : tie.Need-both-requires Inv-loop μ-loop
+both-requires c κs = search needs
+
+loop-less-2 : tie.Need-loop-less-2 Inv-loop μ-loop
+loop-less-2 c = let m = step-block _ _ _ (block (c .before .before .before .before .before .before .before .before .before .before .before)) in omega arith
+
+loop-again-2 : tie.Need-loop-again-2 Inv-loop μ-loop
+loop-again-2 c =
+    let p = c .before .before in
+    let t = p .before .before in
+    let e = t .before .before in
+    let x = e .before .before in
+    let k = x .before .before .before in
+    let i = k .before .before .before .loop .inv in (
+      tallying-kept _ _ (i .0) (block k) (seen x) (e .if1 .left)
+          (record {
+            room = t .if2 .taken;
+            count = p .push .ensures .0;
+            list = p .push .ensures .1 ∙ ap (λ (s : Slot). listed (k .before .before .before .loop .slots) ++ (s ∷ [])) (p .before .slot-of .ensures);
+            claims = c .both .ensures;
+          }),
+      i .1,
+    )
+
+loop-less-3 : tie.Need-loop-less-3 Inv-loop μ-loop
+loop-less-3 c = let m = step-block _ _ _ (block (c .before .before .before .before .before .before .before)) in omega arith
+
+loop-again-3 : tie.Need-loop-again-3 Inv-loop μ-loop
+loop-again-3 c =
+    let e = c .before .before in
+    let x = e .before .before in
+    let k = x .before .before .before in
+    let i = k .before .before .before .loop .inv in
+    (tallying-full _ _ (i .0) (block k) (seen x) (e .if1 .left) (c .if2 .left), i .1)
+
+enum-known-past : tie.Need-enum-known-past Inv-loop μ-loop
+enum-known-past c = search needs
+
+loop-less-4 : tie.Need-loop-less-4 Inv-loop μ-loop
+loop-less-4 c = let m = step-skipped _ _ _ (skipped (c .before)) in omega arith
+
+loop-again-4 : tie.Need-loop-again-4 Inv-loop μ-loop
+loop-again-4 c = let i = c .before .before .before .before .loop .inv in (tallying-skipped _ _ (i .0) (skipped (c .before)), i .1)
+
+enum-told : tie.Need-enum-told Inv-loop μ-loop
+enum-told c = search needs
+
+settle-requires : tie.Need-settle-requires Inv-loop μ-loop
+settle-requires c κs = holds-ready (c .before .before .before .before .loop .inv .0 .shows .holds)
+
+same-length : tie.Need-same-length Inv-loop μ-loop
+same-length c = let l = c .before .before .before .before .before .before .before in omega (arith, ap length (l .loop .inv .1))
+
+returns : tie.Need-returns Inv-loop μ-loop
+returns c =
+    let s = c .before .before in
+    let e = s .before .before in
+    let l = e .before .before .before in
+    let a = start l .args in
+    gives-from (readFramed (a .c) (frame (a .c) (now (a .area)))) (l .loop .inv .1)
+    (gives-as (answer-end _ _ _ (l .loop .inv .0) (start l .pre .0) (sym (e .before .before .next-block .ensures) ∙ e .enum-told .given .1)) (s .settle .ensures))
+
+enum-told-2 : tie.Need-enum-told-2 Inv-loop μ-loop
+enum-told-2 c = search needs
+
+refused-requires : tie.Need-refused-requires Inv-loop μ-loop
+refused-requires c κs = search needs
+
+same-length-2 : tie.Need-same-length-2 Inv-loop μ-loop
+same-length-2 c = ap length (c .before .before .before .before .loop .inv .1)
+
+returns-2 : tie.Need-returns-2 Inv-loop μ-loop
+returns-2 c =
+    let e = c .before in
+    let l = e .before .before .before in
+    let a = start l .args in
+    gives-from (readFramed (a .c) (frame (a .c) (now (a .area)))) (l .loop .inv .1)
+    (gives-as (answer-fault _ _ _ (l .loop .inv .0) (sym (e .before .before .next-block .ensures) ∙ e .enum-told2 .given .1)) (c .refused .ensures _ (λ z. omega arith)))
+
+pub read-blocks-spec : {M : Type 1} → statement M
+read-blocks-spec =
+    tie.close
+    (tie.spec
+    Inv-loop
+    μ-loop
+    empty-requires
+    loop-holds
+    next-block-requires
+    enum-known-start
+    sub-examine
+    part-examine-start
+    part-examine-end
+    examine-requires
+    add-found
+    first-fault-requires
+    add-bad
+    loop-less
+    loop-again
+    slot-of-requires
+    push-requires
+    add-size
+    both-requires
+    loop-less-2
+    loop-again-2
+    loop-less-3
+    loop-again-3
+    enum-known-past
+    loop-less-4
+    loop-again-4
+    enum-told
+    settle-requires
+    same-length
+    returns
+    enum-told-2
+    refused-requires
+    same-length-2
+    returns-2)

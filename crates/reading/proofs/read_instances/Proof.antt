@@ -1,0 +1,247 @@
+-- `reading::read_instances` meets its contract. The invariant: the records of the instances passed are held, and nothing is written. The
+-- measure is what is left of the joined data. Assumes nothing.
+use mathlib.Core.Path.{_≡_, refl, sym, ap, _∙_}
+use mathlib.Core.List.{[], _∷_, _++_}
+use native.Mathlib.Omega.{arith}
+use Prim.Native.Nat.{_+_, _-_}
+use lib.ListN.{length}
+use denote.Ref.{now}
+use Rattle.carriers.specs.declared.Carrier.the-variants.{Dhcp4}
+use Rattle.order.specs.declared.Slot.{Slot}
+use Rattle.order.specs.Listed.{listed}
+use Rattle.reading.specs.Reading.{readBlocks}
+use Rattle.reading.specs.Tally.{heldOf, Seen}
+use Rattle.reading.specs.Walks.{Passed}
+use Rattle.reading.specs.InstanceLaws.{joined-none}
+use Rattle.reading.specs.TallyLaws.{holds-none, holds-few, holds-ready, passed-start, passed-short, passed-past, passed-faulty, passed-kept, passed-full, passed-end}
+use Rattle.reading.specs.AnswerLaws.{gives-as, gives-from, answer-blocks}
+use borrow.Author.Needs.{needs}
+use Rattle.reading.proofs.read_instances.Statement.{statement}
+use Rattle.reading.proofs.read_instances.Tie as tie
+
+abbrev Inv-loop : tie.InvT-loop
+Inv-loop joined out₀ c slots₀ size₀ clean₀ more₀ at₀ out slots size clean more at = Passed joined at (heldOf slots size clean more) × (out ≡ out₀)
+
+abbrev μ-loop : tie.MeasureT-loop
+μ-loop joined out₀ c slots₀ size₀ clean₀ more₀ at₀ out slots size clean more at = length joined - at
+
+abbrev start : tie.At-loop Inv-loop μ-loop → tie.Start Inv-loop μ-loop
+start c = c .before .before .before .before .before
+
+-- where an instance's length was read: the turn's beginning
+abbrev turn : tie.After-get16 Inv-loop μ-loop → tie.At-loop Inv-loop μ-loop
+turn c = c .before .before .before
+
+-- what the instance's examination tells
+seen : (c : tie.After-examine Inv-loop μ-loop)
+    → let k = c .before .before .before in
+    let l = turn k in
+    Seen Dhcp4 (now (start l .args .joined)) (l .loop .at + 2) (l .loop .at + 2 + k .get16 .result) (c .examine .result)
+seen c =
+    let e = c .before .before in
+    record {
+      low = omega arith;
+      high = omega (arith, e .if3 .left, e .before .before .if2 .left);
+      tells = c .examine .ensures .0;
+      small = c .examine .ensures .1 .0 .1;
+      clean = c .examine .ensures .1 .1;
+    }
+
+discard-joined-requires : tie.Need-discard-joined-requires Inv-loop μ-loop
+discard-joined-requires c κs = joined-none _ (c .before .if1 .taken)
+
+same-length : tie.Need-same-length Inv-loop μ-loop
+same-length c = search needs
+
+returns : tie.Need-returns Inv-loop μ-loop
+returns c = search needs
+
+empty-requires : tie.Need-empty-requires Inv-loop μ-loop
+empty-requires c κs = search needs
+
+loop-holds : tie.Need-loop-holds Inv-loop μ-loop
+loop-holds c = (passed-start _ (c .before .if1 .left) (holds-none _ _ (c .empty .ensures .0) (c .empty .ensures .1)), refl)
+
+sub-if2 : tie.Need-sub-if2 Inv-loop μ-loop
+sub-if2 c = search needs
+
+discard-joined-requires-2 : tie.Need-discard-joined-requires-2 Inv-loop μ-loop
+discard-joined-requires-2 c κs =
+    let t = c .before .before in
+    passed-short _ (t .before .loop .inv .0) (t .loop-test .taken) (c .before .if2 .taken)
+
+same-length-2 : tie.Need-same-length-2 Inv-loop μ-loop
+same-length-2 c = let l = c .before .before .before .before .before .before in omega (arith, ap length (l .loop .inv .1))
+
+returns-2 : tie.Need-returns-2 Inv-loop μ-loop
+returns-2 c =
+    let d = c .before .before in
+    let l = d .before .before .before .before in
+    gives-from (readBlocks Dhcp4 (now (start l .args .joined) ∷ [])) (l .loop .inv .1) (d .discard-joined2 .ensures)
+
+get16-requires : tie.Need-get16-requires Inv-loop μ-loop
+get16-requires c κs = search needs
+
+add-start : tie.Need-add-start Inv-loop μ-loop
+add-start c = search needs
+
+sub-if3 : tie.Need-sub-if3 Inv-loop μ-loop
+sub-if3 c = search needs
+
+discard-joined-requires-3 : tie.Need-discard-joined-requires-3 Inv-loop μ-loop
+discard-joined-requires-3 c κs =
+    let k = c .before .before in
+    let t = k .before .before in
+    passed-past _ (t .before .loop .inv .0) (t .loop-test .taken) _ (k .get16 .ensures .0) (k .before .if2 .left) (c .before .if3 .taken)
+
+same-length-3 : tie.Need-same-length-3 Inv-loop μ-loop
+same-length-3 c = let l = turn (c .before .before .before .before .before) in omega (arith, ap length (l .loop .inv .1))
+
+returns-3 : tie.Need-returns-3 Inv-loop μ-loop
+returns-3 c =
+    let d = c .before .before in
+    let l = turn (d .before .before .before) in
+    gives-from (readBlocks Dhcp4 (now (start l .args .joined) ∷ [])) (l .loop .inv .1) (d .discard-joined3 .ensures)
+
+add-end : tie.Need-add-end Inv-loop μ-loop
+add-end c = search needs
+
+sub-examine : tie.Need-sub-examine Inv-loop μ-loop
+sub-examine c = search needs
+
+part-examine-start : tie.Need-part-examine-start Inv-loop μ-loop
+part-examine-start c = search needs
+
+part-examine-end : tie.Need-part-examine-end Inv-loop μ-loop
+part-examine-end c = search needs
+
+examine-requires : tie.Need-examine-requires Inv-loop μ-loop
+examine-requires c κs = search needs
+
+discard-joined-requires-4 : tie.Need-discard-joined-requires-4 Inv-loop μ-loop
+discard-joined-requires-4 c κs =
+    let x = c .before .before .before in
+    let e = x .before .before in
+    let k = e .before in
+    let t = k .before .before in
+    passed-faulty _ (t .before .loop .inv .0) (t .loop-test .taken) _ (k .get16 .ensures .0) (k .before .if2 .left) (e .if3 .left) (seen x) (c .before .if4 .taken)
+
+same-length-4 : tie.Need-same-length-4 Inv-loop μ-loop
+same-length-4 c = let l = turn (c .before .before .before .before .before .before .before .before .before) in omega (arith, ap length (l .loop .inv .1))
+
+returns-4 : tie.Need-returns-4 Inv-loop μ-loop
+returns-4 c =
+    let d = c .before .before in
+    let l = turn (d .before .before .before .before .before .before .before) in
+    gives-from (readBlocks Dhcp4 (now (start l .args .joined) ∷ [])) (l .loop .inv .1) (d .discard-joined4 .ensures)
+
+slot-of-requires : tie.Need-slot-of-requires Inv-loop μ-loop
+slot-of-requires c κs =
+    let x = c .before .before .before .before in
+    let s = seen x in
+    (s .low, omega (arith, s .high, start (turn (x .before .before .before)) .pre), x .examine .ensures .1 .0 .0)
+
+push-requires : tie.Need-push-requires Inv-loop μ-loop
+push-requires c κs = search needs
+
+add-size : tie.Need-add-size Inv-loop μ-loop
+add-size c =
+    let x = c .before .before .before .before .before .before .before in
+    let h = turn (x .before .before .before) .loop .inv .0 .holds in
+    omega (arith, holds-few h, h .small, seen x .small)
+
+both-requires : tie.Need-both-requires Inv-loop μ-loop
+both-requires c κs = search needs
+
+loop-less : tie.Need-loop-less Inv-loop μ-loop
+loop-less c = search needs
+
+loop-again : tie.Need-loop-again Inv-loop μ-loop
+loop-again c =
+    let p = c .before .before in
+    let r = p .before .before in
+    let f = r .before .before in
+    let x = f .before .before in
+    let e = x .before .before in
+    let k = e .before in
+    let t = k .before .before in
+    let l = t .before .loop in (
+      passed-kept _ (l .inv .0) (t .loop-test .taken) _ (k .get16 .ensures .0) (k .before .if2 .left) (e .if3 .left) (seen x) (f .if4 .left)
+          (record {
+            room = r .if5 .taken;
+            count = p .push .ensures .0;
+            list = p .push .ensures .1 ∙ ap (λ (s : Slot). listed (l .slots) ++ (s ∷ [])) (p .before .slot-of .ensures);
+            claims = c .both .ensures;
+          }),
+      l .inv .1,
+    )
+
+loop-less-2 : tie.Need-loop-less-2 Inv-loop μ-loop
+loop-less-2 c = search needs
+
+loop-again-2 : tie.Need-loop-again-2 Inv-loop μ-loop
+loop-again-2 c =
+    let f = c .before .before in
+    let x = f .before .before in
+    let e = x .before .before in
+    let k = e .before in
+    let t = k .before .before in
+    let i = t .before .loop .inv in (
+      passed-full _ (i .0) (t .loop-test .taken) _ (k .get16 .ensures .0) (k .before .if2 .left) (e .if3 .left) (seen x) (f .if4 .left) (c .if5 .left),
+      i .1,
+    )
+
+settle-requires : tie.Need-settle-requires Inv-loop μ-loop
+settle-requires c κs = holds-ready (c .before .before .loop .inv .0 .holds)
+
+same-length-5 : tie.Need-same-length-5 Inv-loop μ-loop
+same-length-5 c = let l = c .before .before .before .before .before in omega (arith, ap length (l .loop .inv .1))
+
+returns-5 : tie.Need-returns-5 Inv-loop μ-loop
+returns-5 c =
+    let s = c .before .before in
+    let t = s .before .before in
+    let l = t .before in
+    gives-from (readBlocks Dhcp4 (now (start l .args .joined) ∷ [])) (l .loop .inv .1)
+    (gives-as (sym (answer-blocks _ _ _ (_ ∷ []) (passed-end _ (l .loop .inv .0) (t .loop-test .left)))) (s .settle .ensures))
+
+pub read-instances-spec : {M : Type 1} → statement M
+read-instances-spec =
+    tie.close
+    (tie.spec
+    Inv-loop
+    μ-loop
+    discard-joined-requires
+    same-length
+    returns
+    empty-requires
+    loop-holds
+    sub-if2
+    discard-joined-requires-2
+    same-length-2
+    returns-2
+    get16-requires
+    add-start
+    sub-if3
+    discard-joined-requires-3
+    same-length-3
+    returns-3
+    add-end
+    sub-examine
+    part-examine-start
+    part-examine-end
+    examine-requires
+    discard-joined-requires-4
+    same-length-4
+    returns-4
+    slot-of-requires
+    push-requires
+    add-size
+    both-requires
+    loop-less
+    loop-again
+    loop-less-2
+    loop-again-2
+    settle-requires
+    same-length-5
+    returns-5)
