@@ -4,4 +4,3 @@ pub mod Filling
 pub mod FillingLaws
 pub mod Cases
 pub mod CasesLaws
-pub mod AnswerLaws

@@ -9,6 +9,7 @@ use lib.Dec.{ltb}
 use lib.ListN.{length, getD}
 use Rattle.octets.specs.Numbers.{allZero}
 use Rattle.octets.specs.Lists.{All}
+use Rattle.octets.specs.ListsLaws.{all-at}
 use Rattle.octets.specs.Fields.{part, number, counted}
 use Rattle.numbers.specs.Refusal as refusal
 use Rattle.carriers.specs.Carriers.{chosenOf}
@@ -116,12 +117,6 @@ boundary =
 
 -- ---- the fact at each entry
 
-module _ {A : Type 0} (P : A → Type 0) (d : A) where
-  -- what holds of every element holds at each index
-  pub all-at : (l : List A) → All P l → (i : ℕ) → i < length l → P (getD l i d)
-  all-at [] h i k = absurd (omega arith)
-  all-at (x ∷ xs) h zero k = h .0
-  all-at (x ∷ xs) h (suc i) k = all-at xs (h .1) i (omega arith)
-
+-- the fact at each entry
 pub boundary-at : (d : Piece) (i : ℕ) → i < length table → Holds (getD table i d)
 boundary-at d i h = all-at Holds d table boundary i h

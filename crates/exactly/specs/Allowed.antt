@@ -5,8 +5,7 @@ use mathlib.Core.Bool.{Bool, true, false}
 use mathlib.Core.List.{List, [], map}
 use Prim.Native.Nat.{ℕ, _/_, _%_, _≤_, _<_}
 use lib.ListN.{length}
-use Rattle.octets.specs.Lists.{All, flat}
-use Rattle.octets.specs.Fields.{putCounted}
+use Rattle.octets.specs.Lists.{All}
 use Rattle.numbers.specs.Limit as limit
 use Rattle.carriers.specs.declared.Carrier.{Carrier}
 use Rattle.carriers.specs.declared.Carrier.the-variants.{Dhcp4}
@@ -17,6 +16,7 @@ use Rattle.addresses.specs.Addresses.{listOf, keptOf}
 use Rattle.svcparams.specs.Accepted.{Accepted}
 use Rattle.blocks.specs.Block.{Fields, layout, Fits}
 use Rattle.records.specs.Records.{keepOf}
+use Rattle.layouts.specs.Layouts.{joinedOf}
 
 -- the name is the wire form of labels that obey the rule, and in carriers 4 and 5 their text
 abbrev pub NameAllowed : Bool → List ℕ → Type 0
@@ -50,13 +50,10 @@ pub record Yielding (c : Carrier) (body : List ℕ) (r : Fields) : Type 0 where
   pub kept : r ≡ keepOf c fields
 
 -- the joined data of carrier 1: one instance or more, each a 16-bit length and the layout of allowed fields
-abbrev pub instancesOf : List Fields → List ℕ
-instancesOf fs = flat (map (λ (f : Fields). putCounted 2 (layout Dhcp4 f) []) fs)
-
 pub record YieldingAll (joined : List ℕ) (rs : List Fields) : Type 0 where
   pub fields : List Fields
   pub some : 1 ≤ length fields
-  pub laid : joined ≡ instancesOf fields
+  pub laid : joined ≡ joinedOf fields
   pub fits : All (λ (f : Fields). Fits Dhcp4 f × (length (layout Dhcp4 f) < 65536)) fields
   pub allowed : All (Allowed Dhcp4) fields
   pub kept : rs ≡ map (keepOf Dhcp4) fields

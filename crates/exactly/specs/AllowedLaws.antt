@@ -8,6 +8,7 @@ use native.Mathlib.Omega.{arith}
 use borrow.Author.Tests.{ne-eqb}
 use lib.Dec.{eqb}
 use lib.ListN.{length}
+use Rattle.octets.specs.NumbersLaws.{bytes-left, bytes-right}
 use Rattle.octets.specs.Numbers.{be, Bytes}
 use Rattle.octets.specs.Fields.{putCounted}
 use Rattle.carriers.specs.declared.Carrier.{Carrier}
@@ -26,14 +27,6 @@ use Rattle.judge.specs.Passed.{PassedTail, Passed}
 use Rattle.exactly.specs.Allowed.{NameAllowed, TailAllowed, Allowed}
 
 -- ---- octets of a part
-
-pub bytes-left : (a b : List ℕ) → Bytes (a ++ b) → Bytes a
-bytes-left [] b h = tt
-bytes-left (x ∷ xs) b h = (h .0, bytes-left xs b (h .1))
-
-pub bytes-right : (a b : List ℕ) → Bytes (a ++ b) → Bytes b
-bytes-right [] b h = h
-bytes-right (x ∷ xs) b h = bytes-right xs b (h .1)
 
 counted-left : (w : ℕ) (x l : List ℕ) → Bytes (putCounted w x l) → Bytes x
 counted-left w x l h = bytes-left x l (bytes-right (be w (length x)) (x ++ l) h)

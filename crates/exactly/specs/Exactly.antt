@@ -3,15 +3,15 @@
 use mathlib.Core.Path.{_≡_, refl, sym, ap, ap₂, subst, _∙_}
 use mathlib.Core.Bool.{Bool, true, false}
 use mathlib.Core.Logic.{_↔_}
-use mathlib.Core.List.{List, [], _∷_, _++_, map, append-nil}
+use mathlib.Core.List.{List, [], _∷_, _++_, map}
 use Prim.Native.Nat.{ℕ, zero, suc, _+_, _-_, _*_, _/_, _%_, _≤_, _<_}
 use native.Mathlib.Omega.{arith}
 use borrow.Author.Tests.{ltb-true, ltb-false}
 use lib.Dec.{ltb}
 use lib.ListN.{length, take, drop, length-append, take-append-drop}
-use lib.Seq.{take-at, drop-at, length-take-le}
-use Rattle.octets.specs.Numbers.{at16, Bytes}
-use Rattle.octets.specs.NumbersLaws.{bytes-append}
+use lib.Seq.{length-take-le}
+use Rattle.octets.specs.Numbers.{Bytes}
+use Rattle.octets.specs.NumbersLaws.{bytes-append, bytes-left, bytes-right}
 use Rattle.octets.specs.Lists.{All, flat}
 use Rattle.octets.specs.ListsLaws.{all-map}
 use Rattle.octets.specs.Fields.{putCounted}
@@ -26,9 +26,10 @@ use Rattle.judge.specs.JudgeLaws.{fault-passed, passed-fault}
 use Rattle.records.specs.Records.{Outcome, faulty, kept, outcomeOf, keepOf}
 use Rattle.records.specs.RecordsLaws.{outcome-kept, kept-outcome}
 use Rattle.reading.specs.Reading.{Yield, discarded, yields, single, ahead, instancesFrom, yieldOf}
-use Rattle.reading.specs.InstanceLaws.{instance-past, instance-whole, joined-none, joined-some}
-use Rattle.exactly.specs.Allowed.{Allowed, Yielding, instancesOf, YieldingAll}
-use Rattle.exactly.specs.AllowedLaws.{bytes-left, bytes-right, passed-allowed, allowed-passed}
+use Rattle.reading.specs.InstanceLaws.{instance-past, instance-ahead, counted-ahead, joined-none, joined-some}
+use Rattle.layouts.specs.Layouts.{joinedOf}
+use Rattle.exactly.specs.Allowed.{Allowed, Yielding, YieldingAll}
+use Rattle.exactly.specs.AllowedLaws.{passed-allowed, allowed-passed}
 
 -- ---- one body
 
@@ -82,23 +83,6 @@ block-exactly Ike6 n b rs octets possible = single-exactly Ike6 b rs octets poss
 
 -- ---- one instance at the front of carrier 1's joined data
 
--- the length that stands first is that of the body after it
-counted-size : (x l : List ℕ) → length x < 65536 → length x ≡ at16 (putCounted 2 x l) 0
-counted-size x l h = omega arith
-
--- a body of fewer than 65,536 octets after its length, and what follows
-instance-ahead : (x l : List ℕ) → length x < 65536 → instancesFrom 0 (putCounted 2 x l) ≡ ahead (outcomeOf Dhcp4 x) (instancesFrom 0 l)
-instance-ahead x l h =
-    let s : List ℕ = putCounted 2 x l in
-    let n : ℕ = length x in
-    let long : length s ≡ 2 + n + length l = simp length-append (omega arith) in
-    let size : 0 + 2 + n - (0 + 2) ≡ n = omega arith in
-    let past : 0 + 2 + n ≡ suc (suc n) = omega arith in
-    instance-whole s 0 (omega arith) n (counted-size x l h) (omega arith) (omega arith)
-    ∙ ap₂ (λ (b r : List ℕ). ahead (outcomeOf Dhcp4 b) (instancesFrom 0 r))
-    (ap (λ (m : ℕ). take m (x ++ l)) size ∙ take-at x l n refl)
-    (ap (λ (m : ℕ). drop m s) past ∙ drop-at x l n refl)
-
 -- octets that begin with an instance
 record Begins (l : List ℕ) : Type 0 where
   pub body : List ℕ
@@ -141,15 +125,12 @@ ahead-yields (kept r) (yields qs) rs e = (r, refl, (qs, refl, (cc)))
 -- fields whose instances are laid out one after another, and their records: `YieldingAll` without a first
 record Instances (l : List ℕ) (rs : List Fields) : Type 0 where
   pub fields : List Fields
-  pub laid : l ≡ instancesOf fields
+  pub laid : l ≡ joinedOf fields
   pub fits : All (λ (f : Fields). Fits Dhcp4 f × (length (layout Dhcp4 f) < 65536)) fields
   pub allowed : All (Allowed Dhcp4) fields
   pub kept : rs ≡ map (keepOf Dhcp4) fields
 
 -- an instance put in front of octets
-counted-ahead : (x l : List ℕ) → putCounted 2 x [] ++ l ≡ putCounted 2 x l
-counted-ahead x l = rw (append-nil x)
-
 first-instance : (s x l : List ℕ) (rs qs : List Fields) (r : Fields) → s ≡ putCounted 2 x l → rs ≡ r ∷ qs → length x < 65536
     → Yielding Dhcp4 x r → Instances l qs → Instances s rs
 first-instance s x l rs qs r e q small y i =
@@ -186,13 +167,13 @@ yields-instances : (n : ℕ) (l : List ℕ) (rs : List Fields) → length l < n 
 yields-instances zero l rs less h e = absurd (omega arith)
 yields-instances (suc n) l rs less h e = yields-first l rs (λ m qs fewer. yields-instances n m qs (omega arith)) h e
 
-instances-yield : (fs : List Fields) → Bytes (instancesOf fs) → All (λ (f : Fields). Fits Dhcp4 f × (length (layout Dhcp4 f) < 65536)) fs
-    → All (Allowed Dhcp4) fs → instancesFrom 0 (instancesOf fs) ≡ yields (map (keepOf Dhcp4) fs)
+instances-yield : (fs : List Fields) → Bytes (joinedOf fs) → All (λ (f : Fields). Fits Dhcp4 f × (length (layout Dhcp4 f) < 65536)) fs
+    → All (Allowed Dhcp4) fs → instancesFrom 0 (joinedOf fs) ≡ yields (map (keepOf Dhcp4) fs)
 unfolding instancesFrom
 instances-yield [] h fits allowed = refl
 instances-yield (f ∷ fs) h fits allowed =
     let x : List ℕ = layout Dhcp4 f in
-    let l : List ℕ = instancesOf fs in
+    let l : List ℕ = joinedOf fs in
     let octets : Bytes (putCounted 2 x l) = subst Bytes (counted-ahead x l) h in
     let first = body-exactly Dhcp4 x (keepOf Dhcp4 f) (bytes-left x l (octets .1 .1)) tt .1
     record { fields = f; laid = refl; fits = fits .0 .0; allowed = allowed .0; kept = refl } in
@@ -209,7 +190,7 @@ instances-exactly l rs h = (
 -- ---- the block of carrier 1
 
 -- octets that there are have a first instance
-some-fields : (fs : List Fields) (x : ℕ) (xs : List ℕ) → x ∷ xs ≡ instancesOf fs → 1 ≤ length fs
+some-fields : (fs : List Fields) (x : ℕ) (xs : List ℕ) → x ∷ xs ≡ joinedOf fs → 1 ≤ length fs
 some-fields [] x xs e = let z : length (x ∷ xs) ≡ 0 = ap length e in absurd (omega arith)
 some-fields (f ∷ fs) x xs e = omega arith
 
@@ -227,7 +208,7 @@ joined-yielding (x ∷ xs) rs h e =
     }
 
 -- an instance has its length at least
-instances-some : (fs : List Fields) → 1 ≤ length fs → length (instancesOf fs) ≡ 0 → ⊥
+instances-some : (fs : List Fields) → 1 ≤ length fs → length (joinedOf fs) ≡ 0 → ⊥
 instances-some [] h e = omega arith
 instances-some (f ∷ fs) h e = omega arith
 

@@ -1,7 +1,7 @@
 -- Fields read from the front of octets, each handing what is left to the next, over any kind of answer; `stop` is the answer where a
 -- field runs past the end. And the same fields written. Assumes nothing: these are definitions.
-use mathlib.Core.Bool.{Bool, cond}
-use mathlib.Core.List.{List, [], _∷_, _++_}
+use mathlib.Core.Bool.{cond}
+use mathlib.Core.List.{List, _++_}
 use Prim.Native.Nat.{ℕ}
 use lib.Dec.{leb}
 use lib.ListN.{length, take, drop}

@@ -1,6 +1,9 @@
 -- The laws of `All` and `flat`. Assumes nothing.
 use mathlib.Core.Path.{_≡_, refl, sym, ap, _∙_}
 use mathlib.Core.List.{List, [], _∷_, _++_, append-assoc}
+use Prim.Native.Nat.{ℕ, zero, suc, _<_}
+use native.Mathlib.Omega.{arith}
+use lib.ListN.{length, getD}
 use Rattle.octets.specs.Lists.{All, flat}
 
 module _ {A : Type 0} where
@@ -15,3 +18,9 @@ module _ {A : Type 0} where
   pub all-map : (P Q : A → Type 0) (l : List A) → ((x : A) → P x → Q x) → All P l → All Q l
   all-map P Q [] f h = tt
   all-map P Q (x ∷ xs) f h = (f x (h .0), all-map P Q xs f (h .1))
+
+  -- what holds of every element holds at each index
+  pub all-at : (P : A → Type 0) (d : A) (l : List A) → All P l → (i : ℕ) → i < length l → P (getD l i d)
+  all-at P d [] h i k = absurd (omega arith)
+  all-at P d (x ∷ xs) h zero k = h .0
+  all-at P d (x ∷ xs) h (suc i) k = all-at P d xs (h .1) i (omega arith)

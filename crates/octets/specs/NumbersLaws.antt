@@ -24,6 +24,14 @@ pub bytes-append : (a b : List ℕ) → Bytes a → Bytes b → Bytes (a ++ b)
 bytes-append [] b h k = k
 bytes-append (x ∷ xs) b h k = (h .0, bytes-append xs b (h .1) k)
 
+pub bytes-left : (a b : List ℕ) → Bytes (a ++ b) → Bytes a
+bytes-left [] b h = tt
+bytes-left (x ∷ xs) b h = (h .0, bytes-left xs b (h .1))
+
+pub bytes-right : (a b : List ℕ) → Bytes (a ++ b) → Bytes b
+bytes-right [] b h = h
+bytes-right (x ∷ xs) b h = bytes-right xs b (h .1)
+
 pub bytes-be : (w v : ℕ) → Bytes (be w v)
 bytes-be zero v = tt
 bytes-be (suc w) v = bytes-append (be w (v / 256)) (v % 256 ∷ []) (bytes-be w (v / 256)) (omega arith, tt)

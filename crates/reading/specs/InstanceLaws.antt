@@ -1,15 +1,16 @@
 -- The instances of joined data, one after another from the front. Assumes nothing.
 use mathlib.Core.Path.{_≡_, refl, sym, ap, ap₂, _∙_}
 use mathlib.Core.Bool.{true, false, cond}
-use mathlib.Core.List.{List, [], _∷_, _++_}
+use mathlib.Core.List.{List, [], _∷_, _++_, append-nil}
 use Prim.Native.Nat.{ℕ, zero, suc, _+_, _-_, _≤_, _<_}
 use native.Mathlib.Nat.{add-zero}
 use native.Mathlib.Omega.{arith}
 use borrow.Author.Tests.{lt-ltb, le-ltb, ne-eqb}
 use lib.Dec.{ltb}
-use lib.ListN.{length, getD, take, drop, length-drop, drop-of-length-le}
-use lib.Seq.{drop-drop, getD-drop, append-snoc}
+use lib.ListN.{length, getD, take, drop, length-append, length-drop, drop-of-length-le}
+use lib.Seq.{drop-drop, getD-drop, append-snoc, take-at, drop-at}
 use Rattle.octets.specs.Numbers.{at16}
+use Rattle.octets.specs.Fields.{putCounted}
 use Rattle.numbers.specs.Fault as fault
 use Rattle.carriers.specs.declared.Carrier.the-variants.{Dhcp4}
 use Rattle.frames.specs.Step.{part}
@@ -111,3 +112,25 @@ joined-none joined h = simp h
 pub joined-some : (joined : List ℕ) → (length joined ≡ 0 → ⊥) → joinedYield joined ≡ instancesFrom 0 joined
 unfolding joinedYield
 joined-some joined h = simp (ne-eqb (length joined) 0 h)
+
+-- ---- an instance as it is written
+
+-- the length that stands first is that of the body after it
+counted-size : (x l : List ℕ) → length x < 65536 → length x ≡ at16 (putCounted 2 x l) 0
+counted-size x l h = omega arith
+
+-- a body of fewer than 65,536 octets after its length, and what follows
+pub instance-ahead : (x l : List ℕ) → length x < 65536 → instancesFrom 0 (putCounted 2 x l) ≡ ahead (outcomeOf Dhcp4 x) (instancesFrom 0 l)
+instance-ahead x l h =
+    let s : List ℕ = putCounted 2 x l in
+    let n : ℕ = length x in
+    let long : length s ≡ 2 + n + length l = simp length-append (omega arith) in
+    let size : 0 + 2 + n - (0 + 2) ≡ n = omega arith in
+    let past : 0 + 2 + n ≡ suc (suc n) = omega arith in
+    instance-whole s 0 (omega arith) n (counted-size x l h) (omega arith) (omega arith)
+    ∙ ap₂ (λ (b r : List ℕ). ahead (outcomeOf Dhcp4 b) (instancesFrom 0 r))
+    (ap (λ (m : ℕ). take m (x ++ l)) size ∙ take-at x l n refl)
+    (ap (λ (m : ℕ). drop m s) past ∙ drop-at x l n refl)
+
+pub counted-ahead : (x l : List ℕ) → putCounted 2 x [] ++ l ≡ putCounted 2 x l
+counted-ahead x l = rw (append-nil x)

@@ -27,7 +27,7 @@ use Rattle.records.specs.RecordsLaws.{fault-some}
 use Rattle.sheets.specs.Sheets.{recordsOf, sheetOf}
 use Rattle.sheets.specs.SheetsLaws.{length-sheet}
 use Rattle.reading.specs.Reading.{Yield, discarded, yields, single, arrivals, ahead, instancesFrom, joinedYield}
-use Rattle.reading.specs.Tally.{Good, recordAt, recordsAt, slotOf, Held, heldOf, Seen, Grown, Holds, Tally, tallyOf, Shows, Open, alone, Sound, Ready}
+use Rattle.reading.specs.Tally.{Good, recordAt, slotOf, Held, heldOf, Seen, Grown, Holds, Tally, tallyOf, Shows, Open, alone, Ready}
 use Rattle.reading.specs.YieldLaws.{arrivals-more, discarded-more, discarded-few, first-yields, first-discarded, first-stays}
 use Rattle.reading.specs.InstanceLaws.{instance-short, instance-past, instance-whole, instances-end, before-none, before-ahead, joined-some}
 use Rattle.reading.specs.ListLaws.{map-append, each-append, laid-append}

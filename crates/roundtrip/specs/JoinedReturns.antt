@@ -1,19 +1,15 @@
 -- Carrier 1: accepted records come back from their joined instances, cut into options. Assumes nothing.
 use mathlib.Core.Path.{_≡_, refl, ap, ap₂, _∙_}
-use mathlib.Core.List.{List, [], _∷_, _++_, map, append-nil}
-use Prim.Native.Nat.{ℕ, suc, _+_, _-_, _≤_, _<_}
+use mathlib.Core.List.{List, [], _∷_, map, append-nil}
+use Prim.Native.Nat.{ℕ, _-_, _≤_, _<_}
 use native.Mathlib.Omega.{arith}
-use lib.ListN.{length, take, drop, length-append}
-use lib.Seq.{take-at, drop-at}
-use Rattle.octets.specs.Numbers.{at16}
+use lib.ListN.{length}
 use Rattle.octets.specs.Lists.{All, flat}
-use Rattle.octets.specs.Fields.{putCounted}
 use Rattle.carriers.specs.declared.Carrier.the-variants.{Dhcp4}
 use Rattle.frames.specs.Frame.{Framed, frame, joined}
 use Rattle.blocks.specs.Block.{Fields}
-use Rattle.records.specs.Records.{outcomeOf}
 use Rattle.reading.specs.Reading.{yields, ahead, instancesFrom, yieldOf, readFramed, readBlocks}
-use Rattle.reading.specs.InstanceLaws.{instance-whole, joined-some}
+use Rattle.reading.specs.InstanceLaws.{instance-ahead, counted-ahead, joined-some}
 use Rattle.taking.specs.Sheet.{NoneFalls}
 use Rattle.pieces.specs.Pieces.{pieces}
 use Rattle.pieces.specs.PiecesLaws.{pieces-flat, frame-cut}
@@ -27,26 +23,6 @@ use Rattle.roundtrip.specs.RecordReturns.{record-returns, brings-answer}
 use Rattle.roundtrip.specs.RoundTrip.{blocksIn}
 
 -- ---- instances
-
--- the length that stands first is that of the body after it
-counted-size : (x l : List ℕ) → length x < 65536 → length x ≡ at16 (putCounted 2 x l) 0
-counted-size x l h = omega arith
-
--- a body after its length, and what follows
-instance-ahead : (x l : List ℕ) → length x < 65536 → instancesFrom 0 (putCounted 2 x l) ≡ ahead (outcomeOf Dhcp4 x) (instancesFrom 0 l)
-instance-ahead x l h =
-    let s : List ℕ = putCounted 2 x l in
-    let n : ℕ = length x in
-    let long : length s ≡ 2 + n + length l = simp length-append (omega arith) in
-    let size : 0 + 2 + n - (0 + 2) ≡ n = omega arith in
-    let past : 0 + 2 + n ≡ suc (suc n) = omega arith in
-    instance-whole s 0 (omega arith) n (counted-size x l h) (omega arith) (omega arith)
-    ∙ ap₂ (λ (b r : List ℕ). ahead (outcomeOf Dhcp4 b) (instancesFrom 0 r))
-    (ap (λ (m : ℕ). take m (x ++ l)) size ∙ take-at x l n refl)
-    (ap (λ (m : ℕ). drop m s) past ∙ drop-at x l n refl)
-
-counted-ahead : (x l : List ℕ) → putCounted 2 x [] ++ l ≡ putCounted 2 x l
-counted-ahead x l = rw (append-nil x)
 
 -- accepted records come back from their instances, one after another
 pub instances-return : (rs : List Fields) → All (Sound Dhcp4) rs → instancesFrom 0 (joinedOf rs) ≡ yields rs

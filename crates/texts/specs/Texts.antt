@@ -1,7 +1,7 @@
 -- Names as text (01, Names: "In carriers 4 and 5 the same labels stand as text joined by dots, no final dot, 1 to 253 octets").
 -- Assumes nothing: these are definitions.
 use mathlib.Core.Path.{_≡_}
-use mathlib.Core.Bool.{Bool, cond}
+use mathlib.Core.Bool.{cond}
 use mathlib.Core.List.{List, [], _∷_, _++_}
 use Prim.Native.Nat.{ℕ, zero, suc, _+_, _-_, _≤_}
 use lib.Dec.{eqb}

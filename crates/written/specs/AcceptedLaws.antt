@@ -1,12 +1,12 @@
 -- An accepted sheet is one to which writing answers 0 or 5; its records have room in their carrier; and what writing then answers.
 -- Assumes nothing.
-use mathlib.Core.Path.{_≡_, refl, sym, _∙_}
+use mathlib.Core.Path.{_≡_, refl}
 use mathlib.Core.Logic.{_⊎_, inl, inr, _↔_}
-use mathlib.Core.Bool.{Bool, true, false, cond, not, _||_, true≢false, false≢true}
+use mathlib.Core.Bool.{Bool, true, false, cond, not, _||_, true≢false}
 use mathlib.Core.List.{List, [], _∷_}
 use Prim.Native.Nat.{ℕ, _+_, _^_, _≤_, _<_}
 use native.Mathlib.Omega.{arith}
-use borrow.Author.Tests.{eqb-true, eqb-false, eq-eqb, ltb-true, ltb-false, le-ltb}
+use borrow.Author.Tests.{eqb-true, eqb-false, eq-eqb, ltb-false, le-ltb}
 use lib.Dec.{ltb, eqb}
 use lib.ListN.{length}
 use Rattle.octets.specs.Numbers.{Bytes}
@@ -20,16 +20,15 @@ use Rattle.names.specs.Right.{three}
 use Rattle.blocks.specs.Block.{Fields, optionSize, gap}
 use Rattle.judge.specs.declared.Side.the-variants.{Writing}
 use Rattle.judge.specs.Judge.{faultOf}
-use Rattle.judge.specs.Passed.{Passed}
 use Rattle.judge.specs.JudgeLaws.{fault-passed, passed-fault, written-name}
 use Rattle.judge.specs.Numbered.{FaultNumber, fault-number}
 use Rattle.layouts.specs.Writable.{Writable, WritableTail}
 use Rattle.taking.specs.Taking.{Taken, takeOf}
 use Rattle.taking.specs.Taking as taking
-use Rattle.taking.specs.Sheet.{FitsTail, FitsRecord, IsSheet}
+use Rattle.taking.specs.Sheet.{FitsTail, FitsRecord}
 use Rattle.taking.specs.TakenLaws.{Refusing, refused-by}
 use Rattle.taking.specs.Exactly.{taken-sheet, sheet-taken}
-use Rattle.written.specs.Writing.{octetsOf, firstFault, large, anyLarge, Answer, refuse, written, writeRecords, writeTaken, writeOf, numberIn}
+use Rattle.written.specs.Writing.{octetsOf, firstFault, large, anyLarge, refuse, written, writeRecords, writeTaken, writeOf, numberIn}
 use Rattle.written.specs.Accepted.{Sound, Accepted}
 
 -- ---- an accepted record has room in its carrier

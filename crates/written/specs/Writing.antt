@@ -1,6 +1,6 @@
 -- Writing (01, Numbers given back: "Writing checks 2, 40, 41, 42, 4, 43, then 21 to 28 record by record, then 44, then 5"; "Writing emits
 -- records in sheet order"): the one set of octets defined for a sheet, and the answer of the call. Assumes nothing: these are definitions.
-use mathlib.Core.Bool.{Bool, true, false, cond, not, _||_}
+use mathlib.Core.Bool.{Bool, false, cond, not, _||_}
 use mathlib.Core.List.{List, [], _∷_, map}
 use Prim.Native.Nat.{ℕ, _+_}
 use lib.Dec.{ltb, eqb}

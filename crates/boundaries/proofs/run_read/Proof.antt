@@ -2,7 +2,7 @@
 use borrow.Author.Needs.{needs}
 use native.Mathlib.Omega.{arith}
 use Rattle.io.proofs.Counting.{counts}
-use Rattle.boundaries.specs.AnswerLaws.{answered-fits}
+use Rattle.octets.specs.AnswerLaws.{answered-fits}
 use Rattle.boundaries.proofs.run_read.Statement.{statement}
 use Rattle.boundaries.proofs.run_read.Tie as tie
 

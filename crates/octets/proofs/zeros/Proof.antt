@@ -1,7 +1,7 @@
 -- `octets::zeros` meets its contract. The loop's invariant: what is left decides. Assumes nothing.
 use native.Mathlib.Omega.{arith}
-use mathlib.Core.Path.{_≡_, refl, sym, ap, _∙_}
-use Prim.Native.Nat.{ℕ, _+_, _-_, _≤_, _<_}
+use mathlib.Core.Path.{_≡_, refl, _∙_}
+use Prim.Native.Nat.{_-_, _≤_}
 use lib.ListN.{length, drop}
 use Rattle.octets.specs.Numbers.{allZero}
 use Rattle.octets.specs.NumbersLaws.{zero-turn, zero-not, zero-end}

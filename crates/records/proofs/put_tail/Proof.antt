@@ -1,6 +1,6 @@
 -- `records::put_tail` meets its contract: the addresses that stay, their count before them, and the parameters. Assumes nothing.
 use borrow.Author.Needs.{needs}
-use mathlib.Core.Path.{_≡_, refl}
+use mathlib.Core.Path.{refl}
 use mathlib.Core.List.{append-assoc}
 use native.Mathlib.Omega.{arith}
 use Rattle.octets.specs.OverLaws.{then, before}

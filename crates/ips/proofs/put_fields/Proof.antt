@@ -1,0 +1,66 @@
+-- `ips::put_fields` meets its contract: the first field, and the others after a colon each. Assumes nothing.
+use borrow.Author.Needs.{needs}
+use native.Mathlib.Omega.{arith}
+use Rattle.octets.specs.OverLaws.{wrote-none}
+use Rattle.ips.specs.Writes.{part-to-end, no-colons, some-length, wrote-colons}
+use Rattle.ips.proofs.put_fields.Statement.{statement}
+use Rattle.ips.proofs.put_fields.Tie as tie
+
+returns : tie.Need-returns
+returns c =
+    let s = c .before .before .before in
+    rw (no-colons (s .args .s .now) (c .if1 .taken)) (wrote-none (omega arith))
+
+get16-requires : tie.Need-get16-requires
+get16-requires c κs = search needs
+
+put-hex-requires : tie.Need-put-hex-requires
+put-hex-requires c κs =
+    let e = c .before .before in
+    let s = e .before .before .before in
+    let size = some-length (s .args .s .now) (c .get16 .result) (e .if1 .left) (c .get16 .ensures .0) in
+    (omega arith, omega arith)
+
+sub-put-led : tie.Need-sub-put-led
+sub-put-led c = search needs
+
+part-put-led-start : tie.Need-part-put-led-start
+part-put-led-start c = search needs
+
+part-put-led-end : tie.Need-part-put-led-end
+part-put-led-end c = search needs
+
+put-led-requires : tie.Need-put-led-requires
+put-led-requires c κs =
+    let p = c .before .before .before .before in
+    let g = p .before in
+    let e = g .before .before in
+    let s = e .before .before .before in
+    let size = some-length (s .args .s .now) (g .get16 .result) (e .if1 .left) (g .get16 .ensures .0) in
+    rw (part-to-end 2 (s .args .s .now)) (omega arith)
+
+same-length : tie.Need-same-length
+same-length c = search needs
+
+returns-2 : tie.Need-returns-2
+returns-2 c =
+    let q = c .before .before in
+    let p = q .before .before .before .before .before in
+    let g = p .before in
+    let e = g .before .before in
+    let s = e .before .before .before in
+    wrote-colons (s .args .s .now) (e .if1 .left) (g .get16 .ensures .0) (p .put-hex .ensures) (rw (part-to-end 2 (s .args .s .now)) at (q .put-led .ensures))
+
+pub put-fields-spec : {M : Type 1} → statement M
+put-fields-spec =
+    tie.close
+    (tie.spec
+    returns
+    get16-requires
+    put-hex-requires
+    sub-put-led
+    part-put-led-start
+    part-put-led-end
+    put-led-requires
+    same-length
+    returns-2)

@@ -1,0 +1,71 @@
+-- `ips::put_shortened` meets its contract: all fields where no run is shortened, and those around it where one is. Assumes nothing.
+use borrow.Author.Needs.{needs}
+use native.Mathlib.Omega.{arith}
+use mathlib.Core.Path.{_≡_}
+use mathlib.Core.List.{List}
+use Prim.Native.Nat.{ℕ}
+use Rattle.ips.specs.Ips.{fieldsOf, runOf, colons, around, shortened}
+use Rattle.ips.specs.IpsLaws.{fields-length}
+use Rattle.ips.specs.Writes.{shortened-whole, shortened-around, within-fields}
+use Rattle.ips.proofs.put_shortened.Statement.{statement}
+use Rattle.ips.proofs.put_shortened.Tie as tie
+
+-- the octets of the address
+abbrev octets : tie.After-run-in → List ℕ
+octets c = c .before .before .before .args .a .now
+
+-- the text on each way
+whole : (c : tie.After-run-in) → c .run-in .result .count ≡ 0 → shortened (runOf (fieldsOf (octets c))) (fieldsOf (octets c)) ≡ colons (fieldsOf (octets c))
+whole c e = shortened-whole (fieldsOf (octets c)) (c .run-in .result) (c .run-in .ensures) e
+
+part : (c : tie.After-run-in) → (c .run-in .result .count ≡ 0 → ⊥) → shortened (runOf (fieldsOf (octets c))) (fieldsOf (octets c)) ≡ around (c .run-in .result) (fieldsOf (octets c))
+part c h = shortened-around (fieldsOf (octets c)) (c .run-in .result) (c .run-in .ensures) h
+
+run-in-requires : tie.Need-run-in-requires
+run-in-requires c κs = search needs
+
+put-fields-requires : tie.Need-put-fields-requires
+put-fields-requires c κs =
+    let t = c .before in
+    let k = t .before .before in
+    rw (whole k (t .if1 .taken)) at (k .before .before .before .pre .1)
+
+same-length : tie.Need-same-length
+same-length c = search needs
+
+returns : tie.Need-returns
+returns c =
+    let p = c .before .before in
+    let t = p .before .before in
+    let k = t .before .before in
+    rw (whole k (t .if1 .taken)) (p .put-fields .ensures)
+
+put-around-requires : tie.Need-put-around-requires
+put-around-requires c κs =
+    let e = c .before in
+    let k = e .before .before in
+    let s = k .before .before .before in
+    let inside = within-fields (fieldsOf (octets k)) (k .run-in .result) (k .run-in .ensures) in
+    ((s .pre .0, omega (arith, fields-length (octets k))), rw (part k (e .if1 .left)) at (s .pre .1))
+
+same-length-2 : tie.Need-same-length-2
+same-length-2 c = search needs
+
+returns-2 : tie.Need-returns-2
+returns-2 c =
+    let p = c .before .before in
+    let e = p .before .before in
+    let k = e .before .before in
+    rw (part k (e .if1 .left)) (p .put-around .ensures)
+
+pub put-shortened-spec : {M : Type 1} → statement M
+put-shortened-spec =
+    tie.close
+    (tie.spec
+    run-in-requires
+    put-fields-requires
+    same-length
+    returns
+    put-around-requires
+    same-length-2
+    returns-2)

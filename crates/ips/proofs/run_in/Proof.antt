@@ -1,0 +1,85 @@
+-- `ips::run_in` meets its contract. The loop's invariant: `n` and `best` are what the definitions say of the fields from index i on.
+-- Assumes nothing.
+use borrow.Author.Needs.{needs}
+use native.Mathlib.Omega.{arith}
+use mathlib.Core.Path.{_≡_, ap, _∙_}
+use mathlib.Core.List.{List}
+use Prim.Native.Nat.{ℕ, _+_, _-_, _≤_}
+use lib.ListN.{drop}
+use Rattle.ips.specs.Ips.{fieldsOf, zerosAhead, longestFrom, shortening, runOf}
+use Rattle.ips.specs.RunLaws.{ahead-few}
+use Rattle.ips.specs.IpsLaws.{fields-length}
+use Rattle.ips.specs.Writes.{zeros-turn, longest-turn, no-fields}
+use Rattle.ips.proofs.run_in.Statement.{statement}
+use Rattle.ips.proofs.run_in.Tie as tie
+
+abbrev Inv-loop : tie.InvT-loop
+Inv-loop a i₀ n₀ best₀ i n best = (i ≤ 8) × (n ≡ zerosAhead (drop i (fieldsOf a))) × (best ≡ longestFrom i (drop i (fieldsOf a)))
+
+abbrev μ-loop : tie.MeasureT-loop
+μ-loop a i₀ n₀ best₀ i n best = i
+
+loop-holds : tie.Need-loop-holds Inv-loop μ-loop
+unfolding zerosAhead longestFrom
+loop-holds c = let e = no-fields (c .before .args .a .now) (c .before .pre) in (omega arith, rw e, rw e)
+
+sub-i : tie.Need-sub-i Inv-loop μ-loop
+sub-i c = omega arith
+
+mul-get16 : tie.Need-mul-get16 Inv-loop μ-loop
+mul-get16 c = omega arith
+
+get16-requires : tie.Need-get16-requires Inv-loop μ-loop
+get16-requires c κs = omega arith
+
+zeros-from-requires : tie.Need-zeros-from-requires Inv-loop μ-loop
+zeros-from-requires c κs =
+    let l = c .before .before in
+    let a = l .before .before .args .a .now in
+    omega (arith, ahead-few (fieldsOf a) (l .loop .i), fields-length a)
+
+longer-of-requires : tie.Need-longer-of-requires Inv-loop μ-loop
+longer-of-requires c κs = search needs
+
+loop-less : tie.Need-loop-less Inv-loop μ-loop
+loop-less c = omega arith
+
+loop-again : tie.Need-loop-again Inv-loop μ-loop
+loop-again c =
+    let g = c .before .before in
+    let l = g .before .before in
+    let a : List ℕ = l .before .before .args .a .now in
+    let i : ℕ = l .loop .i in
+    let e : i - 1 + 1 ≡ i = omega arith in
+    let turn : c .before .zeros-from .result ≡ zerosAhead (drop (i - 1) (fieldsOf a)) =
+    c .before .zeros-from .ensures ∙ zeros-turn a (i - 1) (l .loop .n) (g .get16 .result) (omega arith) (g .get16 .ensures .0) (rw e (l .loop .inv .1)) in
+    let best : c .longer-of .result ≡ longestFrom (i - 1) (drop (i - 1) (fieldsOf a)) =
+    c .longer-of .ensures ∙ longest-turn (fieldsOf a) (i - 1) (c .before .zeros-from .result) (l .loop .best) (omega (arith, fields-length a)) turn (rw e (l .loop .inv .2)) in
+    (omega arith, turn, best)
+
+shortening-of-requires : tie.Need-shortening-of-requires Inv-loop μ-loop
+shortening-of-requires c κs = search needs
+
+returns : tie.Need-returns Inv-loop μ-loop
+unfolding runOf
+returns c =
+    let l = c .before .before in
+    let e : l .loop .i ≡ 0 = omega arith in
+    c .shortening-of .ensures ∙ ap shortening (rw e at (l .loop .inv .2))
+
+pub run-in-spec : {M : Type 1} → statement M
+run-in-spec =
+    tie.close
+    (tie.spec
+    Inv-loop
+    μ-loop
+    loop-holds
+    sub-i
+    mul-get16
+    get16-requires
+    zeros-from-requires
+    longer-of-requires
+    loop-less
+    loop-again
+    shortening-of-requires
+    returns)
