@@ -99,6 +99,7 @@ tool "replayed inputs" sh fuzz/replay.sh
 step "fuzz/corpus is that of its script" corpus_held
 step "docs/picture.svg is that of its script" picture_held
 step "docs/PROOFS.md names theorems where they stand" python3 tools/theorems.py
+step "docs/TRACE.md names what is there" python3 tools/trace.py
 step "vectors are those of the reference" made_anew vectors
 step "boundary cases are those of their generator" made_anew boundaries boundaries
 echo "$passed passed, $failed failed"

@@ -2,7 +2,7 @@
 // (document 01, "Addresses"). Multicast and host loopback addresses are dropped when read and nowhere else: only reading calls
 // `put_kept`; the writer asks `any_unusable` and refuses. Everything is over the width of an address, 4 or 16 octets.
 ghost use mathlib.Core.Path.{_≡_};
-ghost use Prim.Native.Nat.{_+_, _≤_};
+ghost use Prim.Native.Nat.{_+_, _≤_, _<_};
 ghost use lib.ListN.{length};
 ghost use Rattle.octets.specs.Over.{Wrote};
 ghost use Rattle.octets.specs.Lists.{flat};
@@ -80,13 +80,14 @@ pub fn none_kept(w: usize, s: &[u8]) -> bool
     !has(w, s, false)
 }
 
-// How many addresses are kept.
+// How many addresses are kept. A 16-bit count: the compiler takes many addresses at once.
 pub fn kept_count(w: usize, s: &[u8]) -> usize
     requires { ⌜ Width w ⌝ }
+    requires { ⌜ length (now s) < 65536 ⌝ }
     ensures { λ r. ⌜ r ≡ length (keptOf w (listOf w (now (s .entry)))) ⌝ }
     ensures { λ r. ⌜ r ≤ length (now (s .entry)) ⌝ }
 {
-    let mut n: usize = 0;
+    let mut n: u16 = 0;
     let mut at: usize = 0;
     while w <= s.len() - at {
         let next = at + w;
@@ -95,7 +96,7 @@ pub fn kept_count(w: usize, s: &[u8]) -> usize
         }
         at = next;
     }
-    n
+    n as usize
 }
 
 // Writes the addresses that are kept at `o`, in their order, and returns the index after them.

@@ -47,7 +47,8 @@ instance l go =
     (cond (ltb (length l - 2) (at16 l 0)) (discarded fault.field)
     (ahead (outcomeOf Dhcp4 (take (at16 l 0) (drop 2 l))) (go (1 + at16 l 0))))
 
--- the instances of joined data, with the first k octets still to be skipped
+-- the instances of joined data, with the first k octets still to be skipped; where the octets end k is 0, since `instance` has seen that
+-- those of the instance before are there
 unfoldable pub instancesFrom : ℕ → List ℕ → Yield
 instancesFrom k [] = yields []
 instancesFrom zero (x ∷ xs) = instance (x ∷ xs) (λ k. instancesFrom k xs)

@@ -47,7 +47,7 @@ loop-again : tie.Need-loop-again Inv-loop μ-loop
 loop-again c =
     let in-loop = c .before .before .before in
     let at-loop = in-loop .before in
-    let kept = kept-keep _ _ (at-loop .loop .at) (at-loop .before .before .pre) (in-loop .loop-test .taken) (c .before .dropped .ensures) (c .if1 .taken) in
+    let kept = kept-keep _ _ (at-loop .loop .at) (at-loop .before .before .pre .0) (in-loop .loop-test .taken) (c .before .dropped .ensures) (c .if1 .taken) in
     (omega arith, omega arith, omega (arith, ap length kept))
 
 loop-less-2 : tie.Need-loop-less-2 Inv-loop μ-loop
@@ -57,8 +57,11 @@ loop-again-2 : tie.Need-loop-again-2 Inv-loop μ-loop
 loop-again-2 c =
     let in-loop = c .before .before .before in
     let at-loop = in-loop .before in
-    let kept = kept-drop _ _ (at-loop .loop .at) (at-loop .before .before .pre) (in-loop .loop-test .taken) (c .before .dropped .ensures) (c .if1 .left) in
+    let kept = kept-drop _ _ (at-loop .loop .at) (at-loop .before .before .pre .0) (in-loop .loop-test .taken) (c .before .dropped .ensures) (c .if1 .left) in
     (omega arith, omega arith, omega (arith, ap length kept))
+
+cast-result : tie.Need-cast-result Inv-loop μ-loop
+cast-result c = omega arith
 
 returns : tie.Need-returns Inv-loop μ-loop
 returns c =
@@ -83,4 +86,5 @@ kept-count-spec =
     loop-again
     loop-less-2
     loop-again-2
+    cast-result
     returns)

@@ -8,7 +8,7 @@ use lib.ListN.{length}
 use Rattle.blocks.specs.Block.{whole}
 use Rattle.judge.specs.JudgeLaws.{carrier-width}
 use Rattle.records.specs.Parts.{nameIn}
-use Rattle.records.specs.Outcomes.{unclean, examined-faulty, full-small, full-kept, full-clean}
+use Rattle.records.specs.Outcomes.{unclean, examined-faulty, full-few, full-small, full-kept, full-clean}
 use Rattle.records.proofs.examine_full.Statement.{statement}
 use Rattle.records.proofs.examine_full.Tie as tie
 
@@ -32,7 +32,10 @@ address-width-requires : tie.Need-address-width-requires
 address-width-requires c κs = search needs
 
 kept-count-requires : tie.Need-kept-count-requires
-kept-count-requires c κs = rw (c .address-width .ensures) (carrier-width (c .before .before .before .before .before .before .args .c))
+kept-count-requires c κs =
+    let judged = c .before .before in
+    let args = judged .before .before .before .before .args in
+    (rw (c .address-width .ensures) (carrier-width (args .c)), full-few (args .c) (args .priority) (args .name .now) (args .addresses .now) (args .parameters .now) (judged .judge-fields .ensures) (c .before .if1 .left))
 
 -- no sum wraps: the size is that of a record
 small : (c : tie.After-kept-count) {n : ℕ} → let args = c .before .before .before .before .before .before .before .args in
