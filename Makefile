@@ -1,4 +1,4 @@
-# make            prove every crate and build what is built from them
+# make            prove every crate and build what is built from them: target/staticlib/libdnr.a and the command build/dnr
 # make test       everything that the merge gate runs; ends in 'N passed, 0 failed'
 # make bench      the library against the reference implementation and memcpy, side by side in one run
 # make vectors    make the input and expected output of the programs vectors and boundaries anew from the reference implementation
@@ -17,6 +17,7 @@ SECONDS = 60
 all:
 	rt check
 	rt staticlib dnr
+	sh tools/build.sh
 
 bench: all
 	cargo run --quiet --offline --release --manifest-path host/Cargo.toml -p bench

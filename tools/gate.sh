@@ -1,8 +1,8 @@
 #!/bin/sh
 # Runs every check of the repository and ends in 'N passed, M failed', each check counted; fails where one fails or did not run.
 # Checks: the layout of the sources, rt ci (each crate, must-fail edit and program run), the library built from the proved crate, its header
-# held against the source, the host tests (cargo), the examples, an installation, the fuzzing corpus replayed, the theorems that
-# docs/PROOFS.md names, and the vectors held against their generator.
+# held against the source, the command, the host tests (cargo), the examples, an installation, the fuzzing corpus replayed, the pages
+# held against the sources, and the vectors held against their generators.
 set -u
 cd "$(dirname "$0")/.."
 log=$(mktemp -d) || exit 2
@@ -91,10 +91,13 @@ made_anew() {
 step "layout of the sources" rt fmt --check
 rt_ci
 step "libdnr.a" rt staticlib dnr
+step "build/dnr" sh tools/build.sh
 step "include/dnr.h agrees with the source" header_held
 host_tests
 tool "examples" sh tools/examples.sh
 tool "installation" sh tools/install.sh
+tool "command" sh tools/command.sh
+step "the tour of README.md" python3 tools/tour.py
 tool "replayed inputs" sh fuzz/replay.sh
 step "fuzz/corpus is that of its script" corpus_held
 step "docs/picture.svg is that of its script" picture_held

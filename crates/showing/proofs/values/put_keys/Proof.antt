@@ -1,0 +1,57 @@
+-- `showing::values::put_keys` is safe and ends. The loop's invariant: `i` is at most the length, and `out` keeps its own. Assumes nothing.
+use mathlib.Core.Path.{_≡_}
+use Prim.Native.Nat.{_-_, _≤_}
+use native.Mathlib.Omega.{arith}
+use borrow.Author.Needs.{needs}
+use lib.ListN.{length}
+use Rattle.showing.proofs.values.put_keys.Statement.{statement}
+use Rattle.showing.proofs.values.put_keys.Tie as tie
+
+abbrev Inv-loop : tie.InvT-loop
+Inv-loop out₀ at json s o₀ i₀ out o i = (i ≤ length s) × (length out ≡ length out₀)
+
+abbrev μ-loop : tie.MeasureT-loop
+μ-loop out₀ at json s o₀ i₀ out o i = length s - i
+
+loop-holds : tie.Need-loop-holds Inv-loop μ-loop
+loop-holds c = (omega arith, omega arith)
+
+sub-loop : tie.Need-sub-loop Inv-loop μ-loop
+sub-loop c = omega arith
+
+get16-requires : tie.Need-get16-requires Inv-loop μ-loop
+get16-requires c κs = search needs
+
+put-key-item-requires : tie.Need-put-key-item-requires Inv-loop μ-loop
+put-key-item-requires c κs = search needs
+
+add-i : tie.Need-add-i Inv-loop μ-loop
+add-i c = omega arith
+
+loop-less : tie.Need-loop-less Inv-loop μ-loop
+loop-less c = omega arith
+
+loop-again : tie.Need-loop-again Inv-loop μ-loop
+loop-again c = (omega arith, omega arith)
+
+same-length : tie.Need-same-length Inv-loop μ-loop
+same-length c = search needs
+
+returns : tie.Need-returns Inv-loop μ-loop
+returns c = search needs
+
+pub put-keys-spec : {M : Type 1} → statement M
+put-keys-spec =
+    tie.close
+    (tie.spec
+    Inv-loop
+    μ-loop
+    loop-holds
+    sub-loop
+    get16-requires
+    put-key-item-requires
+    add-i
+    loop-less
+    loop-again
+    same-length
+    returns)
