@@ -163,6 +163,36 @@ none-dropped w (a ∷ more) e = go (unusable w a) refl e (none-dropped w more)
     go true t e ih = absurd (false≢true (sym e))
     go false t e ih = simp t (ap (λ (l : List (List ℕ)). a ∷ l) (ih e))
 
+pub kept-few : (w : ℕ) (more : List (List ℕ)) → length (keptOf w more) ≤ length more
+unfolding keptOf
+kept-few w [] = omega arith
+kept-few w (a ∷ more) = go (unusable w a) (kept-few w more)
+  where
+    go : (b : Bool) → length (keptOf w more) ≤ length more → length (cond b (keptOf w more) (a ∷ keptOf w more)) ≤ suc (length more)
+    go true ih = omega arith
+    go false ih = omega arith
+
+-- where one is to be dropped, fewer are kept
+some-dropped : (w : ℕ) (more : List (List ℕ)) → anyOf w more ≡ true → length (keptOf w more) < length more
+unfolding hasOf keptOf
+some-dropped w [] e = absurd (false≢true e)
+some-dropped w (a ∷ more) e = go (unusable w a) e (some-dropped w more) (kept-few w more)
+  where
+    go : (b : Bool) → cond (Bool·beq b true) true (anyOf w more) ≡ true → (anyOf w more ≡ true → length (keptOf w more) < length more)
+        → length (keptOf w more) ≤ length more → length (cond b (keptOf w more) (a ∷ keptOf w more)) < suc (length more)
+    go true e ih few = omega arith
+    go false e ih few = let h = ih e in omega arith
+
+-- one is to be dropped exactly where fewer are kept
+pub fewer-any : (w : ℕ) (more : List (List ℕ)) → ltb (length (keptOf w more)) (length more) ≡ anyOf w more
+fewer-any w more = go (anyOf w more) refl
+  where
+    go : (b : Bool) → anyOf w more ≡ b → ltb (length (keptOf w more)) (length more) ≡ anyOf w more
+    go true e = lt-ltb (length (keptOf w more)) (length more) (some-dropped w more e) ∙ sym e
+    go false e =
+        let same : length (keptOf w more) ≡ length more = ap length (none-dropped w more e) in
+        le-ltb (length (keptOf w more)) (length more) (omega arith) ∙ sym e
+
 -- octets that whole addresses fill, none of them to be dropped, are kept whole
 pub none-dropped-flat : (w : ℕ) (s : List ℕ) → length s % w ≡ 0 → anyOf w (listOf w s) ≡ false → flat (keptOf w (listOf w s)) ≡ s
 none-dropped-flat w s e h = ap flat (none-dropped w (listOf w s) h) ∙ flat-list w s e
@@ -186,15 +216,6 @@ none-has w (a ∷ more) = go (unusable w a) (none-has w more)
     go : (b : Bool) → not (hasOf w false more) ≡ noneOf w more → not (cond (Bool·beq b false) true (hasOf w false more)) ≡ eqb (length (cond b (keptOf w more) (a ∷ keptOf w more))) 0
     go true ih = ih
     go false ih = sym (eqb·suc-zero (length (keptOf w more)))
-
-pub kept-few : (w : ℕ) (more : List (List ℕ)) → length (keptOf w more) ≤ length more
-unfolding keptOf
-kept-few w [] = omega arith
-kept-few w (a ∷ more) = go (unusable w a) (kept-few w more)
-  where
-    go : (b : Bool) → length (keptOf w more) ≤ length more → length (cond b (keptOf w more) (a ∷ keptOf w more)) ≤ suc (length more)
-    go true ih = omega arith
-    go false ih = omega arith
 
 -- ---- turns of a loop: the rest of the list from `at` on
 

@@ -64,11 +64,16 @@ fn has(w: usize, s: &[u8], wanted: bool) -> bool
     false
 }
 
-// Whether the list holds an address that reading would drop.
+// Whether the list holds an address that reading would drop. Addresses of 4 octets are counted: the compiler takes many of them at once.
 pub fn any_unusable(w: usize, s: &[u8]) -> bool
     requires { ⌜ Width w ⌝ }
     ensures { λ r. ⌜ r ≡ anyOf w (listOf w (now (s .entry))) ⌝ }
 {
+    if w == 4 {
+        if s.len() < 65536 {
+            return kept_count(w, s) < s.len() / w;
+        }
+    }
     has(w, s, true)
 }
 

@@ -238,17 +238,18 @@ fn attribute(carrier: Carrier, body: &[u8]) -> Places
     }
 }
 
-// Where the fields of a body stand, or its fault.
+// Where the fields of a body stand, or its fault. (`&body[..]`: a slice that is lent anew goes on in registers, one that is handed on as it
+// came goes through memory.)
 pub fn split(carrier: Carrier, body: &[u8]) -> Places
     ensures { λ r. ⌜ told (now (body .entry)) r ≡ parse carrier (now (body .entry)) ⌝ }
     ensures { λ r. ⌜ Inside (now (body .entry)) r ⌝ }
     ensures { λ r. ⌜ Ranged carrier r ⌝ }
 {
     match carrier {
-        Carrier::Dhcp4 => named(carrier, body),
-        Carrier::Dhcp6 => named(carrier, body),
-        Carrier::Router => router(body),
-        Carrier::Ike4 => attribute(carrier, body),
-        Carrier::Ike6 => attribute(carrier, body),
+        Carrier::Dhcp4 => named(carrier, &body[..]),
+        Carrier::Dhcp6 => named(carrier, &body[..]),
+        Carrier::Router => router(&body[..]),
+        Carrier::Ike4 => attribute(carrier, &body[..]),
+        Carrier::Ike6 => attribute(carrier, &body[..]),
     }
 }

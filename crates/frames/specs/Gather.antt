@@ -7,28 +7,35 @@ use Rattle.octets.specs.Over.{Wrote}
 use Rattle.carriers.specs.declared.Carrier.the-variants.{Dhcp4}
 use Rattle.frames.specs.declared.Gathered.{Gathered}
 use Rattle.frames.specs.declared.Gathered.the-variants.{Broken, Absent, One, Many}
+use Rattle.frames.specs.declared.Joined.{Joined}
 use Rattle.octets.specs.Lists.{flat}
 use Rattle.frames.specs.Frame.{Framed, fault, framed, frame}
 use Rattle.frames.specs.Step.{part}
 
--- how many own options an area has that is framed to f, and where the body is if there is one alone
+-- two own options or more, if the area can be framed
+abbrev pub Several : Framed → Type 0
+Several fault = Unit {0}
+Several (framed bs) = 2 ≤ length bs
+
+-- what is told of the own options of an area that is framed to f: it cannot be framed; there is none; there is one alone, and where its body
+-- is; there are several, and then nothing is told of what follows the second
 abbrev pub Tells : List ℕ → Framed → Gathered → Type 0
 Tells area f Broken = f ≡ fault
 Tells area f Absent = f ≡ framed []
 Tells area f (One start end) = (start ≤ end) × (end ≤ length area) × (f ≡ framed (part start end area ∷ []))
-Tells area f Many = (bs : List (List ℕ)) × (f ≡ framed bs) × (2 ≤ length bs)
+Tells area f Many = Several f
 
 abbrev pub GatheredFrom : List ℕ → Gathered → Type 0
 GatheredFrom area r = Tells area (frame Dhcp4 area) r
 
--- what is known after one more own option
-abbrev pub oneMore : Gathered → ℕ → ℕ → Gathered
-oneMore Broken start end = Broken
-oneMore Absent start end = One start end
-oneMore (One a e) start end = Many
-oneMore Many start end = Many
+-- the bodies of a framed area, one after another, at the front of a buffer, and how many octets they are; or that it cannot be framed
+abbrev pub Joins : Framed → List ℕ → Joined → List ℕ → Type 0
+Joins fault out Joined.Broken out′ = Unit {0}
+Joins fault out (Joined.Whole n) out′ = ⊥
+Joins (framed bs) out Joined.Broken out′ = ⊥
+Joins (framed bs) out (Joined.Whole n) out′ = Wrote 0 (flat bs) out n out′
 
--- the bodies of a framed area, one after another, at the front of a buffer
-abbrev pub Joined : Framed → List ℕ → ℕ → List ℕ → Type 0
-Joined fault out r out′ = Unit {0}
-Joined (framed bs) out r out′ = Wrote 0 (flat bs) out r out′
+-- no more octets than m
+abbrev pub AtMost : ℕ → Joined → Type 0
+AtMost m Joined.Broken = Unit {0}
+AtMost m (Joined.Whole n) = n ≤ m

@@ -11,48 +11,42 @@ use Rattle.carriers.specs.declared.Carrier.the-variants.{Dhcp4}
 use Rattle.frames.specs.declared.Step.{Step}
 use Rattle.frames.specs.declared.Gathered.{Gathered}
 use Rattle.frames.specs.declared.Gathered.the-variants.{Broken, Absent, One, Many}
+use Rattle.frames.specs.declared.Joined.{Joined}
 use Rattle.octets.specs.Lists.{flat}
 use Rattle.frames.specs.Frame.{Framed, fault, framed, frame}
 use Rattle.frames.specs.Step.{part, stepAt}
-use Rattle.frames.specs.Walk.{Walked}
-use Rattle.frames.specs.Gather.{Tells, GatheredFrom, oneMore, Joined}
+use Rattle.frames.specs.Walk.{prepend, Walked}
+use Rattle.frames.specs.Gather.{Several, Tells, GatheredFrom, Joins, AtMost}
 use Rattle.frames.specs.Laws.{fault-framed, step-block, step-skipped, step-body}
 use Rattle.frames.specs.WalkLaws.{walked-start, walked-block, walked-skipped, walked-end, walked-fault}
 
 -- ---- how many there are
 
-tells-more : (area : List ℕ) (bs : List (List ℕ)) (found : Gathered) (start end : ℕ) → start ≤ end → end ≤ length area → Tells area (framed bs) found
-    → Tells area (framed (bs ++ (part start end area ∷ []))) (oneMore found start end)
-tells-more area bs Broken start end h k t = absurd (fault-framed (sym t))
-tells-more area bs Absent start end h k t =
-    let e : bs ≡ [] = cc in
-    (h, k, ap (λ (l : List (List ℕ)). framed (l ++ (part start end area ∷ []))) e)
-tells-more area bs (One a e) start end h k t =
-    let q : bs ≡ part a e area ∷ [] = cc in
-    (bs ++ (part start end area ∷ []), refl, omega (arith, ap length q, length-append bs (part start end area ∷ [])))
-tells-more area bs Many start end h k t =
-    let q : bs ≡ t .0 = cc in
-    (bs ++ (part start end area ∷ []), refl, omega (arith, t .2, ap length q, length-append bs (part start end area ∷ [])))
+-- two bodies in front of whatever follows
+several-prepend : (bs : List (List ℕ)) (f : Framed) → 2 ≤ length bs → Several (prepend bs f)
+several-prepend bs fault h = tt
+several-prepend bs (framed cs) h = omega (arith, length-append bs cs)
 
--- and the other way: what the frame is decides what is told
+-- where something was found, there is a body
+found-one : (area : List ℕ) (bs : List (List ℕ)) (found : Gathered) → (found ≡ Absent → ⊥) → Tells area (framed bs) found → 1 ≤ length bs
+found-one area bs Broken more t = absurd (fault-framed (sym t))
+found-one area bs Absent more t = absurd (more refl)
+found-one area bs (One a z) more t = let one : bs ≡ part a z area ∷ [] = cc in omega (arith, ap length one)
+found-one area bs Many more t = omega (arith, t)
+
+-- and the other way: of an area that can be framed, what the frame is decides what is told
 module _ (area : List ℕ) {f : Framed} where
-  pub tells-broken : (r : Gathered) → Tells area f r → f ≡ fault → r ≡ Broken
-  tells-broken Broken t e = refl
-  tells-broken Absent t e = absurd (fault-framed (sym e ∙ t))
-  tells-broken (One start end) t e = absurd (fault-framed (sym e ∙ t .2))
-  tells-broken Many t e = absurd (fault-framed (sym e ∙ t .1))
-
   pub tells-absent : (r : Gathered) → Tells area f r → f ≡ framed [] → r ≡ Absent
   tells-absent Broken t e = absurd (fault-framed (sym t ∙ e))
   tells-absent Absent t e = refl
   tells-absent (One start end) t e = let q : part start end area ∷ [] ≡ [] = cc in absurd (omega (arith, ap length q))
-  tells-absent Many t e = let q : t .0 ≡ [] = cc in absurd (omega (arith, t .2, ap length q))
+  tells-absent Many t e = let k : 2 ≤ 0 = subst Several e t in absurd (omega arith)
 
   pub tells-one : (r : Gathered) {b : List ℕ} → Tells area f r → f ≡ framed (b ∷ []) → (start : ℕ) × (end : ℕ) × (r ≡ One start end)
   tells-one Broken t e = absurd (fault-framed (sym t ∙ e))
   tells-one Absent {b} t e = let q : b ∷ [] ≡ [] = cc in absurd (omega (arith, ap length q))
   tells-one (One start end) t e = (start, end, refl)
-  tells-one Many {b} t e = let q : t .0 ≡ b ∷ [] = cc in absurd (omega (arith, t .2, ap length q))
+  tells-one Many {b} t e = let k : 2 ≤ 1 = subst Several e t in absurd (omega arith)
 
   pub tells-many : (r : Gathered) {bs : List (List ℕ)} → Tells area f r → f ≡ framed bs → 2 ≤ length bs → r ≡ Many
   tells-many Broken t e h = absurd (fault-framed (sym t ∙ e))
@@ -60,7 +54,7 @@ module _ (area : List ℕ) {f : Framed} where
   tells-many (One start end) {bs} t e h = let q : bs ≡ part start end area ∷ [] = cc in absurd (omega (arith, ap length q))
   tells-many Many t e h = refl
 
--- the bodies met before an index, and what was found of them
+-- the bodies met before an index, at most one, and what was found of them
 pub record Gathering (area : List ℕ) (at : ℕ) (found : Gathered) : Type 0 where
   pub bodies : List (List ℕ)
   pub walked : Walked Dhcp4 area at bodies
@@ -69,16 +63,27 @@ pub record Gathering (area : List ℕ) (at : ℕ) (found : Gathered) : Type 0 wh
 pub gathering-start : (area : List ℕ) → Gathering area 0 Absent
 gathering-start area = record { bodies = []; walked = walked-start Dhcp4 area; tells = refl }
 
-module _ {area : List ℕ} {at : ℕ} {found : Gathered} (g : Gathering area at found) where
-  pub gathering-block : {start end : ℕ} → stepAt Dhcp4 area at ≡ Step.Block start end → Gathering area end (oneMore found start end)
-  gathering-block {start} {end} e =
+module _ {area : List ℕ} {at start end : ℕ} (e : stepAt Dhcp4 area at ≡ Step.Block start end) where
+  -- the first own option
+  pub gathering-first : Gathering area at Absent → Gathering area end (One start end)
+  gathering-first g =
       let m = step-block Dhcp4 area at e in
+      let none : g .bodies ≡ [] = cc in
       record {
         bodies = g .bodies ++ (part start end area ∷ []);
         walked = walked-block Dhcp4 area (g .walked) e;
-        tells = tells-more area (g .bodies) found start end (m .1) (m .2) (g .tells);
+        tells = (m .1, m .2, ap (λ (l : List (List ℕ)). framed (l ++ (part start end area ∷ []))) none);
       }
 
+  -- one after those that were found: there are several, whatever follows
+  pub gathering-second : {found : Gathered} → Gathering area at found → (found ≡ Absent → ⊥) → GatheredFrom area Many
+  gathering-second {found} g more =
+      let two = walked-block Dhcp4 area (g .walked) e in
+      let long : 2 ≤ length (g .bodies ++ (part start end area ∷ []))
+      = omega (arith, found-one area (g .bodies) found more (g .tells), length-append (g .bodies) (part start end area ∷ [])) in
+      subst⁻¹ Several (two .frames) (several-prepend (g .bodies ++ (part start end area ∷ [])) (frame Dhcp4 (drop end area)) long)
+
+module _ {area : List ℕ} {at : ℕ} {found : Gathered} (g : Gathering area at found) where
   pub gathering-skipped : {end : ℕ} → stepAt Dhcp4 area at ≡ Step.Skipped end → Gathering area end found
   gathering-skipped e = record { bodies = g .bodies; walked = walked-skipped Dhcp4 area (g .walked) e; tells = g .tells }
 
@@ -134,12 +139,18 @@ module _ {area out : List ℕ} {at n : ℕ} {out′ : List ℕ} (j : Joining are
       let m = step-skipped Dhcp4 area at e in
       record { bodies = j .bodies; walked = walked-skipped Dhcp4 area (j .walked) e; wrote = j .wrote; behind = omega (arith, j .behind) }
 
-  pub joining-end : stepAt Dhcp4 area at ≡ Step.End → Joined (frame Dhcp4 area) out n out′
-  joining-end e = subst⁻¹ (λ (f : Framed). Joined f out n out′) (walked-end Dhcp4 area (j .walked) e) (j .wrote)
+  pub joining-end : stepAt Dhcp4 area at ≡ Step.End → Joins (frame Dhcp4 area) out (Joined.Whole n) out′
+  joining-end e = subst⁻¹ (λ (f : Framed). Joins f out (Joined.Whole n) out′) (walked-end Dhcp4 area (j .walked) e) (j .wrote)
 
-  pub joining-fault : stepAt Dhcp4 area at ≡ Step.Fault → Joined (frame Dhcp4 area) out n out′
-  joining-fault e = subst⁻¹ (λ (f : Framed). Joined f out n out′) (walked-fault Dhcp4 area (j .walked) e) tt
+  pub joining-fault : stepAt Dhcp4 area at ≡ Step.Fault → Joins (frame Dhcp4 area) out Joined.Broken out′
+  joining-fault e = subst⁻¹ (λ (f : Framed). Joins f out Joined.Broken out′) (walked-fault Dhcp4 area (j .walked) e) tt
 
--- what is written where the area is framed
-pub joined-wrote : {f : Framed} {bs : List (List ℕ)} {out out′ : List ℕ} {r : ℕ} → f ≡ framed bs → Joined f out r out′ → Wrote 0 (flat bs) out r out′
-joined-wrote {f} {bs} {out} {out′} {r} e j = subst (λ (f : Framed). Joined f out r out′) e j
+-- what the answer tells of the area, and of the buffer
+pub joins-broken : (f : Framed) (out out′ : List ℕ) → Joins f out Joined.Broken out′ → f ≡ fault
+joins-broken fault out out′ j = refl
+joins-broken (framed bs) out out′ j = absurd j
+
+pub joins-whole : (f : Framed) (out out′ : List ℕ) (n : ℕ) → Joins f out (Joined.Whole n) out′
+    → (bs : List (List ℕ)) × (f ≡ framed bs) × Wrote 0 (flat bs) out n out′
+joins-whole fault out out′ n j = absurd j
+joins-whole (framed bs) out out′ n j = (bs, refl, j)

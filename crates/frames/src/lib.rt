@@ -8,7 +8,7 @@ ghost use Rattle.carriers.specs.declared.Carrier.the-variants.{Dhcp4};
 ghost use Rattle.carriers.specs.Carriers.{headerOf};
 ghost use Rattle.frames.specs.Frame.{codeIn, sizeIn, headIn, firstOf, frame};
 ghost use Rattle.frames.specs.Step.{stepAt};
-ghost use Rattle.frames.specs.Gather.{GatheredFrom, Joined, oneMore};
+ghost use Rattle.frames.specs.Gather.{GatheredFrom, Joins, AtMost};
 use carriers::Carrier;
 use carriers::Eights;
 use carriers::Octets;
@@ -35,12 +35,19 @@ pub enum Step {
     Fault,
 }
 
-// The options 162 of an area: it cannot be framed, there is none, one with its body from `start` up to `end`, or more.
+// The options 162 of an area: it cannot be framed, there is none, one with its body from `start` up to `end`, or several. With the
+// second of them the walk ends, and the area may still be one that cannot be framed.
 pub enum Gathered {
     Broken,
     Absent,
     One { start: usize, end: usize },
     Many,
+}
+
+// What joining the options 162 of an area answers: it cannot be framed, or how many octets were joined.
+pub enum Joined {
+    Broken,
+    Whole(usize),
 }
 
 // The code in the header that stands first in `s`.
@@ -145,18 +152,6 @@ pub fn next_block(c: Carrier, area: &[u8], at: usize) -> Step
     }
 }
 
-// One more own option after those that were found.
-fn one_more(found: Gathered, start: usize, end: usize) -> Gathered
-    ensures { λ r. ⌜ r ≡ oneMore found start end ⌝ }
-{
-    match found {
-        Gathered::Broken => Gathered::Broken,
-        Gathered::Absent => Gathered::One { start, end },
-        Gathered::One { start: _, end: _ } => Gathered::Many,
-        Gathered::Many => Gathered::Many,
-    }
-}
-
 // The options 162 of an area of carrier 1.
 pub fn gather(area: &[u8]) -> Gathered
     ensures { λ r. ⌜ GatheredFrom (now (area .entry)) r ⌝ }
@@ -166,7 +161,10 @@ pub fn gather(area: &[u8]) -> Gathered
     loop {
         match next_block(Carrier::Dhcp4, area, at) {
             Step::Block { start, end } => {
-                found = one_more(found, start, end);
+                let Gathered::Absent = found else {
+                    return Gathered::Many;
+                };
+                found = Gathered::One { start, end };
                 at = end;
             }
             Step::Skipped { end } => {
@@ -182,11 +180,11 @@ pub fn gather(area: &[u8]) -> Gathered
     }
 }
 
-// Copies the bodies of all options 162 of an area of carrier 1, one after another, to the front of `out`, and returns how many octets.
-pub fn join(area: &[u8], out: &mut [u8]) -> usize
+// Copies the bodies of all options 162 of an area of carrier 1, one after another, to the front of `out`.
+pub fn join(area: &[u8], out: &mut [u8]) -> Joined
     requires { ⌜ length (now area) ≤ length (now out) ⌝ }
-    ensures { λ r. ⌜ Joined (frame Dhcp4 (now (area .entry))) (now (out .entry)) r (now (out .exit)) ⌝ }
-    ensures { λ r. ⌜ r ≤ length (now (area .entry)) ⌝ }
+    ensures { λ r. ⌜ Joins (frame Dhcp4 (now (area .entry))) (now (out .entry)) r (now (out .exit)) ⌝ }
+    ensures { λ r. ⌜ AtMost (length (now (area .entry))) r ⌝ }
 {
     let mut at: usize = 0;
     let mut n: usize = 0;
@@ -200,10 +198,10 @@ pub fn join(area: &[u8], out: &mut [u8]) -> usize
                 at = end;
             }
             Step::End => {
-                return n;
+                return Joined::Whole(n);
             }
             Step::Fault => {
-                return n;
+                return Joined::Broken;
             }
         }
     }

@@ -80,7 +80,8 @@ fn name_only_fault(c: Carrier) -> usize
     0
 }
 
-// The first of faults 21 to 28 of a record's fields; a name-only record has neither addresses nor parameters.
+// The first of faults 21 to 28 of a record's fields; a name-only record has neither addresses nor parameters. (`&name[..]`: lent anew, a
+// slice goes on in registers.)
 pub fn judge_fields(
     side: Side,
     c: Carrier,
@@ -98,7 +99,7 @@ pub fn judge_fields(
             place: 0,
         };
     }
-    match check_name(side, c, name) {
+    match check_name(side, c, &name[..]) {
         Name::Bad(place) => Judged {
             fault: Fault::NAME,
             place,
@@ -106,7 +107,7 @@ pub fn judge_fields(
         Name::Good => {
             if full {
                 Judged {
-                    fault: tail_fault(side, c.address_width(), addresses, parameters),
+                    fault: tail_fault(side, c.address_width(), &addresses[..], &parameters[..]),
                     place: 0,
                 }
             } else {

@@ -1,12 +1,11 @@
--- A copy of the first 256 octets is enough, and so is the answer as a number. Assumes nothing.
+-- The first 256 octets are enough, and so is the answer as a number. Assumes nothing.
 use mathlib.Core.Path.{_≡_, refl, ap, _∙_}
 use mathlib.Core.List.{List}
 use Prim.Native.Nat.{ℕ, _+_, _≤_}
 use native.Mathlib.Omega.{arith}
-use lib.ListN.{length, take, drop, length-append}
-use lib.Seq.{take-take, take-at, length-take-le}
+use lib.ListN.{length, take, length-append}
+use lib.Seq.{take-take, take-length, length-take-le}
 use borrow.Author.Tests.{ne-eqb}
-use Rattle.octets.specs.Over.{over, Wrote}
 use Rattle.names.specs.declared.Name.{Name}
 use Rattle.names.specs.declared.Name.the-variants.{Good, Bad}
 use Rattle.names.specs.Names.{IsName, FirstBad}
@@ -51,9 +50,7 @@ named-result : (s : List ℕ) (r : Name) → length s ≤ 256 → nameCheck s �
 named-result s Good h e = refl
 named-result s (Bad p) h e = let w = bad s p .0 e .within in simp (ne-eqb p past (omega arith))
 
--- octets copied to the start of a buffer, the walk over them from there, and its answer
-pub held-check : {s b b′ : List ℕ} {k r : ℕ} {a : Name} → length s ≤ 256 → Wrote 0 s b k b′ → r ≡ answerIn b′ (length s) (letter 0) 0 → a ≡ named r → a ≡ nameCheck s
-unfolding nameCheck answerIn over
-held-check {s} {b} h w e f =
-    let t : take (length s) (over 0 s b) ≡ s = take-at s (drop (0 + length s) b) (length s) refl in
-    f ∙ ap named e ∙ rw (w .laid, t) (named-result s (nameCheck s) h refl)
+-- the walk over at most 256 octets, and its answer
+pub held-check : (s : List ℕ) {r : ℕ} {a : Name} → length s ≤ 256 → r ≡ answerIn s (length s) (letter 0) 0 → a ≡ named r → a ≡ nameCheck s
+unfolding nameCheck answerIn
+held-check s h e f = f ∙ ap named e ∙ rw (take-length s) (named-result s (nameCheck s) h refl)

@@ -55,10 +55,10 @@ fn label_fits(at: usize, size: usize) -> bool
 }
 
 // At `at`, after a letter or a digit, in a label that ends before `end`; at `end` itself a length octet is next.
-// The name is the first n octets of s, which has so many: the logic does not tell the length of an array behind a reference.
-fn after_letter(s: &[u8; 256], n: usize, at: usize, end: usize) -> usize
-    requires { ⌜ (n ≤ 256) × (n ≤ length (now s)) × (at ≤ end) ⌝ }
-    ensures { λ r. ⌜ r ≡ answerIn (now (s .entry)) n (letter (end - at)) at ⌝ }
+// The name is the first n octets of s. Over a reference to the slice, and with a number as the answer, the calls compile to jumps.
+fn after_letter(s: &&[u8], n: usize, at: usize, end: usize) -> usize
+    requires { ⌜ (n ≤ 256) × (n ≤ length (now (now s))) × (at ≤ end) ⌝ }
+    ensures { λ r. ⌜ r ≡ answerIn (now (now (s .entry))) n (letter (end - at)) at ⌝ }
 {
     if n <= at {
         return at;
@@ -97,9 +97,9 @@ fn after_letter(s: &[u8; 256], n: usize, at: usize, end: usize) -> usize
 }
 
 // At `at`, after a hyphen, in a label that ends before `end`: an octet of it is to come.
-fn after_hyphen(s: &[u8; 256], n: usize, at: usize, end: usize) -> usize
-    requires { ⌜ (n ≤ 256) × (n ≤ length (now s)) × (at < end) ⌝ }
-    ensures { λ r. ⌜ r ≡ answerIn (now (s .entry)) n (hyphen (end - at)) at ⌝ }
+fn after_hyphen(s: &&[u8], n: usize, at: usize, end: usize) -> usize
+    requires { ⌜ (n ≤ 256) × (n ≤ length (now (now s))) × (at < end) ⌝ }
+    ensures { λ r. ⌜ r ≡ answerIn (now (now (s .entry))) n (hyphen (end - at)) at ⌝ }
 {
     if n <= at {
         return at;
@@ -124,13 +124,12 @@ fn name_of(place: usize) -> Name
     Name::Bad(place)
 }
 
-// The check of at most 256 octets.
+// The check of at most 256 octets. (`&s[..]`: so that s itself comes in registers.)
 fn check_held(s: &[u8]) -> Name
     requires { ⌜ length (now s) ≤ 256 ⌝ }
     ensures { λ r. ⌜ r ≡ nameCheck (now (s .entry)) ⌝ }
 {
-    let mut held = [0u8; 256];
-    octets::copy(&mut held, 0, s);
+    let held = &s[..];
     name_of(after_letter(&held, s.len(), 0, 0))
 }
 

@@ -8,6 +8,7 @@ use borrow.Author.Tests.{ltb-false, lt-ltb, le-ltb}
 use lib.Dec.{ltb}
 use lib.ListN.{length, take, length-map}
 use lib.Seq.{take-at}
+use Rattle.octets.specs.OverLaws.{over-length}
 use Rattle.octets.specs.Over.{over, Wrote}
 use Rattle.octets.specs.AnswerLaws as answered
 use Rattle.numbers.specs.Refusal as refusal
@@ -20,7 +21,9 @@ use Rattle.carriers.specs.Carriers.{chosenOf}
 use Rattle.octets.specs.Lists.{flat}
 use Rattle.frames.specs.Frame.{Framed, framed, frame}
 use Rattle.frames.specs.declared.Gathered.the-variants.{Many}
-use Rattle.frames.specs.Gather.{GatheredFrom, Joined}
+use Rattle.frames.specs.declared.Joined.{Joined}
+use Rattle.frames.specs.Gather.{Several, GatheredFrom, Joins}
+use Rattle.frames.specs.GatherLaws.{joins-whole}
 use Rattle.frames.specs.declared.Step.{Step}
 use Rattle.frames.specs.Step.{stepAt}
 use Rattle.frames.specs.WalkLaws.{walked-end, walked-fault}
@@ -90,19 +93,24 @@ answer-joined source room (b ∷ bs) e h q =
     ap (λ (x : Framed). readFramed Dhcp4 x room) e ∙ ap (λ (l : List ℕ). readBlocks Dhcp4 (l ∷ []) room) (sym q)
 
 -- several: what `join` wrote at the front of its buffer
-module _ (area l l′ : List ℕ) (n : ℕ) (g : GatheredFrom area Many) (j : Joined (frame Dhcp4 area) l n l′) where
-  many-wrote : Wrote 0 (flat (g .0)) l n l′
-  many-wrote = subst (λ (f : Framed). Joined f l n l′) (g .1) j
+module _ (area l l′ : List ℕ) (n : ℕ) (j : Joins (frame Dhcp4 area) l (Joined.Whole n) l′) where
+  many-wrote : (bs : List (List ℕ)) × (frame Dhcp4 area ≡ framed bs) × Wrote 0 (flat bs) l n l′
+  many-wrote = joins-whole (frame Dhcp4 area) l l′ n j
 
-  many-front : take n l′ ≡ flat (g .0)
+  many-front : take n l′ ≡ flat (many-wrote .0)
   unfolding over
-  many-front = ap (take n) (many-wrote .laid) ∙ take-at (flat (g .0)) _ n (omega (arith, many-wrote .next))
+  many-front = ap (take n) (many-wrote .2 .laid) ∙ take-at (flat (many-wrote .0)) _ n (omega (arith, many-wrote .2 .next))
+
+  pub many-room : n ≤ length l′
+  many-room = let w = many-wrote .2 in omega (arith, w .room, w .next, ap length (w .laid), over-length 0 (flat (many-wrote .0)) l (w .room))
 
   pub many-length : length (take n l′) ≡ n
-  many-length = omega (arith, ap length many-front, many-wrote .next)
+  many-length = omega (arith, ap length many-front, many-wrote .2 .next)
 
-  pub answer-many : (room : ℕ) → readFramed Dhcp4 (frame Dhcp4 area) room ≡ readBlocks Dhcp4 (take n l′ ∷ []) room
-  answer-many room = answer-joined (take n l′) room (g .0) (g .1) (omega (arith, g .2)) many-front
+  pub answer-many : (room : ℕ) → GatheredFrom area Many → readFramed Dhcp4 (frame Dhcp4 area) room ≡ readBlocks Dhcp4 (take n l′ ∷ []) room
+  answer-many room g =
+      let several : 2 ≤ length (many-wrote .0) = subst Several (many-wrote .1) g in
+      answer-joined (take n l′) room (many-wrote .0) (many-wrote .1) (omega arith) many-front
 
 -- ---- the answer by a tally, test by test
 

@@ -18,6 +18,7 @@ ghost use Rattle.reading.specs.Tally.{recordsAt, heldOf, slotOf, tallyOf
 use carriers::Carrier;
 use carriers::Chosen;
 use frames::Gathered;
+use frames::Joined;
 use frames::Step;
 use numbers::Fault;
 use numbers::Limit;
@@ -26,9 +27,11 @@ use order::Slot;
 use order::Slots;
 use records::Examined;
 
-// Octets of a usual message: in an area of at most so many, the data of several options 162 are joined in a buffer of this size, which
-// is cleared in a tenth of the time that one of the largest input's size takes.
+// Buffers in which the data of several options 162 are joined, by the area's size: a buffer is cleared before it is used, and a large one
+// takes the cache from the area and the sheet. Octets of a usual message, and of half the largest input.
 const USUAL: usize = 4096;
+
+const HALF: usize = 20480;
 
 // What a reading gives back: 0 and the sheet's length, the blocks found, the blocks discarded and the first discarded block's
 // fault; or a refusal's number and zeros.
@@ -96,7 +99,7 @@ fn put_sheet(out: &mut [u8], c: Carrier, source: &[u8], slots: Slots, clean: boo
     let mut o = sheets::put_front(out, c, count as u8);
     let mut i: usize = 0;
     while i < count {
-        let slot = order::at(sorted, i);
+        let slot = sorted.items[i];
         let start = slot.place as usize;
         let end = start + slot.length as usize;
         o = records::put_record(out, o, c, clean, &source[start..end]);
@@ -105,7 +108,7 @@ fn put_sheet(out: &mut [u8], c: Carrier, source: &[u8], slots: Slots, clean: boo
     o
 }
 
-// 4, 5, or the sheet of what is held of the records, with the blocks' counts.
+// 4, 5, or the sheet of what is held of the records, with the blocks' counts. (`&source[..]`: lent anew, a slice goes on in registers.)
 fn settle(
     out: &mut [u8],
     c: Carrier,
@@ -127,7 +130,7 @@ fn settle(
     if out.len() < size {
         return refused(Refusal::ROOM);
     }
-    let length = put_sheet(out, c, source, slots, clean);
+    let length = put_sheet(out, c, &source[..], slots, clean);
     Reading {
         number: 0,
         length,
@@ -160,7 +163,9 @@ fn read_blocks(c: Carrier, area: &[u8], out: &mut [u8]) -> Reading
                     fault = first_fault(bad, fault, e.fault);
                     bad += 1;
                 } else if slots.count < Limit::RECORDS {
-                    slots = order::push(slots, slot_of(e, start, end));
+                    let n = slots.count;
+                    slots.items[n] = slot_of(e, start, end);
+                    slots.count = n + 1;
                     size += e.size;
                     clean = both(clean, e.clean);
                 } else {
@@ -194,13 +199,14 @@ fn discard_joined(joined: &[u8], out: &mut [u8], fault: usize) -> Reading
     )
 }
 
-// Carrier 1: the one block of joined data, each instance read from its own octets and nothing around them.
+// Carrier 1: the one block of joined data, each instance read from its own octets and nothing around them. (`&joined[..]`: lent anew, a
+// slice goes on in registers.)
 fn read_instances(joined: &[u8], out: &mut [u8]) -> Reading
     requires { ⌜ length (now joined) ≤ limit.input ⌝ }
     ensures { λ r. ⌜ Gives (readBlocks Dhcp4 (now (joined .entry) ∷ []) (length (now (out .entry)))) (now (out .entry)) r (now (out .exit)) ⌝ }
 {
     if joined.len() == 0 {
-        return discard_joined(joined, out, Fault::FIELD);
+        return discard_joined(&joined[..], out, Fault::FIELD);
     }
     let c = Carrier::Dhcp4;
     let mut slots = order::empty();
@@ -210,48 +216,68 @@ fn read_instances(joined: &[u8], out: &mut [u8]) -> Reading
     let mut at: usize = 0;
     while at < joined.len() {
         if joined.len() - at < 2 {
-            return discard_joined(joined, out, Fault::FIELD);
+            return discard_joined(&joined[..], out, Fault::FIELD);
         }
-        let long = octets::get16(joined, at);
+        let long = octets::get16(&joined[..], at);
         let start = at + 2;
         if joined.len() - start < long {
-            return discard_joined(joined, out, Fault::FIELD);
+            return discard_joined(&joined[..], out, Fault::FIELD);
         }
         let end = start + long;
         let e = records::examine(c, &joined[start..end]);
         if e.fault != 0 {
-            return discard_joined(joined, out, e.fault);
+            return discard_joined(&joined[..], out, e.fault);
         }
         at = end;
         if slots.count < Limit::RECORDS {
-            slots = order::push(slots, slot_of(e, start, end));
+            let n = slots.count;
+            slots.items[n] = slot_of(e, start, end);
+            slots.count = n + 1;
             size += e.size;
             clean = both(clean, e.clean);
         } else {
             more = true;
         }
     }
-    settle(out, c, joined, slots, size, clean, more, 1, 0, 0)
+    settle(out, c, &joined[..], slots, size, clean, more, 1, 0, 0)
 }
 
-// Carrier 1 with several options 162 in an area of a usual message: their data joined in a small local buffer.
+// Carrier 1 with several options 162: their data joined in a buffer that has room for the area.
+fn read_within(area: &[u8], buffer: &mut [u8], out: &mut [u8]) -> Reading
+    requires { ⌜ (length (now area) ≤ length (now buffer)) × (length (now area) ≤ limit.input) × GatheredFrom (now area) Many ⌝ }
+    ensures { λ r. ⌜ Gives (readFramed Dhcp4 (frame Dhcp4 (now (area .entry))) (length (now (out .entry)))) (now (out .entry)) r (now (out .exit)) ⌝ }
+{
+    match frames::join(area, buffer) {
+        Joined::Broken => refused(Refusal::FRAMING),
+        Joined::Whole(n) => read_instances(&buffer[..n], out),
+    }
+}
+
+// The same in a local buffer, for an area of a usual message.
 fn read_few(area: &[u8], out: &mut [u8]) -> Reading
     requires { ⌜ (length (now area) ≤ 4096) × GatheredFrom (now area) Many ⌝ }
     ensures { λ r. ⌜ Gives (readFramed Dhcp4 (frame Dhcp4 (now (area .entry))) (length (now (out .entry)))) (now (out .entry)) r (now (out .exit)) ⌝ }
 {
     let mut buffer = [0u8; USUAL];
-    let n = frames::join(area, &mut buffer);
-    read_instances(&buffer[..n], out)
+    read_within(area, &mut buffer, out)
 }
 
-// The same in an area of any size.
+// The same for an area of at most half the largest input.
+fn read_half(area: &[u8], out: &mut [u8]) -> Reading
+    requires { ⌜ (length (now area) ≤ 20480) × GatheredFrom (now area) Many ⌝ }
+    ensures { λ r. ⌜ Gives (readFramed Dhcp4 (frame Dhcp4 (now (area .entry))) (length (now (out .entry)))) (now (out .entry)) r (now (out .exit)) ⌝ }
+{
+    let mut buffer = [0u8; HALF];
+    read_within(area, &mut buffer, out)
+}
+
+// The same for any area.
 fn read_many(area: &[u8], out: &mut [u8]) -> Reading
     requires { ⌜ (length (now area) ≤ limit.input) × GatheredFrom (now area) Many ⌝ }
     ensures { λ r. ⌜ Gives (readFramed Dhcp4 (frame Dhcp4 (now (area .entry))) (length (now (out .entry)))) (now (out .entry)) r (now (out .exit)) ⌝ }
 {
     let mut buffer = [0u8; Limit::INPUT];
-    let n = frames::join(area, &mut buffer);
-    read_instances(&buffer[..n], out)
+    read_within(area, &mut buffer, out)
 }
 
 // Carrier 1: the data of all options 162 are one block.
@@ -280,6 +306,9 @@ fn read_joined(area: &[u8], out: &mut [u8]) -> Reading
         Gathered::Many => {
             if area.len() <= USUAL {
                 return read_few(area, out);
+            }
+            if area.len() <= HALF {
+                return read_half(area, out);
             }
             read_many(area, out)
         }

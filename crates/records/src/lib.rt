@@ -179,13 +179,13 @@ fn put_tail(
     octets::copy(out, after_length, parameters)
 }
 
-// Whether a body yields a record.
+// Whether a body yields a record. (`&body[..]`: lent anew, it goes on in registers.)
 pub fn examine(c: Carrier, body: &[u8]) -> Examined
     ensures { λ r. ⌜ r ≡ examinedOf c (outcomeOf c (now (body .entry))) (r .clean) ⌝ }
     ensures { λ r. ⌜ (r .priority < 65536) × (r .size ≤ 2298) ⌝ }
     ensures { λ r. ⌜ (r .clean ≡ true → Clean c (now (body .entry))) ⌝ }
 {
-    match blocks::split(c, body) {
+    match blocks::split(c, &body[..]) {
         Places::Bad { fault } => faulty(fault),
         Places::NameOnly {
             priority,

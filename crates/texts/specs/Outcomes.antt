@@ -7,8 +7,7 @@ use Prim.Native.Nat.{ℕ, _+_, _-_, _≤_, _<_, min}
 use native.Mathlib.Numerals.{add-one}
 use native.Mathlib.Omega.{arith}
 use lib.ListN.{length, getD, take, drop, length-take, drop-of-length-le}
-use lib.Seq.{drop-cons, getD-take, length-take-le, take-at}
-use Rattle.octets.specs.Over.{over, Wrote}
+use lib.Seq.{drop-cons, getD-take, length-take-le}
 use Rattle.names.specs.declared.Name.{Name}
 use Rattle.names.specs.declared.Name.the-variants.{Good, Bad}
 use Rattle.names.specs.Names.{alnum}
@@ -118,16 +117,14 @@ unfolding textCheck
 first-letter [] n a = absurd (n refl)
 first-letter (y ∷ ys) n a = goes start 0 y ys (start-letter 0 y a)
 
--- the check by a copy l of the octets of s that decide
-pub by-copy : (s l z : List ℕ) (n o r : ℕ) → (length s ≡ 0 → ⊥) → alnum (getD s 0 0) ≡ true → n ≡ min 254 (length s) → Wrote 0 (take n s) z o l
-    → r ≡ from l n (letter 62) 1 → r ≡ placed (textCheck s)
-unfolding over
-by-copy s l z n o r h a e w g =
+-- the check by the octets that decide
+pub by-first : (s : List ℕ) (n r : ℕ) → (length s ≡ 0 → ⊥) → alnum (getD s 0 0) ≡ true → n ≡ min 254 (length s) → r ≡ from s n (letter 62) 1
+    → r ≡ placed (textCheck s)
+by-first s n r h a e g =
     let k : length (take n s) ≡ n = length-take-le n s (omega arith) in
-    let c : take n l ≡ take n s = ap (take n) (w .laid) ∙ take-at (take n s) (drop (0 + length (take n s)) z) n k in
     let b : alnum (getD (take n s) 0 0) ≡ true = rw (getD-take n s 0 0 (omega arith)) a in
     let f : walk (letter 62) 1 (drop 1 (take n s)) ≡ textCheck s = sym (first-letter (take n s) (omega arith) b) ∙ check-first-254 s n (omega arith) in
-    g ∙ rw c (ap placed f)
+    g ∙ ap placed f
 
 -- an answer of the walk as an answer of the check
 pub good-answer : (s : List ℕ) (r : ℕ) → r ≡ placed (textCheck s) → r ≡ past → Good ≡ textCheck s

@@ -31,10 +31,10 @@ fn left_after(at: usize) -> usize
 }
 
 // The place at which the first n octets of `text` stop being a name, or GOOD: from `at` on, after a letter or a digit of a label that
-// may have `left` octets more. Over an array, and with a number as the answer, the calls compile to jumps.
-fn after_letter(text: &[u8; 256], n: usize, at: usize, left: usize) -> usize
-    requires { ⌜ (n ≤ 254) × (n ≤ length (now text)) × (at + left ≤ 253) ⌝ }
-    ensures { λ r. ⌜ r ≡ placed (walk (letter left) at (drop at (take n (now (text .entry))))) ⌝ }
+// may have `left` octets more. Over a reference to the slice, and with a number as the answer, the calls compile to jumps.
+fn after_letter(text: &&[u8], n: usize, at: usize, left: usize) -> usize
+    requires { ⌜ (n ≤ 254) × (n ≤ length (now (now text))) × (at + left ≤ 253) ⌝ }
+    ensures { λ r. ⌜ r ≡ placed (walk (letter left) at (drop at (take n (now (now (text .entry)))))) ⌝ }
 {
     if n <= at {
         return GOOD;
@@ -69,9 +69,9 @@ fn after_letter(text: &[u8; 256], n: usize, at: usize, left: usize) -> usize
 }
 
 // The same after a hyphen, where one octet at least is to come.
-fn after_hyphen(text: &[u8; 256], n: usize, at: usize, left: usize) -> usize
-    requires { ⌜ (n ≤ 254) × (n ≤ length (now text)) × (1 ≤ left) × (at + left ≤ 253) ⌝ }
-    ensures { λ r. ⌜ r ≡ placed (walk (hyphen left) at (drop at (take n (now (text .entry))))) ⌝ }
+fn after_hyphen(text: &&[u8], n: usize, at: usize, left: usize) -> usize
+    requires { ⌜ (n ≤ 254) × (n ≤ length (now (now text))) × (1 ≤ left) × (at + left ≤ 253) ⌝ }
+    ensures { λ r. ⌜ r ≡ placed (walk (hyphen left) at (drop at (take n (now (now (text .entry)))))) ⌝ }
 {
     if n <= at {
         return at;
@@ -111,8 +111,7 @@ pub fn check_text(s: &[u8]) -> Name
         return Name::Bad(0);
     }
     let n = looked_at(s.len());
-    let mut text = [0u8; 256];
-    octets::copy(&mut text, 0, &s[..n]);
+    let text = &s[..];
     let place = after_letter(&text, n, 1, REST);
     if place == GOOD {
         return Name::Good;

@@ -181,7 +181,8 @@ fn put_record(out: &mut [u8], at: usize, c: Carrier, s: &[u8], p: Spot) -> usize
     }
 }
 
-// Writes the records of a sheet one after another from `from` on, and returns the index after them.
+// Writes the records of a sheet one after another from `from` on, and returns the index after them. (`&s[..]`: lent anew, a slice goes on
+// in registers.)
 fn put_stream(out: &mut [u8], from: usize, c: Carrier, s: &[u8]) -> usize
     requires { ⌜ Ready c (now s) ⌝ }
     requires { ⌜ from + length (streamOf c (recordsOf (now s))) ≤ length (now out) ⌝ }
@@ -190,8 +191,8 @@ fn put_stream(out: &mut [u8], from: usize, c: Carrier, s: &[u8]) -> usize
     let mut next = sheets::FRONT;
     let mut at = from;
     while next < s.len() {
-        let p = taking::record_at(c, s, next);
-        at = put_record(out, at, c, s, p);
+        let p = taking::record_at(c, &s[..], next);
+        at = put_record(out, at, c, &s[..], p);
         next = p.next;
     }
     at

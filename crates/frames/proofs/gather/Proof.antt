@@ -1,16 +1,18 @@
--- `frames::gather` meets its contract. The invariant: what was found is right of the bodies met so far. The measure is what is left
+-- `frames::gather` meets its contract. The invariant: what was found is right of the bodies met so far; with the second the walk ends. The measure is what is left
 -- of the area. Assumes nothing.
-use mathlib.Core.Path.{_≡_, sym, _∙_}
+use mathlib.Core.Path.{_≡_, sym, subst, _∙_}
+use mathlib.Core.Logic.{⊎-elim}
 use native.Mathlib.Omega.{arith}
 use Prim.Native.Nat.{_-_}
 use borrow.Author.Needs.{needs}
 use lib.ListN.{length}
 use denote.Ref.{now}
 use Rattle.carriers.specs.declared.Carrier.the-variants.{Dhcp4}
+use Rattle.frames.specs.declared.Gathered.the-variants.{Absent}
 use Rattle.frames.specs.declared.Step.{Step}
 use Rattle.frames.specs.Step.{stepAt}
 use Rattle.frames.specs.Laws.{step-block, step-skipped}
-use Rattle.frames.specs.GatherLaws.{Gathering, gathering-start, gathering-block, gathering-skipped, gathering-end, gathering-fault}
+use Rattle.frames.specs.GatherLaws.{Gathering, gathering-start, gathering-first, gathering-second, gathering-skipped, gathering-end, gathering-fault}
 use Rattle.frames.proofs.gather.Statement.{statement}
 use Rattle.frames.proofs.gather.Tie as tie
 
@@ -31,6 +33,10 @@ skipped : (c : tie.After-end Inv-loop μ-loop)
     stepAt Dhcp4 (now (l .before .before .args .area)) (l .loop .at) ≡ Step.Skipped (c .end .given .0 .0)
 skipped c = sym (c .before .before .next-block .ensures) ∙ c .end .given .1
 
+-- where something was found before
+other : (c : tie.At-match2-keys2 Inv-loop μ-loop) → c .before .before .before .before .before .loop .found ≡ Absent → ⊥
+other c e = ⊎-elim (λ q. omega arith) (⊎-elim (λ q. omega arith) (λ q. omega arith)) (rw e at (c .match2 .keys2))
+
 loop-holds : tie.Need-loop-holds Inv-loop μ-loop
 loop-holds c = gathering-start _
 
@@ -40,16 +46,19 @@ next-block-requires c κs = search needs
 enum-known-start : tie.Need-enum-known-start Inv-loop μ-loop
 enum-known-start c = search needs
 
-one-more-requires : tie.Need-one-more-requires Inv-loop μ-loop
-one-more-requires c κs = search needs
+enum-told : tie.Need-enum-told Inv-loop μ-loop
+enum-told c = search needs
+
+returns : tie.Need-returns Inv-loop μ-loop
+returns c = gathering-second (block (c .before .before)) (c .before .before .before .before .before .loop .inv) (other c)
 
 loop-less : tie.Need-loop-less Inv-loop μ-loop
-loop-less c = let m = step-block _ _ _ (block (c .before .before)) in omega arith
+loop-less c = let m = step-block _ _ _ (block (c .before .before .before)) in omega arith
 
 loop-again : tie.Need-loop-again Inv-loop μ-loop
 loop-again c =
-    let k = c .before .before in
-    rw (c .one-more .ensures) (gathering-block (k .before .before .before .loop .inv) (block k))
+    let k = c .before .before .before in
+    gathering-first (block k) (subst (Gathering _ _) (c .enum-told .given .1) (k .before .before .before .loop .inv))
 
 enum-known-end : tie.Need-enum-known-end Inv-loop μ-loop
 enum-known-end c = search needs
@@ -60,17 +69,17 @@ loop-less-2 c = let m = step-skipped _ _ _ (skipped (c .before)) in omega arith
 loop-again-2 : tie.Need-loop-again-2 Inv-loop μ-loop
 loop-again-2 c = gathering-skipped (c .before .before .before .before .loop .inv) (skipped (c .before))
 
-enum-told : tie.Need-enum-told Inv-loop μ-loop
-enum-told c = search needs
-
-returns : tie.Need-returns Inv-loop μ-loop
-returns c = gathering-end (c .before .before .before .loop .inv) (sym (c .before .before .next-block .ensures) ∙ c .enum-told .given .1)
-
 enum-told-2 : tie.Need-enum-told-2 Inv-loop μ-loop
 enum-told-2 c = search needs
 
 returns-2 : tie.Need-returns-2 Inv-loop μ-loop
-returns-2 c = gathering-fault (c .before .before .before .loop .inv) (sym (c .before .before .next-block .ensures) ∙ c .enum-told2 .given .1)
+returns-2 c = gathering-end (c .before .before .before .loop .inv) (sym (c .before .before .next-block .ensures) ∙ c .enum-told2 .given .1)
+
+enum-told-3 : tie.Need-enum-told-3 Inv-loop μ-loop
+enum-told-3 c = search needs
+
+returns-3 : tie.Need-returns-3 Inv-loop μ-loop
+returns-3 c = gathering-fault (c .before .before .before .loop .inv) (sym (c .before .before .next-block .ensures) ∙ c .enum-told3 .given .1)
 
 pub gather-spec : {M : Type 1} → statement M
 gather-spec =
@@ -81,13 +90,14 @@ gather-spec =
     loop-holds
     next-block-requires
     enum-known-start
-    one-more-requires
+    enum-told
+    returns
     loop-less
     loop-again
     enum-known-end
     loop-less-2
     loop-again-2
-    enum-told
-    returns
     enum-told-2
-    returns-2)
+    returns-2
+    enum-told-3
+    returns-3)

@@ -90,9 +90,7 @@ same-length-2 : tie.Need-same-length-2 Inv-loop μ-loop
 same-length-2 c = joining-length (c .before .before .before .loop .inv)
 
 returns-2 : tie.Need-returns-2 Inv-loop μ-loop
-returns-2 c =
-    let l = c .before .before .before in
-    (joining-fault (l .loop .inv) (sym (c .before .before .next-block .ensures) ∙ c .enum-told2 .given .1), omega (arith, l .loop .inv .behind, l .loop .inv .walked .within))
+returns-2 c = (joining-fault (c .before .before .before .loop .inv) (sym (c .before .before .next-block .ensures) ∙ c .enum-told2 .given .1), tt)
 
 pub join-spec : {M : Type 1} → statement M
 join-spec =

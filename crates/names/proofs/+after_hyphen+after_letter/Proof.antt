@@ -18,34 +18,34 @@ use Rattle.octets.proofs.wide.Reads as wide-reads
 use Rattle.names.proofs.+after_hyphen+after_letter.{statement}
 use Rattle.names.proofs.+after_hyphen+after_letter.Tie.{close}
 
-abbrev μ-after-hyphen : Measures 1 after-hyphen-kinds.ps ℕ
+abbrev μ-after-hyphen : Measures 2 after-hyphen-kinds.ps ℕ
 μ-after-hyphen κs a = a .1 .0 - a .1 .1 .0
 
-abbrev μ-after-letter : Measures 1 after-letter-kinds.ps ℕ
+abbrev μ-after-letter : Measures 2 after-letter-kinds.ps ℕ
 μ-after-letter κs a = a .1 .0 - a .1 .1 .0
 
-abbrev after-hyphen-at : ℕ → In 1 after-hyphen-kinds.ps
+abbrev after-hyphen-at : ℕ → In 2 after-hyphen-kinds.ps
 after-hyphen-at t =
-    and 1 after-hyphen-kinds.ps (is 1 after-hyphen-kinds.ps μ-after-hyphen t) after-hyphen.Pre
+    and 2 after-hyphen-kinds.ps (is 2 after-hyphen-kinds.ps μ-after-hyphen t) after-hyphen.Pre
 
-abbrev after-hyphen-below : ℕ → In 1 after-hyphen-kinds.ps
+abbrev after-hyphen-below : ℕ → In 2 after-hyphen-kinds.ps
 after-hyphen-below t =
     and
-    1
+    2
     after-hyphen-kinds.ps
-    (falls 1 after-hyphen-kinds.ps _<_ μ-after-hyphen t)
+    (falls 2 after-hyphen-kinds.ps _<_ μ-after-hyphen t)
     after-hyphen.Pre
 
-abbrev after-letter-at : ℕ → In 1 after-letter-kinds.ps
+abbrev after-letter-at : ℕ → In 2 after-letter-kinds.ps
 after-letter-at t =
-    and 1 after-letter-kinds.ps (is 1 after-letter-kinds.ps μ-after-letter t) after-letter.Pre
+    and 2 after-letter-kinds.ps (is 2 after-letter-kinds.ps μ-after-letter t) after-letter.Pre
 
-abbrev after-letter-below : ℕ → In 1 after-letter-kinds.ps
+abbrev after-letter-below : ℕ → In 2 after-letter-kinds.ps
 after-letter-below t =
     and
-    1
+    2
     after-letter-kinds.ps
-    (falls 1 after-letter-kinds.ps _<_ μ-after-letter t)
+    (falls 2 after-letter-kinds.ps _<_ μ-after-letter t)
     after-letter.Pre
 
 -- what `after_hyphen`'s and `after_letter`'s calls ask and give

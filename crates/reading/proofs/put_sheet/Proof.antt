@@ -1,12 +1,13 @@
 -- `reading::put_sheet` meets its contract. The invariant: the records of the first i slots are laid after the sheet's head. The measure is
 -- what is left of the count. Assumes nothing.
-use mathlib.Core.Path.{ap, _∙_}
+use mathlib.Core.Path.{_≡_, sym, ap, _∙_}
 use native.Mathlib.Omega.{arith}
 use Prim.Native.Nat.{_-_, _<_}
-use lib.ListN.{length}
+use lib.ListN.{length, getD}
+use lib.Seq.{getD-take}
 use denote.Ref.{now}
 use Rattle.octets.specs.OverLaws.{over-length}
-use Rattle.order.specs.Listed.{listed}
+use Rattle.order.specs.Listed.{none, listed}
 use Rattle.sheets.specs.SheetsLaws.{length-sheet}
 use Rattle.reading.specs.Tally.{Good, recordsAt}
 use Rattle.reading.specs.Walks.{Written}
@@ -22,13 +23,13 @@ abbrev μ-loop : tie.MeasureT-loop
 μ-loop out₀ c source clean sorted count o₀ i₀ out o i = count - i
 
 -- in a turn: what was ordered, that the slot is one of the list, and that it is good
-abbrev sorted : tie.After-at Inv-loop μ-loop → tie.After-ordered Inv-loop μ-loop
+abbrev sorted : tie.After-slot Inv-loop μ-loop → tie.After-ordered Inv-loop μ-loop
 sorted c = c .before .before .before .before .before .before .before .before
 
-abbrev start : tie.After-at Inv-loop μ-loop → tie.Start Inv-loop μ-loop
+abbrev start : tie.After-slot Inv-loop μ-loop → tie.Start Inv-loop μ-loop
 start c = sorted c .before .before .before
 
-inside : (c : tie.After-at Inv-loop μ-loop) → c .before .before .loop .i < length (listed (sorted c .ordered .result .slots))
+inside : (c : tie.After-slot Inv-loop μ-loop) → c .before .before .loop .i < length (listed (sorted c .ordered .result .slots))
 inside c =
     omega (
       arith,
@@ -37,8 +38,14 @@ inside c =
       ordered-length _ _ (start c .pre .0) (sorted c .ordered .ensures),
     )
 
-good : (c : tie.After-at Inv-loop μ-loop) → Good (start c .args .c) (now (start c .args .source)) (start c .args .clean) (c .at .result)
-good c = ordered-at _ _ (start c .pre .0) (sorted c .ordered .ensures) (c .before .loop-test .taken) (c .at .ensures)
+-- the slot of this turn
+taken : (c : tie.After-slot Inv-loop μ-loop)
+    → getD (sorted c .ordered .result .slots .items) (c .before .before .loop .i) none ≡ getD (listed (sorted c .ordered .result .slots)) (c .before .before .loop .i) none
+taken c = sym (getD-take _ _ _ none (c .before .loop-test .taken))
+
+good : (c : tie.After-slot Inv-loop μ-loop)
+    → Good (start c .args .c) (now (start c .args .source)) (start c .args .clean) (getD (sorted c .ordered .result .slots .items) (c .before .before .loop .i) none)
+good c = ordered-at _ _ (start c .pre .0) (sorted c .ordered .ensures) (c .before .loop-test .taken) (taken c)
 
 ordered-requires : tie.Need-ordered-requires Inv-loop μ-loop
 ordered-requires c κs = c .before .before .pre .0 .few
@@ -55,10 +62,13 @@ loop-holds c =
     let start = s .before .before .before in
     written-start _ _ (start .pre .0) (s .ordered .ensures) (c .before .before .put-front .ensures) (start .pre .1)
 
-at-requires : tie.Need-at-requires Inv-loop μ-loop
-at-requires c κs =
+mul-slot : tie.Need-mul-slot Inv-loop μ-loop
+mul-slot c = search needs
+
+element-copy-out-slot : tie.Need-element-copy-out-slot Inv-loop μ-loop
+element-copy-out-slot c =
     let s = c .before .before .before .before .before .before .before in
-    (c .loop-test .taken, omega (arith, s .ordered .ensures .count, s .before .before .before .pre .0 .few))
+    omega (arith, c .loop-test .taken, s .ordered .ensures .count, s .before .before .before .pre .0 .few)
 
 cast-start : tie.Need-cast-start Inv-loop μ-loop
 cast-start c = search needs
@@ -81,7 +91,7 @@ part-put-record-end c = omega (arith, good (c .before .before .before) .within)
 put-record-requires : tie.Need-put-record-requires Inv-loop μ-loop
 put-record-requires c κs =
     let t = c .before .before .before .before in
-    (cut-kept _ _ (good t), (cut-clean _ _ (good t), written-room (t .before .before .loop .inv) (inside t) (t .at .ensures)))
+    (cut-kept _ _ (good t), (cut-clean _ _ (good t), written-room (t .before .before .loop .inv) (inside t) (taken t)))
 
 add-i : tie.Need-add-i Inv-loop μ-loop
 add-i c = omega arith
@@ -92,7 +102,7 @@ loop-less c = omega (arith, c .before .before .before .before .before .before .b
 loop-again : tie.Need-loop-again Inv-loop μ-loop
 loop-again c =
     let t = c .before .before .before .before .before .before .before in
-    written-next (t .before .before .loop .inv) (inside t) (t .at .ensures) (c .before .before .put-record .ensures)
+    written-next (t .before .before .loop .inv) (inside t) (taken t) (c .before .before .put-record .ensures)
 
 same-length : tie.Need-same-length Inv-loop μ-loop
 same-length c =
@@ -115,7 +125,8 @@ put-sheet-spec =
     cast-put-front
     put-front-requires
     loop-holds
-    at-requires
+    mul-slot
+    element-copy-out-slot
     cast-start
     cast-end
     add-end

@@ -4,7 +4,7 @@ use mathlib.Core.Path.{_≡_, refl, sym, ap, _∙_}
 use mathlib.Core.List.{[], _∷_, _++_}
 use native.Mathlib.Omega.{arith}
 use Prim.Native.Nat.{_-_}
-use lib.ListN.{length}
+use lib.ListN.{length, length-set}
 use denote.Ref.{now}
 use Rattle.frames.specs.declared.Step.{Step}
 use Rattle.frames.specs.Frame.{frame}
@@ -12,6 +12,7 @@ use Rattle.frames.specs.Step.{stepAt}
 use Rattle.frames.specs.Laws.{step-block, step-skipped}
 use Rattle.order.specs.declared.Slot.{Slot}
 use Rattle.order.specs.Listed.{listed}
+use Rattle.order.specs.ListedLaws.{listed-next}
 use Rattle.reading.specs.Reading.{readFramed}
 use Rattle.reading.specs.Tally.{heldOf, Seen, tallyOf, Open}
 use Rattle.reading.specs.Walks.{Tallying}
@@ -23,7 +24,7 @@ use Rattle.reading.proofs.read_blocks.Tie as tie
 
 abbrev Inv-loop : tie.InvT-loop
 Inv-loop c area out₀ slots₀ size₀ clean₀ more₀ found₀ bad₀ fault₀ at₀ out slots size clean more found bad fault at =
-    Tallying c area at (tallyOf (heldOf slots size clean more) found bad fault) × (out ≡ out₀)
+    Tallying c area at (tallyOf (heldOf slots size clean more) found bad fault) × (out ≡ out₀) × (length (slots .items) ≡ 16)
 
 abbrev μ-loop : tie.MeasureT-loop
 μ-loop c area out₀ slots₀ size₀ clean₀ more₀ found₀ bad₀ fault₀ at₀ out slots size clean more found bad fault at = length area - at
@@ -66,7 +67,7 @@ empty-requires : tie.Need-empty-requires Inv-loop μ-loop
 empty-requires c κs = search needs
 
 loop-holds : tie.Need-loop-holds Inv-loop μ-loop
-loop-holds c = (tallying-start _ _ (holds-none _ _ (c .empty .ensures .0) (c .empty .ensures .1)), refl)
+loop-holds c = (tallying-start _ _ (holds-none _ _ (c .empty .ensures .0) (c .empty .ensures .1)), refl, c .empty .ensures .2)
 
 next-block-requires : tie.Need-next-block-requires Inv-loop μ-loop
 next-block-requires c κs = search needs
@@ -105,21 +106,27 @@ loop-again c =
     let x = c .before .before .before in
     let k = x .before .before .before in
     let i = k .before .before .before .loop .inv in
-    (tallying-discarded _ _ (i .0) (block k) (seen x) (c .before .if1 .taken) (c .first-fault .ensures), i .1)
+    (tallying-discarded _ _ (i .0) (block k) (seen x) (c .before .if1 .taken) (c .first-fault .ensures), i .1, i .2)
 
 slot-of-requires : tie.Need-slot-of-requires Inv-loop μ-loop
 slot-of-requires c κs =
-    let x = c .before .before .before .before in
+    let x = c .before .before .before in
     let k = x .before .before .before in
     let m = step-block _ _ _ (block k) in
     (m .1, omega (arith, m .2, start (k .before .before .before) .pre .1), x .examine .ensures .1 .0 .0)
 
-push-requires : tie.Need-push-requires Inv-loop μ-loop
-push-requires c κs = search needs
+mul-t27 : tie.Need-mul-t27 Inv-loop μ-loop
+mul-t27 c = search needs
+
+element-set-from-slots : tie.Need-element-set-from-slots Inv-loop μ-loop
+element-set-from-slots c = c .before .if2 .taken
+
+add-slots : tie.Need-add-slots Inv-loop μ-loop
+add-slots c = search needs
 
 add-size : tie.Need-add-size Inv-loop μ-loop
 add-size c =
-    let x = c .before .before .before .before .before .before .before in
+    let x = c .before .before .before .before .before in
     let o = open-more (x .before .before .before) in
     omega (arith, o .few, o .small, x .examine .ensures .1 .0 .1)
 
@@ -127,36 +134,37 @@ both-requires : tie.Need-both-requires Inv-loop μ-loop
 both-requires c κs = search needs
 
 loop-less-2 : tie.Need-loop-less-2 Inv-loop μ-loop
-loop-less-2 c = let m = step-block _ _ _ (block (c .before .before .before .before .before .before .before .before .before .before .before)) in omega arith
+loop-less-2 c = let m = step-block _ _ _ (block (c .before .before .before .before .before .before .before .before .before)) in omega arith
 
 loop-again-2 : tie.Need-loop-again-2 Inv-loop μ-loop
 loop-again-2 c =
     let p = c .before .before in
-    let t = p .before .before in
-    let e = t .before .before in
+    let t = p .before in
+    let e = t .before in
     let x = e .before .before in
     let k = x .before .before .before in
-    let i = k .before .before .before .loop .inv in (
-      tallying-kept _ _ (i .0) (block k) (seen x) (e .if1 .left)
+    let l = k .before .before .before .loop in (
+      tallying-kept _ _ (l .inv .0) (block k) (seen x) (e .if1 .left)
           (record {
             room = t .if2 .taken;
-            count = p .push .ensures .0;
-            list = p .push .ensures .1 ∙ ap (λ (s : Slot). listed (k .before .before .before .loop .slots) ++ (s ∷ [])) (p .before .slot-of .ensures);
+            count = refl;
+            list = listed-next (l .slots) (p .slot-of .result) (l .inv .2) (t .if2 .taken) ∙ ap (λ (s : Slot). listed (l .slots) ++ (s ∷ [])) (p .slot-of .ensures);
             claims = c .both .ensures;
           }),
-      i .1,
+      l .inv .1,
+      length-set (l .slots .items) (l .slots .count) (p .slot-of .result) ∙ l .inv .2,
     )
 
 loop-less-3 : tie.Need-loop-less-3 Inv-loop μ-loop
-loop-less-3 c = let m = step-block _ _ _ (block (c .before .before .before .before .before .before .before)) in omega arith
+loop-less-3 c = let m = step-block _ _ _ (block (c .before .before .before .before .before .before)) in omega arith
 
 loop-again-3 : tie.Need-loop-again-3 Inv-loop μ-loop
 loop-again-3 c =
-    let e = c .before .before in
+    let e = c .before in
     let x = e .before .before in
     let k = x .before .before .before in
     let i = k .before .before .before .loop .inv in
-    (tallying-full _ _ (i .0) (block k) (seen x) (e .if1 .left) (c .if2 .left), i .1)
+    (tallying-full _ _ (i .0) (block k) (seen x) (e .if1 .left) (c .if2 .left), i .1, i .2)
 
 enum-known-past : tie.Need-enum-known-past Inv-loop μ-loop
 enum-known-past c = search needs
@@ -165,7 +173,7 @@ loop-less-4 : tie.Need-loop-less-4 Inv-loop μ-loop
 loop-less-4 c = let m = step-skipped _ _ _ (skipped (c .before)) in omega arith
 
 loop-again-4 : tie.Need-loop-again-4 Inv-loop μ-loop
-loop-again-4 c = let i = c .before .before .before .before .loop .inv in (tallying-skipped _ _ (i .0) (skipped (c .before)), i .1)
+loop-again-4 c = let i = c .before .before .before .before .loop .inv in (tallying-skipped _ _ (i .0) (skipped (c .before)), i .1, i .2)
 
 enum-told : tie.Need-enum-told Inv-loop μ-loop
 enum-told c = search needs
@@ -222,7 +230,9 @@ read-blocks-spec =
     loop-less
     loop-again
     slot-of-requires
-    push-requires
+    mul-t27
+    element-set-from-slots
+    add-slots
     add-size
     both-requires
     loop-less-2

@@ -4,11 +4,12 @@ use mathlib.Core.Path.{_≡_, refl, sym, ap, _∙_}
 use mathlib.Core.List.{[], _∷_, _++_}
 use native.Mathlib.Omega.{arith}
 use Prim.Native.Nat.{_+_, _-_}
-use lib.ListN.{length}
+use lib.ListN.{length, length-set}
 use denote.Ref.{now}
 use Rattle.carriers.specs.declared.Carrier.the-variants.{Dhcp4}
 use Rattle.order.specs.declared.Slot.{Slot}
 use Rattle.order.specs.Listed.{listed}
+use Rattle.order.specs.ListedLaws.{listed-next}
 use Rattle.reading.specs.Reading.{readBlocks}
 use Rattle.reading.specs.Tally.{heldOf, Seen}
 use Rattle.reading.specs.Walks.{Passed}
@@ -20,7 +21,8 @@ use Rattle.reading.proofs.read_instances.Statement.{statement}
 use Rattle.reading.proofs.read_instances.Tie as tie
 
 abbrev Inv-loop : tie.InvT-loop
-Inv-loop joined out₀ c slots₀ size₀ clean₀ more₀ at₀ out slots size clean more at = Passed joined at (heldOf slots size clean more) × (out ≡ out₀)
+Inv-loop joined out₀ c slots₀ size₀ clean₀ more₀ at₀ out slots size clean more at =
+    Passed joined at (heldOf slots size clean more) × (out ≡ out₀) × (length (slots .items) ≡ 16)
 
 abbrev μ-loop : tie.MeasureT-loop
 μ-loop joined out₀ c slots₀ size₀ clean₀ more₀ at₀ out slots size clean more at = length joined - at
@@ -60,7 +62,7 @@ empty-requires : tie.Need-empty-requires Inv-loop μ-loop
 empty-requires c κs = search needs
 
 loop-holds : tie.Need-loop-holds Inv-loop μ-loop
-loop-holds c = (passed-start _ (c .before .if1 .left) (holds-none _ _ (c .empty .ensures .0) (c .empty .ensures .1)), refl)
+loop-holds c = (passed-start _ (c .before .if1 .left) (holds-none _ _ (c .empty .ensures .0) (c .empty .ensures .1)), refl, c .empty .ensures .2)
 
 sub-if2 : tie.Need-sub-if2 Inv-loop μ-loop
 sub-if2 c = search needs
@@ -137,16 +139,22 @@ returns-4 c =
 
 slot-of-requires : tie.Need-slot-of-requires Inv-loop μ-loop
 slot-of-requires c κs =
-    let x = c .before .before .before .before in
+    let x = c .before .before .before in
     let s = seen x in
     (s .low, omega (arith, s .high, start (turn (x .before .before .before)) .pre), x .examine .ensures .1 .0 .0)
 
-push-requires : tie.Need-push-requires Inv-loop μ-loop
-push-requires c κs = search needs
+mul-t42 : tie.Need-mul-t42 Inv-loop μ-loop
+mul-t42 c = search needs
+
+element-set-from-slots : tie.Need-element-set-from-slots Inv-loop μ-loop
+element-set-from-slots c = c .before .if5 .taken
+
+add-slots : tie.Need-add-slots Inv-loop μ-loop
+add-slots c = search needs
 
 add-size : tie.Need-add-size Inv-loop μ-loop
 add-size c =
-    let x = c .before .before .before .before .before .before .before in
+    let x = c .before .before .before .before .before in
     let h = turn (x .before .before .before) .loop .inv .0 .holds in
     omega (arith, holds-few h, h .small, seen x .small)
 
@@ -159,8 +167,8 @@ loop-less c = search needs
 loop-again : tie.Need-loop-again Inv-loop μ-loop
 loop-again c =
     let p = c .before .before in
-    let r = p .before .before in
-    let f = r .before .before in
+    let r = p .before in
+    let f = r .before in
     let x = f .before .before in
     let e = x .before .before in
     let k = e .before in
@@ -169,11 +177,12 @@ loop-again c =
       passed-kept _ (l .inv .0) (t .loop-test .taken) _ (k .get16 .ensures .0) (k .before .if2 .left) (e .if3 .left) (seen x) (f .if4 .left)
           (record {
             room = r .if5 .taken;
-            count = p .push .ensures .0;
-            list = p .push .ensures .1 ∙ ap (λ (s : Slot). listed (l .slots) ++ (s ∷ [])) (p .before .slot-of .ensures);
+            count = refl;
+            list = listed-next (l .slots) (p .slot-of .result) (l .inv .2) (r .if5 .taken) ∙ ap (λ (s : Slot). listed (l .slots) ++ (s ∷ [])) (p .slot-of .ensures);
             claims = c .both .ensures;
           }),
       l .inv .1,
+      length-set (l .slots .items) (l .slots .count) (p .slot-of .result) ∙ l .inv .2,
     )
 
 loop-less-2 : tie.Need-loop-less-2 Inv-loop μ-loop
@@ -181,7 +190,7 @@ loop-less-2 c = search needs
 
 loop-again-2 : tie.Need-loop-again-2 Inv-loop μ-loop
 loop-again-2 c =
-    let f = c .before .before in
+    let f = c .before in
     let x = f .before .before in
     let e = x .before .before in
     let k = e .before in
@@ -189,6 +198,7 @@ loop-again-2 c =
     let i = t .before .loop .inv in (
       passed-full _ (i .0) (t .loop-test .taken) _ (k .get16 .ensures .0) (k .before .if2 .left) (e .if3 .left) (seen x) (f .if4 .left) (c .if5 .left),
       i .1,
+      i .2,
     )
 
 settle-requires : tie.Need-settle-requires Inv-loop μ-loop
@@ -235,7 +245,9 @@ read-instances-spec =
     same-length-4
     returns-4
     slot-of-requires
-    push-requires
+    mul-t42
+    element-set-from-slots
+    add-slots
     add-size
     both-requires
     loop-less

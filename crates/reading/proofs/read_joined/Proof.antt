@@ -73,40 +73,49 @@ same-length c = search needs
 returns : tie.Need-returns
 returns c = search needs
 
-read-many-requires : tie.Need-read-many-requires
-read-many-requires c κs = let m = c .before .before in (m .before .before .before .before .before .pre, many m)
-
-returns-2 : tie.Need-returns-2
-returns-2 c =
-    let g = c .before .before .before in
-    let broken = subst (GatheredFrom _) (c .before .enum-told .given .1) (g .gather .ensures) in
-    gives-as (ap (λ (f : Framed). readFramed Dhcp4 f (length (now (g .before .before .before .args .out)))) broken) (c .refused .ensures _ (λ z. omega arith))
+read-half-requires : tie.Need-read-half-requires
+read-half-requires c κs = (c .before .if2 .taken, many (c .before .before .before))
 
 same-length-2 : tie.Need-same-length-2
 same-length-2 c = search needs
 
+returns-2 : tie.Need-returns-2
+returns-2 c = search needs
+
+read-many-requires : tie.Need-read-many-requires
+read-many-requires c κs = let m = c .before .before .before in (m .before .before .before .before .before .pre, many m)
+
 returns-3 : tie.Need-returns-3
 returns-3 c =
-    let s = c .before .before in
-    let n = s .before .before in
-    let k = n .before in
-    let absent = subst (GatheredFrom _) (k .enum-told2 .given .1) (k .before .before .gather .ensures) in
-    gives-as (answer-absent _ absent ∙ sym (answer-blocks _ _ _ [] (shows-none (holds-none _ _ (n .empty .ensures .0) (n .empty .ensures .1))))) (s .settle .ensures)
+    let g = c .before .before .before in
+    let broken = subst (GatheredFrom _) (c .before .enum-told .given .1) (g .gather .ensures) in
+    gives-as (ap (λ (f : Framed). readFramed Dhcp4 f (length (now (g .before .before .before .args .out)))) broken) (c .refused .ensures _ (λ z. omega arith))
 
 same-length-3 : tie.Need-same-length-3
 same-length-3 c = search needs
 
 returns-4 : tie.Need-returns-4
 returns-4 c =
-    let r = c .before .before in
-    let o = one (r .before .before .before .before) in
-    gives-as (answer-joined _ _ (_ ∷ []) (o .2) (omega arith) (sym (append-nil _))) (r .read-instances .ensures)
+    let s = c .before .before in
+    let n = s .before .before in
+    let k = n .before in
+    let absent = subst (GatheredFrom _) (k .enum-told2 .given .1) (k .before .before .gather .ensures) in
+    gives-as (answer-absent _ absent ∙ sym (answer-blocks _ _ _ [] (shows-none (holds-none _ _ (n .empty .ensures .0) (n .empty .ensures .1))))) (s .settle .ensures)
 
 same-length-4 : tie.Need-same-length-4
 same-length-4 c = search needs
 
 returns-5 : tie.Need-returns-5
-returns-5 c = search needs
+returns-5 c =
+    let r = c .before .before in
+    let o = one (r .before .before .before .before) in
+    gives-as (answer-joined _ _ (_ ∷ []) (o .2) (omega arith) (sym (append-nil _))) (r .read-instances .ensures)
+
+same-length-5 : tie.Need-same-length-5
+same-length-5 c = search needs
+
+returns-6 : tie.Need-returns-6
+returns-6 c = search needs
 
 pub read-joined-spec : {M : Type 1} → statement M
 read-joined-spec =
@@ -127,11 +136,14 @@ read-joined-spec =
     read-few-requires
     same-length
     returns
-    read-many-requires
-    returns-2
+    read-half-requires
     same-length-2
+    returns-2
+    read-many-requires
     returns-3
     same-length-3
     returns-4
     same-length-4
-    returns-5)
+    returns-5
+    same-length-5
+    returns-6)

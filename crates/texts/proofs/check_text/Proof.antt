@@ -1,13 +1,12 @@
--- `texts::check_text` meets its contract: the first octet is looked at by itself, and the rest in a copy. Assumes nothing.
+-- `texts::check_text` meets its contract: the first octet is looked at by itself. Assumes nothing.
 use mathlib.Core.Path.{_≡_}
 use mathlib.Core.List.{List}
 use Prim.Native.Nat.{ℕ}
-use Rattle.texts.specs.Outcomes.{no-octet, first-other, by-copy, good-answer, bad-answer, told}
+use Rattle.texts.specs.Outcomes.{no-octet, first-other, by-first, good-answer, bad-answer, told}
 use Rattle.texts.specs.Right.{right}
 use Rattle.names.specs.Wire.{placed}
 use Rattle.texts.specs.TextCheck.{textCheck}
 use native.Mathlib.Omega.{arith}
-use lib.ListN.{length-take}
 use borrow.Author.Tests.{not-true, not-false}
 use borrow.Author.Needs.{needs}
 use Rattle.texts.proofs.check_text.Statement.{statement}
@@ -31,36 +30,22 @@ returns-2 c =
 looked-at-requires : tie.Need-looked-at-requires
 looked-at-requires c κs = search needs
 
-slice-aggregate-copy : tie.Need-slice-aggregate-copy
-slice-aggregate-copy c = search needs
-
-slice-aggregate-copy-2 : tie.Need-slice-aggregate-copy-2
-slice-aggregate-copy-2 c = simp length-take (omega arith)
-
-copy-requires : tie.Need-copy-requires
-copy-requires c κs = simp length-take (omega arith)
-
 after-letter-requires : tie.Need-after-letter-requires
 after-letter-requires c κs = search needs
 
 -- the walk's number is the check's
-numbered : (c : tie.After-after-letter) → c .after-letter .result ≡ placed (textCheck (c .before .before .before .before .before .before .before .before .before .before .before .before .args .s .now))
+numbered : (c : tie.After-after-letter) → c .after-letter .result ≡ placed (textCheck (c .before .before .before .before .before .before .before .before .args .s .now))
 numbered c =
-    let copied = c .before .before .before in
-    let counted = copied .before .before .before in
+    let counted = c .before .before in
     let tested = counted .before in
     let some = tested .before .before .before in
-    by-copy
+    by-first
     (some .before .before .args .s .now)
-    _
-    _
     (counted .looked-at .result)
-    _
     (c .after-letter .result)
     (some .if1 .left)
     (told (tested .before .is-alnum .ensures) (not-false _ (tested .if2 .left)))
     (counted .looked-at .ensures)
-    (copied .copy .ensures)
     (c .after-letter .ensures)
 
 returns-3 : tie.Need-returns-3
@@ -78,9 +63,6 @@ check-text-spec =
     is-alnum-requires
     returns-2
     looked-at-requires
-    slice-aggregate-copy
-    slice-aggregate-copy-2
-    copy-requires
     after-letter-requires
     returns-3
     returns-4)
