@@ -16,7 +16,7 @@ use Rattle.octets.specs.Lists.{flat}
 use Rattle.frames.specs.Frame.{Framed, fault, framed, frame}
 use Rattle.frames.specs.Step.{part, stepAt}
 use Rattle.frames.specs.Walk.{prepend, Walked}
-use Rattle.frames.specs.Gather.{Several, Tells, GatheredFrom, Joins, AtMost}
+use Rattle.frames.specs.Gather.{Several, Tells, GatheredFrom, Joins}
 use Rattle.frames.specs.Laws.{fault-framed, step-block, step-skipped, step-body}
 use Rattle.frames.specs.WalkLaws.{walked-start, walked-block, walked-skipped, walked-end, walked-fault}
 

@@ -124,13 +124,11 @@ pub fn first(c: Carrier, s: &[u8]) -> Head
 
 // What stands at an index of the area.
 pub fn next_block(c: Carrier, area: &[u8], at: usize) -> Step
+    requires { ⌜ at ≤ length (now area) ⌝ }
     ensures { λ r. ⌜ r ≡ stepAt c (now (area .entry)) at ⌝ }
 {
     if at == area.len() {
         return Step::End;
-    }
-    if area.len() < at {
-        return Step::Fault;
     }
     match first(c, &area[at..]) {
         Head::Bad => Step::Fault,

@@ -1,16 +1,16 @@
--- The laws of joined octets cut within a buffer: what stands behind a write is left alone, and the turns of the loops that move a piece
--- and that write the options. Assumes nothing.
+-- The laws of joined octets cut within a buffer: what stands behind a write is left alone, and the turns of the loop that writes the
+-- options. Assumes nothing.
 use mathlib.Core.Path.{_≡_, refl, sym, ap, _∙_}
 use mathlib.Core.List.{List, [], _∷_, _++_, append-assoc, append-nil}
 use Prim.Native.Nat.{ℕ, zero, suc, _+_, _-_, _≤_, _<_, min}
-use native.Mathlib.Nat.{add-zero}
 use native.Mathlib.Numerals.{unary-clauses}
 use native.Mathlib.Omega.{arith}
-use lib.ListN.{length, take, drop, set, getD, length-append, length-take, length-drop, drop-of-length-le}
-use lib.Seq.{take-nil, drop-at, drop-drop, take-take, getD-drop, length-take-le}
+use lib.ListN.{length, take, drop, length-take, length-drop, drop-of-length-le}
+use lib.Seq.{take-nil, drop-drop, take-take}
 use Rattle.octets.specs.Numbers.{be}
-use Rattle.octets.specs.Over.{over, Wrote}
-use Rattle.octets.specs.OverLaws.{over-take, wrote-none, then}
+use Rattle.octets.specs.Over.{Wrote}
+use Rattle.octets.specs.OverLaws.{wrote-none, then}
+use Rattle.moves.specs.MoveLaws.{over-behind}
 use Rattle.carriers.specs.declared.Carrier.the-variants.{Dhcp4}
 use Rattle.carriers.specs.Carriers.{codeOf}
 use Rattle.frames.specs.Emit.{optionOf}
@@ -21,30 +21,8 @@ use Rattle.pieces.specs.Cutting.{Cutting}
 
 -- ---- what stands behind a write
 
-pub over-behind : (at k : ℕ) (bs l : List ℕ) → at + length bs ≤ length l → at + length bs ≤ k → drop k (over at bs l) ≡ drop k l
-unfolding over
-over-behind at k bs l h e =
-    let n : ℕ = at + length bs in
-    let front : length (take at l ++ bs) ≡ n = simp (length-append, length-take) (omega arith) in
-    let split : n + (k - n) ≡ k = omega arith in
-    let back : (m : List ℕ) → drop (k - n) (drop n m) ≡ drop k m = λ m. drop-drop (k - n) n m ∙ ap (λ (i : ℕ). drop i m) split in
-    sym (back (take at l ++ bs ++ drop n l)) ∙ ap (λ (m : List ℕ). drop (k - n) m) (drop-at (take at l ++ bs) (drop n l) n front) ∙ back l
-
 pub wrote-behind : {at r : ℕ} {bs l l′ : List ℕ} (k : ℕ) → Wrote at bs l r l′ → r ≤ k → drop k l′ ≡ drop k l
 wrote-behind {at} {r} {bs} {l} {l′} k w h = ap (λ (m : List ℕ). drop k m) (w .laid) ∙ over-behind at k bs l (w .room) (omega (arith, w .next))
-
--- ---- a turn of the loop that moves a piece: the octet that is read has not been written yet
-
-pub move-turn : (to from i : ℕ) (l out : List ℕ) → to ≤ from → from + i < length l → out ≡ over to (take i (drop from l)) l
-    → set out (to + i) (getD out (from + i) 0) ≡ over to (take (i + 1) (drop from l)) l
-move-turn to from i l out h k e =
-    let d : length (drop from l) ≡ length l - from = length-drop from l in
-    let t : length (take i (drop from l)) ≡ i = length-take-le i (drop from l) (omega arith) in
-    let here : (m : List ℕ) → getD (drop (from + i) m) 0 0 ≡ getD m (from + i) 0 = λ m. getD-drop (from + i) m 0 0 ∙ rw add-zero in
-    let behind : drop (from + i) out ≡ drop (from + i) l = rw e (over-behind to (from + i) (take i (drop from l)) l (omega arith) (omega arith)) in
-    let read : getD out (from + i) 0 ≡ getD (drop from l) i 0 =
-    sym (here out) ∙ ap (λ (m : List ℕ). getD m 0 0) behind ∙ here l ∙ sym (getD-drop from l i 0) in
-    rw (read, e) (over-take to i (drop from l) l (omega arith) (omega arith))
 
 -- ---- an option, by its header and its body
 

@@ -28,19 +28,6 @@ fn piece_size(left: usize) -> usize
     if left < PIECE { left } else { PIECE }
 }
 
-// Moves the n octets at `from` towards the front, to `to`, and returns the index after them there.
-fn move_down(out: &mut [u8], to: usize, from: usize, n: usize) -> usize
-    requires { ⌜ (to ≤ from) × (from + n ≤ length (now out)) ⌝ }
-    ensures { λ r. ⌜ Wrote to (take n (drop from (now (out .entry)))) (now (out .entry)) r (now (out .exit)) ⌝ }
-{
-    let mut i = 0;
-    while i < n {
-        out[to + i] = out[from + i];
-        i += 1;
-    }
-    to + n
-}
-
 // Writes an option at `at` whose body is the n octets that stand at `from`, and returns the index after it.
 fn put_piece(out: &mut [u8], at: usize, from: usize, n: usize) -> usize
     requires { ⌜ (at + 2 ≤ from) × (from + n ≤ length (now out)) × (n < 256) ⌝ }
@@ -48,7 +35,7 @@ fn put_piece(out: &mut [u8], at: usize, from: usize, n: usize) -> usize
 {
     let at_length = octets::put8(out, at, Carrier::DHCP4 as u8);
     let body = octets::put8(out, at_length, n as u8);
-    move_down(out, body, from, n)
+    moves::move_down(out, body, from, n)
 }
 
 // The joined octets stand in `out` from `from` on, n of them, with just the room for the headers before them: moves them to the front

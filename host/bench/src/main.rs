@@ -1,50 +1,67 @@
 //! One table: the proved library against the reference implementation and against memcpy of the same octets, in one run.
 //!
-//! Each row takes the best of many rounds, the three timed in turn within each round, so that they meet the same machine. The buffers are
-//! not cleared between calls. Growth is the library's time on input of twice the size, divided by its time here.
+//! The three are timed in turn within each of many short rounds, so that they meet the same machine. A time is the best round's; the ratio of
+//! library and reference is the median of the rounds' ratios, which other work on the machine moves least. The buffers are not cleared
+//! between calls. Growth is the library's time on input of twice the size, divided by its time here.
 
 use std::hint::black_box;
 use std::time::{Duration, Instant};
 
-const ROUNDS: usize = 60;
-const ROUND: Duration = Duration::from_micros(1500);
+const ROUNDS: usize = 301;
+const ROUND: Duration = Duration::from_micros(300);
 
-/// The best time of one call, in nanoseconds, of each of three functions.
-fn best(mut calls: [&mut dyn FnMut(); 3]) -> [f64; 3] {
-    let mut best = [f64::MAX; 3];
-    for _ in 0..ROUNDS {
-        for (call, best) in calls.iter_mut().zip(&mut best) {
-            let start = Instant::now();
-            let mut n = 0u32;
-            while start.elapsed() < ROUND {
-                for _ in 0..16 {
-                    call();
-                }
-                n += 16;
-            }
-            *best = best.min(start.elapsed().as_nanos() as f64 / f64::from(n));
-        }
-    }
-    best
+/// The best time of one call of library, reference and memcpy, in nanoseconds, and the median ratio of library and reference.
+struct Times {
+    best: [f64; 3],
+    ratio: f64,
 }
 
-fn timed_reading(carrier: u8, area: &[u8]) -> [f64; 3] {
+/// The time of one call, in nanoseconds.
+fn timed(call: &mut dyn FnMut()) -> f64 {
+    let start = Instant::now();
+    let mut n = 0u32;
+    while start.elapsed() < ROUND {
+        for _ in 0..8 {
+            call();
+        }
+        n += 8;
+    }
+    start.elapsed().as_nanos() as f64 / f64::from(n)
+}
+
+fn times(calls: [&mut dyn FnMut(); 3]) -> Times {
+    let mut best = [f64::MAX; 3];
+    let mut ratios = Vec::with_capacity(ROUNDS);
+    for round in 0..ROUNDS {
+        let mut now = [0.0; 3];
+        // the library first in one round, the reference first in the next
+        for turn in if round % 2 == 0 { [0, 1, 2] } else { [1, 0, 2] } {
+            now[turn] = timed(calls[turn]);
+            best[turn] = best[turn].min(now[turn]);
+        }
+        ratios.push(now[0] / now[1]);
+    }
+    ratios.sort_by(f64::total_cmp);
+    Times { best, ratio: ratios[ROUNDS / 2] }
+}
+
+fn timed_reading(carrier: u8, area: &[u8]) -> Times {
     let (mut one, mut two, mut three) = (vec![0u8; 36_775], vec![0u8; 36_775], vec![0u8; 40_960]);
     let check = compare::read(carrier, area, &mut one);
     assert_eq!(check, dnr_reference::read(carrier, area, &mut two));
-    best([
+    times([
         &mut || { black_box(compare::read(carrier, black_box(area), black_box(&mut one))); },
         &mut || { black_box(dnr_reference::read(carrier, black_box(area), black_box(&mut two))); },
         &mut || { black_box(&mut three[..area.len()]).copy_from_slice(black_box(area)); },
     ])
 }
 
-fn timed_writing(sheet: &[u8]) -> [f64; 3] {
+fn timed_writing(sheet: &[u8]) -> Times {
     let (mut one, mut two, mut three) = (vec![0u8; 40_960], vec![0u8; 40_960], vec![0u8; 40_960]);
     let check = compare::write(sheet, &mut one);
     assert_eq!(check, dnr_reference::write(sheet, &mut two));
     assert_eq!(check.number, 0);
-    best([
+    times([
         &mut || { black_box(compare::write(black_box(sheet), black_box(&mut one))); },
         &mut || { black_box(dnr_reference::write(black_box(sheet), black_box(&mut two))); },
         &mut || { black_box(&mut three[..sheet.len()]).copy_from_slice(black_box(sheet)); },
@@ -52,12 +69,12 @@ fn timed_writing(sheet: &[u8]) -> [f64; 3] {
 }
 
 /// Prints a row, with the times of the same on twice the input where there are some.
-fn print(what: &str, octets: usize, times: [f64; 3], doubled: Option<[f64; 3]>) {
-    let [library, reference, copy] = times;
-    let growth = doubled.map_or("-".into(), |d| format!("{:.2}", d[0] / library));
+fn print(what: &str, octets: usize, times: Times, doubled: Option<Times>) {
+    let [library, reference, copy] = times.best;
+    let growth = doubled.map_or("-".into(), |d| format!("{:.2}", d.best[0] / library));
     println!(
         "| {what} | {octets} | {library:.0} | {reference:.0} | {:.2} | {:.0} | {:.1} | {growth} |",
-        library / reference,
+        times.ratio,
         octets as f64 / library * 1000.0,
         library / copy,
     );

@@ -126,6 +126,30 @@ fn the_longest_input() {
     }
 }
 
+/// Several options 162 in areas around the sizes of the buffers in which their data are joined: a record cut at every octet, the options
+/// first or last in the area, and the area framed or not.
+#[test]
+fn options_joined_in_areas_of_every_size() {
+    let body = [&[0, 1, 5][..], b"\x01a\x01b\x00", &[4, 192, 0, 2, 1]].concat();
+    let instance = [&[0, body.len() as u8][..], &body].concat();
+    let option = |data: &[u8]| [&[162, data.len() as u8][..], data].concat();
+    for size in [64, 4_095, 4_096, 4_097, 20_479, 20_480, 20_481, 40_959, 40_960] {
+        for cut in 0..=instance.len() {
+            let options = [option(&instance[..cut]), option(&instance[cut..]), option(&[])].concat();
+            let padding = vec![0; size - options.len()];
+            let first = [&options[..], &padding].concat();
+            let last = [&padding[..], &options].concat();
+            for area in [&first, &last] {
+                let got = every_room(1, area);
+                assert_eq!((got.number, got.found, got.discarded), (0, 1, 0));
+            }
+            let mut broken = first;
+            broken[size - 1] = 162;
+            assert_eq!(compared(1, &broken, 40_000).number, 3);
+        }
+    }
+}
+
 #[test]
 fn octets_without_any_order() {
     let mut r = Random::new(16);

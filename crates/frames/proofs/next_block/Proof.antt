@@ -11,14 +11,14 @@ use Rattle.frames.specs.declared.Head.{Head}
 use Rattle.frames.specs.declared.Step.{Step}
 use Rattle.frames.specs.Frame.{firstOf}
 use Rattle.frames.specs.Step.{optionAt}
-use Rattle.frames.specs.Laws.{step-at-end, step-past, step-is, option-fits, option-over, own-room}
+use Rattle.frames.specs.Laws.{step-at-end, step-is, option-fits, option-over, own-room}
 use borrow.Author.Needs.{needs}
 use Rattle.frames.proofs.next_block.Statement.{statement}
 use Rattle.frames.proofs.next_block.Tie as tie
 
 -- at the arm of an option: the entry, the octets from there on, and what was read of them
 abbrev start : tie.After-own → tie.Start
-start c = c .before .before .before .before .before .before .before
+start c = c .before .before .before .before .before .before
 
 abbrev rest : tie.After-own → List ℕ
 rest c = let a = start c .args in take (length (now (a .area)) - a .at) (drop (a .at) (now (a .area)))
@@ -28,9 +28,6 @@ read c = sym (c .own .given .1) ∙ c .before .before .first .ensures
 
 returns : tie.Need-returns
 returns c = sym (step-at-end _ _ _ (c .if1 .taken))
-
-returns-2 : tie.Need-returns-2
-returns-2 c = sym (step-past _ _ _ (c .if2 .taken))
 
 sub-first : tie.Need-sub-first
 sub-first c = search needs
@@ -53,8 +50,8 @@ enum-told-2 c = search needs
 enum-known-own : tie.Need-enum-known-own
 enum-known-own c = search needs
 
-sub-if3 : tie.Need-sub-if3
-sub-if3 c = search needs
+sub-if2 : tie.Need-sub-if2
+sub-if2 c = search needs
 
 add-end : tie.Need-add-end
 add-end c = search needs
@@ -67,40 +64,40 @@ add-start c =
     let k = c .before .before .before .before in
     let a = start k .args in
     let own : Head.Option true (octets (k .own .given .0 .1 .0 .0)) ≡ firstOf (a .c) (rest k) =
-    ap (λ (own : Bool). Head.Option own (k .own .given .0 .1 .0)) (sym (c .before .if4 .taken)) ∙ read k in
+    ap (λ (own : Bool). Head.Option own (k .own .given .0 .1 .0)) (sym (c .before .if3 .taken)) ∙ read k in
     omega (arith, c .header-size .ensures, own-room (a .c) (now (a .area)) (a .at) (omega arith) own)
+
+returns-2 : tie.Need-returns-2
+returns-2 c =
+    let a = c .before .before .before .before .before .before .args in
+    step-is (a .c) (now (a .area)) (a .at) (omega arith) (sym (c .enum-told .given .1) ∙ c .before .before .first .ensures) refl
 
 returns-3 : tie.Need-returns-3
 returns-3 c =
-    let a = c .before .before .before .before .before .before .before .args in
-    step-is (a .c) (now (a .area)) (a .at) (omega arith) (sym (c .enum-told .given .1) ∙ c .before .before .first .ensures) refl
+    let a = c .before .before .before .before .before .before .args in
+    step-is (a .c) (now (a .area)) (a .at) (omega arith) (sym (c .enum-told2 .given .1) ∙ c .before .before .first .ensures) refl
 
 returns-4 : tie.Need-returns-4
 returns-4 c =
-    let a = c .before .before .before .before .before .before .before .args in
-    step-is (a .c) (now (a .area)) (a .at) (omega arith) (sym (c .enum-told2 .given .1) ∙ c .before .before .first .ensures) refl
-
-returns-5 : tie.Need-returns-5
-returns-5 c =
     let k = c .before .before .before .before in
     let a = start k .args in
     let n = k .own .given .0 .1 .0 .0 in
     step-is (a .c) (now (a .area)) (a .at) (omega arith) (read k)
     (option-fits (a .c) (length (now (a .area)) - a .at) (a .at) (k .own .given .0 .0) n (omega arith)
-    ∙ ap (λ (own : Bool). optionAt (a .c) (a .at) own n) (c .before .if4 .taken)
+    ∙ ap (λ (own : Bool). optionAt (a .c) (a .at) own n) (c .before .if3 .taken)
     ∙ ap (λ (h : ℕ). Step.Block (a .at + h) (a .at + n)) (sym (c .header-size .ensures)))
 
-returns-6 : tie.Need-returns-6
-returns-6 c =
+returns-5 : tie.Need-returns-5
+returns-5 c =
     let k = c .before .before .before in
     let a = start k .args in
     let n = k .own .given .0 .1 .0 .0 in
     step-is (a .c) (now (a .area)) (a .at) (omega arith) (read k)
     (option-fits (a .c) (length (now (a .area)) - a .at) (a .at) (k .own .given .0 .0) n (omega arith)
-    ∙ ap (λ (own : Bool). optionAt (a .c) (a .at) own n) (c .if4 .left))
+    ∙ ap (λ (own : Bool). optionAt (a .c) (a .at) own n) (c .if3 .left))
 
-returns-7 : tie.Need-returns-7
-returns-7 c =
+returns-6 : tie.Need-returns-6
+returns-6 c =
     let k = c .before .before in
     let a = start k .args in
     step-is (a .c) (now (a .area)) (a .at) (omega arith) (read k)
@@ -111,7 +108,6 @@ next-block-spec =
     tie.close
     (tie.spec
     returns
-    returns-2
     sub-first
     part-first-start
     part-first-end
@@ -119,12 +115,12 @@ next-block-spec =
     enum-told
     enum-told-2
     enum-known-own
-    sub-if3
+    sub-if2
     add-end
     header-size-requires
     add-start
+    returns-2
     returns-3
     returns-4
     returns-5
-    returns-6
-    returns-7)
+    returns-6)

@@ -1,5 +1,5 @@
 -- `reading::read_within` meets its contract: what `join` wrote at the front of the buffer is the joined data. Assumes nothing.
-use mathlib.Core.Path.{_≡_, sym, ap, subst}
+use mathlib.Core.Path.{sym, ap, subst}
 use native.Mathlib.Omega.{arith}
 use Prim.Native.Nat.{_≤_}
 use lib.ListN.{length}

@@ -6,7 +6,6 @@ use Rattle.texts.specs.Outcomes.{no-octet, first-other, by-first, good-a
 use Rattle.texts.specs.Right.{right}
 use Rattle.names.specs.Wire.{placed}
 use Rattle.texts.specs.TextCheck.{textCheck}
-use native.Mathlib.Omega.{arith}
 use borrow.Author.Tests.{not-true, not-false}
 use borrow.Author.Needs.{needs}
 use Rattle.texts.proofs.check_text.Statement.{statement}

@@ -1,19 +1,31 @@
--- `pieces::move_down` meets its contract. The loop's invariant: the first i octets are laid over `out` from `to`. Assumes nothing.
+-- `moves::move_down` meets its contract: a full piece by blocks, any other octet by octet. The loop's invariant: the first i octets are
+-- laid over `out` from `to`. Assumes nothing.
 use native.Mathlib.Omega.{arith}
 use mathlib.Core.Path.{_≡_, refl, sym}
 use Prim.Native.Nat.{_-_, _≤_}
 use lib.ListN.{length, take, drop, length-set, length-take, length-drop}
 use Rattle.octets.specs.Over.{over}
 use Rattle.octets.specs.OverLaws.{over-nil}
-use Rattle.pieces.specs.CuttingLaws.{move-turn}
-use Rattle.pieces.proofs.move_down.Statement.{statement}
-use Rattle.pieces.proofs.move_down.Tie as tie
+use Rattle.moves.specs.MoveLaws.{move-turn}
+use Rattle.moves.proofs.move_down.Statement.{statement}
+use Rattle.moves.proofs.move_down.Tie as tie
 
 abbrev Inv-loop : tie.InvT-loop
 Inv-loop out₀ to from n i₀ out i = (i ≤ n) × (length out ≡ length out₀) × (out ≡ over to (take i (drop from out₀)) out₀)
 
 abbrev μ-loop : tie.MeasureT-loop
 μ-loop out₀ to from n i₀ out i = n - i
+
+move-full-requires : tie.Need-move-full-requires Inv-loop μ-loop
+move-full-requires c κs = (omega arith, omega arith)
+
+same-length : tie.Need-same-length Inv-loop μ-loop
+same-length c = omega arith
+
+returns : tie.Need-returns Inv-loop μ-loop
+returns c =
+    let w = c .before .before in
+    rw (w .before .before .before .if1 .taken) (w .move-full .ensures)
 
 loop-holds : tie.Need-loop-holds Inv-loop μ-loop
 loop-holds c = (omega arith, refl, sym (over-nil _ _))
@@ -39,7 +51,7 @@ loop-less c = omega arith
 loop-again : tie.Need-loop-again Inv-loop μ-loop
 loop-again c =
     let k = c .before .before in
-    let a = k .before .args in (
+    let a = k .before .before .before .args in (
       omega arith,
       simp length-set (omega arith),
       move-turn (a .to) (a .from) (k .loop .i) (a .out .now) (k .loop .out) (omega arith) (omega arith) (k .loop .inv .2),
@@ -48,13 +60,13 @@ loop-again c =
 add-result : tie.Need-add-result Inv-loop μ-loop
 add-result c = omega arith
 
-same-length : tie.Need-same-length Inv-loop μ-loop
-same-length c = omega arith
+same-length-2 : tie.Need-same-length-2 Inv-loop μ-loop
+same-length-2 c = omega arith
 
-returns : tie.Need-returns Inv-loop μ-loop
-returns c =
+returns-2 : tie.Need-returns-2 Inv-loop μ-loop
+returns-2 c =
     let k = c .before in
-    let a = k .before .args in
+    let a = k .before .before .before .args in
     let all : k .loop .i ≡ a .n = omega arith in
     let size : length (take (a .n) (drop (a .from) (a .out .now))) ≡ a .n = simp (length-take, length-drop) (omega arith) in
     record { room = omega arith; next = omega arith; laid = rw all at (k .loop .inv .2) }
@@ -65,6 +77,9 @@ move-down-spec =
     (tie.spec
     Inv-loop
     μ-loop
+    move-full-requires
+    same-length
+    returns
     loop-holds
     add-out
     slice-read-out
@@ -74,5 +89,5 @@ move-down-spec =
     loop-less
     loop-again
     add-result
-    same-length
-    returns)
+    same-length-2
+    returns-2)
