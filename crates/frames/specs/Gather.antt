@@ -2,7 +2,7 @@
 use mathlib.Core.Path.{_≡_}
 use Prim.Native.Nat.{ℕ, _≤_}
 use mathlib.Core.List.{List, [], _∷_}
-use lib.ListN.{length}
+use lib.ListN.{length, drop}
 use Rattle.octets.specs.Over.{Wrote}
 use Rattle.carriers.specs.declared.Carrier.the-variants.{Dhcp4}
 use Rattle.frames.specs.declared.Gathered.{Gathered}
@@ -18,12 +18,12 @@ Several fault = Unit {0}
 Several (framed bs) = 2 ≤ length bs
 
 -- what is told of the own options of an area that is framed to f: it cannot be framed; there is none; there is one alone, and where its body
--- is; there are several, and then nothing is told of what follows the second
+-- is; there are several, with none before `from`, and then nothing is told of what follows the second
 abbrev pub Tells : List ℕ → Framed → Gathered → Type 0
 Tells area f Broken = f ≡ fault
 Tells area f Absent = f ≡ framed []
 Tells area f (One start end) = (start ≤ end) × (end ≤ length area) × (f ≡ framed (part start end area ∷ []))
-Tells area f Many = Several f
+Tells area f (Many from) = (from ≤ length area) × (f ≡ frame Dhcp4 (drop from area)) × Several f
 
 abbrev pub GatheredFrom : List ℕ → Gathered → Type 0
 GatheredFrom area r = Tells area (frame Dhcp4 area) r

@@ -18,7 +18,7 @@ use Rattle.frames.specs.Step.{part, stepAt}
 use Rattle.frames.specs.Walk.{prepend, Walked}
 use Rattle.frames.specs.Gather.{Several, Tells, GatheredFrom, Joins}
 use Rattle.frames.specs.Laws.{fault-framed, step-block, step-skipped, step-body}
-use Rattle.frames.specs.WalkLaws.{walked-start, walked-block, walked-skipped, walked-end, walked-fault}
+use Rattle.frames.specs.WalkLaws.{prepend-none, walked-start, walked-block, walked-skipped, walked-end, walked-fault}
 
 -- ---- how many there are
 
@@ -32,7 +32,7 @@ found-one : (area : List ℕ) (bs : List (List ℕ)) (found : Gathered) → (fou
 found-one area bs Broken more t = absurd (fault-framed (sym t))
 found-one area bs Absent more t = absurd (more refl)
 found-one area bs (One a z) more t = let one : bs ≡ part a z area ∷ [] = cc in omega (arith, ap length one)
-found-one area bs Many more t = omega (arith, t)
+found-one area bs (Many from) more t = omega (arith, t .2)
 
 -- and the other way: of an area that can be framed, what the frame is decides what is told
 module _ (area : List ℕ) {f : Framed} where
@@ -40,32 +40,33 @@ module _ (area : List ℕ) {f : Framed} where
   tells-absent Broken t e = absurd (fault-framed (sym t ∙ e))
   tells-absent Absent t e = refl
   tells-absent (One start end) t e = let q : part start end area ∷ [] ≡ [] = cc in absurd (omega (arith, ap length q))
-  tells-absent Many t e = let k : 2 ≤ 0 = subst Several e t in absurd (omega arith)
+  tells-absent (Many from) t e = let k : 2 ≤ 0 = subst Several e (t .2) in absurd (omega arith)
 
   pub tells-one : (r : Gathered) {b : List ℕ} → Tells area f r → f ≡ framed (b ∷ []) → (start : ℕ) × (end : ℕ) × (r ≡ One start end)
   tells-one Broken t e = absurd (fault-framed (sym t ∙ e))
   tells-one Absent {b} t e = let q : b ∷ [] ≡ [] = cc in absurd (omega (arith, ap length q))
   tells-one (One start end) t e = (start, end, refl)
-  tells-one Many {b} t e = let k : 2 ≤ 1 = subst Several e t in absurd (omega arith)
+  tells-one (Many from) {b} t e = let k : 2 ≤ 1 = subst Several e (t .2) in absurd (omega arith)
 
-  pub tells-many : (r : Gathered) {bs : List (List ℕ)} → Tells area f r → f ≡ framed bs → 2 ≤ length bs → r ≡ Many
+  pub tells-many : (r : Gathered) {bs : List (List ℕ)} → Tells area f r → f ≡ framed bs → 2 ≤ length bs → (from : ℕ) × (r ≡ Many from)
   tells-many Broken t e h = absurd (fault-framed (sym t ∙ e))
   tells-many Absent {bs} t e h = let q : bs ≡ [] = cc in absurd (omega (arith, ap length q))
   tells-many (One start end) {bs} t e h = let q : bs ≡ part start end area ∷ [] = cc in absurd (omega (arith, ap length q))
-  tells-many Many t e h = refl
+  tells-many (Many from) t e h = (from, refl)
 
--- the bodies met before an index, at most one, and what was found of them
-pub record Gathering (area : List ℕ) (at : ℕ) (found : Gathered) : Type 0 where
+-- the bodies met before an index, at most one, and what was found of them; where something was found, none before `from`
+pub record Gathering (area : List ℕ) (at from : ℕ) (found : Gathered) : Type 0 where
   pub bodies : List (List ℕ)
   pub walked : Walked Dhcp4 area at bodies
   pub tells : Tells area (framed bodies) found
+  pub first : Walked Dhcp4 area from []
 
-pub gathering-start : (area : List ℕ) → Gathering area 0 Absent
-gathering-start area = record { bodies = []; walked = walked-start Dhcp4 area; tells = refl }
+pub gathering-start : (area : List ℕ) → Gathering area 0 0 Absent
+gathering-start area = record { bodies = []; walked = walked-start Dhcp4 area; tells = refl; first = walked-start Dhcp4 area }
 
 module _ {area : List ℕ} {at start end : ℕ} (e : stepAt Dhcp4 area at ≡ Step.Block start end) where
   -- the first own option
-  pub gathering-first : Gathering area at Absent → Gathering area end (One start end)
+  pub gathering-first : {from : ℕ} → Gathering area at from Absent → Gathering area end at (One start end)
   gathering-first g =
       let m = step-block Dhcp4 area at e in
       let none : g .bodies ≡ [] = cc in
@@ -73,19 +74,23 @@ module _ {area : List ℕ} {at start end : ℕ} (e : stepAt Dhcp4 area at ≡ St
         bodies = g .bodies ++ (part start end area ∷ []);
         walked = walked-block Dhcp4 area (g .walked) e;
         tells = (m .1, m .2, ap (λ (l : List (List ℕ)). framed (l ++ (part start end area ∷ []))) none);
+        first = subst (Walked Dhcp4 area at) none (g .walked);
       }
 
   -- one after those that were found: there are several, whatever follows
-  pub gathering-second : {found : Gathered} → Gathering area at found → (found ≡ Absent → ⊥) → GatheredFrom area Many
-  gathering-second {found} g more =
+  pub gathering-second : {from : ℕ} {found : Gathered} → Gathering area at from found → (found ≡ Absent → ⊥) → GatheredFrom area (Many from)
+  gathering-second {from} {found} g more =
       let two = walked-block Dhcp4 area (g .walked) e in
       let long : 2 ≤ length (g .bodies ++ (part start end area ∷ []))
-      = omega (arith, found-one area (g .bodies) found more (g .tells), length-append (g .bodies) (part start end area ∷ [])) in
-      subst⁻¹ Several (two .frames) (several-prepend (g .bodies ++ (part start end area ∷ [])) (frame Dhcp4 (drop end area)) long)
+      = omega (arith, found-one area (g .bodies) found more (g .tells), length-append (g .bodies) (part start end area ∷ [])) in (
+        g .first .within,
+        g .first .frames ∙ prepend-none (frame Dhcp4 (drop from area)),
+        subst⁻¹ Several (two .frames) (several-prepend (g .bodies ++ (part start end area ∷ [])) (frame Dhcp4 (drop end area)) long),
+      )
 
-module _ {area : List ℕ} {at : ℕ} {found : Gathered} (g : Gathering area at found) where
-  pub gathering-skipped : {end : ℕ} → stepAt Dhcp4 area at ≡ Step.Skipped end → Gathering area end found
-  gathering-skipped e = record { bodies = g .bodies; walked = walked-skipped Dhcp4 area (g .walked) e; tells = g .tells }
+module _ {area : List ℕ} {at from : ℕ} {found : Gathered} (g : Gathering area at from found) where
+  pub gathering-skipped : {end : ℕ} → stepAt Dhcp4 area at ≡ Step.Skipped end → Gathering area end from found
+  gathering-skipped e = record { bodies = g .bodies; walked = walked-skipped Dhcp4 area (g .walked) e; tells = g .tells; first = g .first }
 
   pub gathering-end : stepAt Dhcp4 area at ≡ Step.End → GatheredFrom area found
   gathering-end e = subst⁻¹ (λ (f : Framed). Tells area f found) (walked-end Dhcp4 area (g .walked) e) (g .tells)

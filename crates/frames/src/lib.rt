@@ -35,13 +35,13 @@ pub enum Step {
     Fault,
 }
 
-// The options 162 of an area: it cannot be framed, there is none, one with its body from `start` up to `end`, or several. With the
-// second of them the walk ends, and the area may still be one that cannot be framed.
+// The options 162 of an area: it cannot be framed, there is none, one with its body from `start` up to `end`, or several, the first of
+// them at `from`. With the second the walk ends, and the area may still be one that cannot be framed.
 pub enum Gathered {
     Broken,
     Absent,
     One { start: usize, end: usize },
-    Many,
+    Many { from: usize },
 }
 
 // What joining the options 162 of an area answers: it cannot be framed, or how many octets were joined.
@@ -155,14 +155,16 @@ pub fn gather(area: &[u8]) -> Gathered
     ensures { λ r. ⌜ GatheredFrom (now (area .entry)) r ⌝ }
 {
     let mut at: usize = 0;
+    let mut from: usize = 0;
     let mut found = Gathered::Absent;
     loop {
         match next_block(Carrier::Dhcp4, area, at) {
             Step::Block { start, end } => {
                 let Gathered::Absent = found else {
-                    return Gathered::Many;
+                    return Gathered::Many { from };
                 };
                 found = Gathered::One { start, end };
+                from = at;
                 at = end;
             }
             Step::Skipped { end } => {

@@ -20,9 +20,8 @@ use Rattle.carriers.specs.declared.Chosen.the-variants.{Known, Unknown}
 use Rattle.carriers.specs.Carriers.{chosenOf}
 use Rattle.octets.specs.Lists.{flat}
 use Rattle.frames.specs.Frame.{Framed, framed, frame}
-use Rattle.frames.specs.declared.Gathered.the-variants.{Many}
 use Rattle.frames.specs.declared.Joined.{Joined}
-use Rattle.frames.specs.Gather.{Several, GatheredFrom, Joins}
+use Rattle.frames.specs.Gather.{Several, Joins}
 use Rattle.frames.specs.GatherLaws.{joins-whole}
 use Rattle.frames.specs.declared.Step.{Step}
 use Rattle.frames.specs.Step.{stepAt}
@@ -107,7 +106,7 @@ module _ (area l l′ : List ℕ) (n : ℕ) (j : Joins (frame Dhcp4 area) l (Joi
   pub many-length : length (take n l′) ≡ n
   many-length = omega (arith, ap length many-front, many-wrote .2 .next)
 
-  pub answer-many : (room : ℕ) → GatheredFrom area Many → readFramed Dhcp4 (frame Dhcp4 area) room ≡ readBlocks Dhcp4 (take n l′ ∷ []) room
+  pub answer-many : (room : ℕ) → Several (frame Dhcp4 area) → readFramed Dhcp4 (frame Dhcp4 area) room ≡ readBlocks Dhcp4 (take n l′ ∷ []) room
   answer-many room g =
       let several : 2 ≤ length (many-wrote .0) = subst Several (many-wrote .1) g in
       answer-joined (take n l′) room (many-wrote .0) (many-wrote .1) (omega arith) many-front

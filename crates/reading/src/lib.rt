@@ -10,8 +10,7 @@ ghost use Rattle.octets.specs.Over.{Wrote};
 ghost use Rattle.numbers.specs.Limit as limit;
 ghost use Rattle.carriers.specs.declared.Carrier.the-variants.{Dhcp4};
 ghost use Rattle.frames.specs.Frame.{frame};
-ghost use Rattle.frames.specs.declared.Gathered.the-variants.{Many};
-ghost use Rattle.frames.specs.Gather.{GatheredFrom};
+ghost use Rattle.frames.specs.Gather.{Several};
 ghost use Rattle.sheets.specs.Sheets.{sheetOf};
 ghost use Rattle.reading.specs.Reading.{discarded, joinedYield, inOrder, refuse, readBlocks, readFramed, readOf, Reads};
 ghost use Rattle.reading.specs.Tally.{recordsAt, heldOf, slotOf, tallyOf, Sound, Ready, answerOf, Gives};
@@ -244,7 +243,7 @@ fn read_instances(joined: &[u8], out: &mut [u8]) -> Reading
 
 // Carrier 1 with several options 162: their data joined in a buffer that has room for the area.
 fn read_within(area: &[u8], buffer: &mut [u8], out: &mut [u8]) -> Reading
-    requires { ⌜ (length (now area) ≤ length (now buffer)) × (length (now area) ≤ limit.input) × GatheredFrom (now area) Many ⌝ }
+    requires { ⌜ (length (now area) ≤ length (now buffer)) × (length (now area) ≤ limit.input) × Several (frame Dhcp4 (now area)) ⌝ }
     ensures { λ r. ⌜ Gives (readFramed Dhcp4 (frame Dhcp4 (now (area .entry))) (length (now (out .entry)))) (now (out .entry)) r (now (out .exit)) ⌝ }
 {
     match frames::join(area, buffer) {
@@ -255,44 +254,46 @@ fn read_within(area: &[u8], buffer: &mut [u8], out: &mut [u8]) -> Reading
 
 // The same in a local buffer, for an area of a usual message.
 fn read_few(area: &[u8], out: &mut [u8]) -> Reading
-    requires { ⌜ (length (now area) ≤ 4096) × GatheredFrom (now area) Many ⌝ }
+    requires { ⌜ (length (now area) ≤ 4096) × Several (frame Dhcp4 (now area)) ⌝ }
     ensures { λ r. ⌜ Gives (readFramed Dhcp4 (frame Dhcp4 (now (area .entry))) (length (now (out .entry)))) (now (out .entry)) r (now (out .exit)) ⌝ }
 {
     let mut buffer = [0u8; USUAL];
-    read_within(area, &mut buffer, out)
+    read_within(&area[..], &mut buffer, out)
 }
 
 // The same for an area of at most half the largest input.
 fn read_half(area: &[u8], out: &mut [u8]) -> Reading
-    requires { ⌜ (length (now area) ≤ 20480) × GatheredFrom (now area) Many ⌝ }
+    requires { ⌜ (length (now area) ≤ 20480) × Several (frame Dhcp4 (now area)) ⌝ }
     ensures { λ r. ⌜ Gives (readFramed Dhcp4 (frame Dhcp4 (now (area .entry))) (length (now (out .entry)))) (now (out .entry)) r (now (out .exit)) ⌝ }
 {
     let mut buffer = [0u8; HALF];
-    read_within(area, &mut buffer, out)
+    read_within(&area[..], &mut buffer, out)
 }
 
 // The same for any area.
 fn read_many(area: &[u8], out: &mut [u8]) -> Reading
-    requires { ⌜ (length (now area) ≤ limit.input) × GatheredFrom (now area) Many ⌝ }
+    requires { ⌜ (length (now area) ≤ limit.input) × Several (frame Dhcp4 (now area)) ⌝ }
     ensures { λ r. ⌜ Gives (readFramed Dhcp4 (frame Dhcp4 (now (area .entry))) (length (now (out .entry)))) (now (out .entry)) r (now (out .exit)) ⌝ }
 {
     let mut buffer = [0u8; Limit::INPUT];
-    read_within(area, &mut buffer, out)
+    read_within(&area[..], &mut buffer, out)
 }
 
-// Carrier 1: the data of all options 162 are one block.
+// Carrier 1: the data of all options 162 are one block. What stands before the first of several is left out, so that they are joined in
+// a buffer by what is left. (A function that calls itself is not inlined, nor are the buffers into it: they stay out of the frames of the
+// other carriers.)
 fn read_joined(area: &[u8], out: &mut [u8]) -> Reading
     requires { ⌜ length (now area) ≤ limit.input ⌝ }
     ensures { λ r. ⌜ Gives (readFramed Dhcp4 (frame Dhcp4 (now (area .entry))) (length (now (out .entry)))) (now (out .entry)) r (now (out .exit)) ⌝ }
 {
-    match frames::gather(area) {
+    match frames::gather(&area[..]) {
         Gathered::Broken => refused(Refusal::FRAMING),
         Gathered::Absent => {
             let none = order::empty();
             settle(
                 out,
                 Carrier::Dhcp4,
-                area,
+                &area[..],
                 none,
                 sheets::FRONT,
                 true,
@@ -303,14 +304,17 @@ fn read_joined(area: &[u8], out: &mut [u8]) -> Reading
             )
         }
         Gathered::One { start, end } => read_instances(&area[start..end], out),
-        Gathered::Many => {
+        Gathered::Many { from } => {
+            if 0 < from {
+                return read_joined(&area[from..], out);
+            }
             if area.len() <= USUAL {
-                return read_few(area, out);
+                return read_few(&area[..], out);
             }
             if area.len() <= HALF {
-                return read_half(area, out);
+                return read_half(&area[..], out);
             }
-            read_many(area, out)
+            read_many(&area[..], out)
         }
     }
 }

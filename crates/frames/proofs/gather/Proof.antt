@@ -17,10 +17,10 @@ use Rattle.frames.proofs.gather.Statement.{statement}
 use Rattle.frames.proofs.gather.Tie as tie
 
 abbrev Inv-loop : tie.InvT-loop
-Inv-loop area at₀ found₀ at found = Gathering area at found
+Inv-loop area at₀ from₀ found₀ at from found = Gathering area at from found
 
 abbrev μ-loop : tie.MeasureT-loop
-μ-loop area at₀ found₀ at found = length area - at
+μ-loop area at₀ from₀ found₀ at from found = length area - at
 
 -- in the arms of a block and of a skipped option: the step that was taken
 block : (c : tie.After-start Inv-loop μ-loop)
@@ -58,7 +58,7 @@ loop-less c = let m = step-block _ _ _ (block (c .before .before .before)) in om
 loop-again : tie.Need-loop-again Inv-loop μ-loop
 loop-again c =
     let k = c .before .before .before in
-    gathering-first (block k) (subst (Gathering _ _) (c .enum-told .given .1) (k .before .before .before .loop .inv))
+    gathering-first (block k) (subst (Gathering _ _ _) (c .enum-told .given .1) (k .before .before .before .loop .inv))
 
 enum-known-end : tie.Need-enum-known-end Inv-loop μ-loop
 enum-known-end c = search needs
