@@ -20,7 +20,7 @@ LAYERS = [
     ("decisions", [("judge", "21 to 28"), ("order", "by priority")]),
     ("octets of options", [("frames", "framing"), ("blocks", "fields"), ("layouts", "laid out"), ("pieces", "cut at 255")]),
     ("rules", [("names", "wire form"), ("texts", "text form"), ("addresses", "dropped"), ("svcparams", "26 to 28")]),
-    ("ground", [("octets", "numbers, buffers"), ("moves", "within a buffer"), ("numbers", "document 01"), ("carriers", "five carriers")]),
+    ("ground", [("octets", "numbers, buffers"), ("numbers", "document 01"), ("carriers", "five carriers")]),
 ]
 
 # K1: parts of the area and of the sheet, in octets; a part with the same colour is carried over.

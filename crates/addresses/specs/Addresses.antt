@@ -22,6 +22,10 @@ unusable4 x = cond (eqb x 127) true (cond (ltb x 224) false (ltb x 240))
 unfoldable pub unusable16 : List ℕ → Bool
 unusable16 a = cond (eqb (getD a 0 0) 255) true (cond (eqb (getD a 15 0) 1) (allZero (take 15 a)) false)
 
+-- the first octet of an IPv6 address that is kept whatever follows: neither that of ff00::/8 nor that of ::1
+unfoldable pub plain16 : ℕ → Bool
+plain16 x = cond (eqb x 0) false (cond (eqb x 255) false true)
+
 -- an address of w octets is dropped when read
 unfoldable pub unusable : ℕ → List ℕ → Bool
 unusable w a = cond (eqb w 4) (unusable4 (getD a 0 0)) (unusable16 a)

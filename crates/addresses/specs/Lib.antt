@@ -1,5 +1,6 @@
 pub mod Addresses
 pub mod AddressesLaws
+pub mod CountLaws
 pub mod Ranges
 pub mod RangesLaws
 pub mod Examples

@@ -6,7 +6,7 @@ ghost use Prim.Native.Nat.{_+_, _≤_, _<_};
 ghost use lib.ListN.{length};
 ghost use Rattle.octets.specs.Over.{Wrote};
 ghost use Rattle.octets.specs.Lists.{flat};
-ghost use Rattle.addresses.specs.Addresses.{Width, unusable, unusable4, unusable16, listOf, keptOf, hasOf, anyOf, noneOf};
+ghost use Rattle.addresses.specs.Addresses.{Width, unusable, unusable4, unusable16, plain16, listOf, keptOf, hasOf, anyOf, noneOf};
 
 // 224.0.0.0/4 (RFC 5771 §3) and 127.0.0.0/8 (RFC 1122 §3.2.1.3), by the first octet.
 fn unusable4(first: u8) -> bool
@@ -64,15 +64,14 @@ fn has(w: usize, s: &[u8], wanted: bool) -> bool
     false
 }
 
-// Whether the list holds an address that reading would drop. Addresses of 4 octets are counted: the compiler takes many of them at once.
+// Whether the list holds an address that reading would drop. Addresses are counted where they are few enough: the count is faster than
+// a search that leaves at the first.
 pub fn any_unusable(w: usize, s: &[u8]) -> bool
     requires { ⌜ Width w ⌝ }
     ensures { λ r. ⌜ r ≡ anyOf w (listOf w (now (s .entry))) ⌝ }
 {
-    if w == 4 {
-        if s.len() < 65536 {
-            return kept_count(w, s) < s.len() / w;
-        }
+    if s.len() < 65536 {
+        return kept_count(w, s) < s.len() / w;
     }
     has(w, s, true)
 }
@@ -85,8 +84,15 @@ pub fn none_kept(w: usize, s: &[u8]) -> bool
     !has(w, s, false)
 }
 
-// How many addresses are kept. A 16-bit count: the compiler takes many addresses at once.
-pub fn kept_count(w: usize, s: &[u8]) -> usize
+// Whether an IPv6 address is kept by its first octet alone: it begins neither as ff00::/8 nor as ::1.
+fn plain16(first: u8) -> bool
+    ensures { λ r. ⌜ r ≡ plain16 first ⌝ }
+{
+    first != 0 && first != 255
+}
+
+// How many addresses are kept, one by one. A 16-bit count: the compiler takes many addresses of 4 octets at once.
+fn count_each(w: usize, s: &[u8]) -> usize
     requires { ⌜ Width w ⌝ }
     requires { ⌜ length (now s) < 65536 ⌝ }
     ensures { λ r. ⌜ r ≡ length (keptOf w (listOf w (now (s .entry)))) ⌝ }
@@ -102,6 +108,39 @@ pub fn kept_count(w: usize, s: &[u8]) -> usize
         at = next;
     }
     n as usize
+}
+
+// How many IPv6 addresses are kept: four at a time, mostly by their first octets alone.
+fn count_fours(s: &[u8]) -> usize
+    requires { ⌜ length (now s) < 65536 ⌝ }
+    ensures { λ r. ⌜ r ≡ length (keptOf 16 (listOf 16 (now (s .entry)))) ⌝ }
+    ensures { λ r. ⌜ r ≤ length (now (s .entry)) ⌝ }
+{
+    let mut n: usize = 0;
+    let mut at: usize = 0;
+    while 64 <= s.len() - at {
+        let next = at + 64;
+        if plain16(s[at]) & plain16(s[at + 16]) & plain16(s[at + 32]) & plain16(s[at + 48]) {
+            n += 4;
+        } else {
+            n += count_each(16, &s[at..next]);
+        }
+        at = next;
+    }
+    n + count_each(16, &s[at..])
+}
+
+// How many addresses are kept.
+pub fn kept_count(w: usize, s: &[u8]) -> usize
+    requires { ⌜ Width w ⌝ }
+    requires { ⌜ length (now s) < 65536 ⌝ }
+    ensures { λ r. ⌜ r ≡ length (keptOf w (listOf w (now (s .entry)))) ⌝ }
+    ensures { λ r. ⌜ r ≤ length (now (s .entry)) ⌝ }
+{
+    if w == 4 {
+        return count_each(w, s);
+    }
+    count_fours(s)
 }
 
 // Writes the addresses that are kept at `o`, in their order, and returns the index after them.

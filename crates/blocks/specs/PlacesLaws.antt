@@ -9,9 +9,10 @@ use native.Mathlib.Omega.{arith}
 use borrow.Author.Tests.{le-ltb, lt-ltb, eq-eqb, ne-eqb}
 use lib.Dec.{ltb}
 use lib.ListN.{length, take, drop, getD, length-drop}
-use lib.Seq.{drop-drop, drop-cons, take-all}
+use lib.Seq.{drop-drop, drop-cons}
 use Rattle.octets.specs.Numbers.{val, at16, at32, allZero}
 use Rattle.octets.specs.NumbersLaws.{at16-val, at32-val}
+use Rattle.octets.specs.ListsLaws.{take-rest}
 use Rattle.octets.specs.Fields.{number, counted}
 use Rattle.numbers.specs.Fault as fault
 use Rattle.carriers.specs.declared.Carrier.{Carrier}
@@ -22,9 +23,6 @@ use Rattle.blocks.specs.declared.Places.the-variants.{Bad, NameOnly, Ful
 use Rattle.blocks.specs.Block.{Parsed, fields, whole, short, opening, afterName, isPadding, padded, afterNamePadded, attribute, parse}
 use Rattle.blocks.specs.Together.{part-is, part-two, part-three}
 use Rattle.blocks.specs.Places.{told, Inside, nameAt, Numbers, Ranged, Named, numberAt, pastName}
-
-take-rest : (k : ℕ) (b : List ℕ) → take (length b - k) (drop k b) ≡ drop k b
-take-rest k b = take-all (length b - k) (drop k b) (rw length-drop (omega arith))
 
 number-16 : (b : List ℕ) (i : ℕ) → i + 1 < length b → at16 b i ≡ numberAt 2 i b
 unfolding numberAt

@@ -18,7 +18,7 @@ Several fault = Unit {0}
 Several (framed bs) = 2 ≤ length bs
 
 -- what is told of the own options of an area that is framed to f: it cannot be framed; there is none; there is one alone, and where its body
--- is; there are several, with none before `from`, and then nothing is told of what follows the second
+-- is; or the area is framed as its part from `from` on is, and has several if it can be framed, which is left open
 abbrev pub Tells : List ℕ → Framed → Gathered → Type 0
 Tells area f Broken = f ≡ fault
 Tells area f Absent = f ≡ framed []
@@ -28,7 +28,8 @@ Tells area f (Many from) = (from ≤ length area) × (f ≡ frame Dhcp4 (drop fr
 abbrev pub GatheredFrom : List ℕ → Gathered → Type 0
 GatheredFrom area r = Tells area (frame Dhcp4 area) r
 
--- the bodies of a framed area, one after another, at the front of a buffer, and how many octets they are; or that it cannot be framed
+-- the bodies of a framed area, one after another, at the front of a buffer, and how many octets they are; or that it cannot be framed, and
+-- then nothing is said of the buffer, which is its owner's to forget
 abbrev pub Joins : Framed → List ℕ → Joined → List ℕ → Type 0
 Joins fault out Joined.Broken out′ = Unit {0}
 Joins fault out (Joined.Whole n) out′ = ⊥

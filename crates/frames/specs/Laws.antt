@@ -6,9 +6,10 @@ use Prim.Native.Nat.{ℕ, zero, suc, _+_, _-_, _%_, _≤_, _<_}
 use native.Mathlib.Nat.{le-of-suc-le-suc, not-suc-le-zero, zero-add, suc-add}
 use native.Mathlib.Omega.{arith}
 use lib.ListN.{length, take, drop, length-drop}
-use lib.Seq.{take-all, drop-length, take-nil, drop-drop}
+use lib.Seq.{drop-length, take-nil, drop-drop}
 use lib.Dec.{ltb, leb}
 use borrow.Author.Tests.{lt-ltb, le-ltb, le-leb, lt-leb, eq-eqb, ne-eqb, ltb-true, ltb-false, leb-true, leb-false}
+use Rattle.octets.specs.ListsLaws.{take-rest}
 use Rattle.carriers.specs.declared.Carrier.{Carrier}
 use Rattle.carriers.specs.declared.Carrier.the-variants.{Router}
 use Rattle.carriers.specs.Carriers.{headerOf, octets}
@@ -97,20 +98,17 @@ option-fits c left at own n h = simp (le-leb _ _ h)
 pub option-over : (c : Carrier) (left at : ℕ) (own : Bool) (n : ℕ) → left < n → headAt c left at (Head.Option own (octets n)) ≡ Step.Fault
 option-over c left at own n h = simp (lt-leb _ _ h)
 
-rest-all : (s : List ℕ) (at : ℕ) → take (length s - at) (drop at s) ≡ drop at s
-rest-all s at = take-all (length s - at) (drop at s) (simp length-drop (omega arith))
-
 -- the same of a header that was read from the rest of the area
 pub step-is : (c : Carrier) (s : List ℕ) (at : ℕ) {z : Head} {r : Step} → at < length s → z ≡ firstOf c (take (length s - at) (drop at s))
     → headAt c (length s - at) at z ≡ r → r ≡ stepAt c s at
 step-is c s at h e q =
-    let all = rest-all s at in
+    let all = take-rest at s in
     sym (step-first c s at h ∙ ap (λ (l : List ℕ). headAt c (length s - at) at (firstOf c l)) (sym all) ∙ ap (headAt c (length s - at) at) (sym e) ∙ q)
 
 -- an own option's header is all there, so its body begins inside the area
 pub own-room : (c : Carrier) (s : List ℕ) (at : ℕ) {n : ℕ} → at ≤ length s → Head.Option true (octets n) ≡ firstOf c (take (length s - at) (drop at s))
     → at + headerOf c ≤ length s
-own-room c s at h e = omega (arith, first-own c (take (length s - at) (drop at s)) (sym e) .room, ap length (rest-all s at), length-drop at s)
+own-room c s at h e = omega (arith, first-own c (take (length s - at) (drop at s)) (sym e) .room, ap length (take-rest at s), length-drop at s)
 
 -- ---- what a step says of the walk from there
 

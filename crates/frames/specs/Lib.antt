@@ -1,8 +1,10 @@
 pub mod Frame
 pub mod Step
 pub mod Gather
+pub mod Skip
 pub mod HeadLaws
 pub mod Laws
+pub mod SkipLaws
 pub mod Walk
 pub mod WalkLaws
 pub mod GatherLaws

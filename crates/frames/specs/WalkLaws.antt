@@ -10,8 +10,10 @@ use Rattle.carriers.specs.declared.Carrier.{Carrier}
 use Rattle.frames.specs.declared.Step.{Step}
 use Rattle.frames.specs.Frame.{Framed, fault, framed, onto, frame}
 use Rattle.frames.specs.Step.{part, stepAt}
+use Rattle.frames.specs.Skip.{Skips}
 use Rattle.frames.specs.Walk.{prepend, Walked}
-use Rattle.frames.specs.Laws.{step-end, step-fault, step-skipped, step-block}
+use Rattle.frames.specs.Laws.{step-end, step-fault, step-block}
+use Rattle.frames.specs.SkipLaws.{skips-step}
 
 pub prepend-none : (f : Framed) → prepend [] f ≡ f
 prepend-none fault = refl
@@ -32,8 +34,11 @@ module _ (c : Carrier) (area : List ℕ) where
         let m = step-block c area at e in
         record { within = m .2; frames = w .frames ∙ ap (prepend bs) (m .3) ∙ prepend-onto bs (part start end area) (frame c (drop end area)) }
 
+    pub walked-skips : {to : ℕ} → Skips c area at to → Walked c area to bs
+    walked-skips s = record { within = s .within; frames = w .frames ∙ ap (prepend bs) (s .alike) }
+
     pub walked-skipped : {end : ℕ} → stepAt c area at ≡ Step.Skipped end → Walked c area end bs
-    walked-skipped e = let m = step-skipped c area at e in record { within = m .1; frames = w .frames ∙ ap (prepend bs) (m .2) }
+    walked-skipped e = walked-skips (skips-step c area at e)
 
     pub walked-end : stepAt c area at ≡ Step.End → frame c area ≡ framed bs
     walked-end e = w .frames ∙ ap (prepend bs) (step-end c area at e) ∙ ap framed (append-nil bs)

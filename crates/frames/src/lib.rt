@@ -8,6 +8,7 @@ ghost use Rattle.carriers.specs.declared.Carrier.the-variants.{Dhcp4};
 ghost use Rattle.carriers.specs.Carriers.{headerOf};
 ghost use Rattle.frames.specs.Frame.{codeIn, sizeIn, headIn, firstOf, frame};
 ghost use Rattle.frames.specs.Step.{stepAt};
+ghost use Rattle.frames.specs.Skip.{Wide, markedCode, Skips};
 ghost use Rattle.frames.specs.Gather.{GatheredFrom, Joins, AtMost};
 use carriers::Carrier;
 use carriers::Eights;
@@ -17,6 +18,9 @@ use carriers::Octets;
 const PAD: u8 = 0;
 
 const END: u8 = 255;
+
+// The reserved bit of an IKEv2 attribute's type (RFC 7296 §3.15.1).
+const RESERVED: usize = 32768;
 
 // What the header that stands first says: nothing that can be framed, the area's end, or an option of `size` octets, its header
 // counted, which is the carrier's own or not.
@@ -35,8 +39,8 @@ pub enum Step {
     Fault,
 }
 
-// The options 162 of an area: it cannot be framed, there is none, one with its body from `start` up to `end`, or several, the first of
-// them at `from`. With the second the walk ends, and the area may still be one that cannot be framed.
+// The options 162 of an area: it cannot be framed, there is none, one with its body from `start` up to `end`, or several, with nothing to join
+// before `from`. With the second the walk ends, and the area may still be one that cannot be framed.
 pub enum Gathered {
     Broken,
     Absent,
@@ -147,6 +151,73 @@ pub fn next_block(c: Carrier, area: &[u8], at: usize) -> Step
                 Step::Fault
             }
         }
+    }
+}
+
+// The carrier's code with the reserved bit of an IKEv2 attribute set, which is ignored when read (RFC 7296 §3.15.1); where there is no such
+// bit, the code itself.
+fn marked_code(c: Carrier) -> usize
+    requires { ⌜ Wide c ⌝ }
+    ensures { λ r. ⌜ r ≡ markedCode c ⌝ }
+{
+    match c {
+        Carrier::Dhcp4 => Carrier::DHCP4,
+        Carrier::Dhcp6 => Carrier::DHCP6,
+        Carrier::Router => Carrier::ROUTER,
+        Carrier::Ike4 => RESERVED + Carrier::IKE4,
+        Carrier::Ike6 => RESERVED + Carrier::IKE6,
+    }
+}
+
+// Passes over foreign options with 16-bit lengths. A length below 256 is its lower octet alone, so that the walk does not wait for the two
+// to be put together: the next header is found sooner.
+fn skip_wide(c: Carrier, area: &[u8], from: usize) -> usize
+    requires { ⌜ Wide c × (from ≤ length (now area)) ⌝ }
+    ensures { λ r. ⌜ Skips c (now (area .entry)) from r ⌝ }
+{
+    let code = c.code();
+    let marked = marked_code(c);
+    let mut at = from;
+    loop {
+        if area.len() - at < 4 {
+            return at;
+        }
+        let first = octets::get16(area, at);
+        if first == code {
+            return at;
+        }
+        if first == marked {
+            return at;
+        }
+        let start = at + 4;
+        let upper = area[at + 2];
+        let lower = octets::wide(area[at + 3]);
+        if upper == 0 {
+            if area.len() - start < lower {
+                return at;
+            }
+            at = start + lower;
+        } else {
+            let body = octets::wide(upper) * 256 + lower;
+            if area.len() - start < body {
+                return at;
+            }
+            at = start + body;
+        }
+    }
+}
+
+// Where the walk may go on from an option at `at`: whole foreign options are passed over, in the carriers with 16-bit lengths.
+pub fn skip_foreign(c: Carrier, area: &[u8], at: usize) -> usize
+    requires { ⌜ at ≤ length (now area) ⌝ }
+    ensures { λ r. ⌜ Skips c (now (area .entry)) at r ⌝ }
+{
+    match c {
+        Carrier::Dhcp4 => at,
+        Carrier::Dhcp6 => skip_wide(c, area, at),
+        Carrier::Router => at,
+        Carrier::Ike4 => skip_wide(c, area, at),
+        Carrier::Ike6 => skip_wide(c, area, at),
     }
 }
 

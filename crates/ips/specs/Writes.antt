@@ -7,7 +7,7 @@ use native.Mathlib.Numerals.{add-one}
 use native.Mathlib.Omega.{arith}
 use borrow.Author.Tests.{lt-ltb, le-ltb, eq-eqb, ne-eqb}
 use lib.Dec.{eqb}
-use lib.ListN.{length, getD, take, drop, length-append, length-drop, take-append-drop, drop-of-length-le}
+use lib.ListN.{length, getD, take, drop, length-append, take-append-drop, drop-of-length-le}
 use lib.Seq.{drop-cons, take-suc, take-all}
 use Rattle.octets.specs.Numbers.{at16, allZero}
 use Rattle.octets.specs.Over.{Wrote}
@@ -109,10 +109,6 @@ pub no-fields : (a : List ℕ) → length a ≡ 16 → drop 8 (fieldsOf a) ≡ [
 no-fields a e = drop-of-length-le (fieldsOf a) {i = 8} (omega (arith, fields-length a))
 
 -- ---- fields
-
--- a part that ends where the whole does
-pub part-to-end : (n : ℕ) (a : List ℕ) → take (length a - n) (drop n a) ≡ drop n a
-part-to-end n a = take-all (length a - n) (drop n a) (omega (arith, length-drop n a))
 
 pub fields-of-take : (k : ℕ) (a : List ℕ) → fieldsOf (take (2 * k) a) ≡ take k (fieldsOf a)
 unfolding fieldsOf

@@ -1,6 +1,7 @@
 -- What the walk answers at a place of the first n octets of a buffer, one lemma for each way through a step, in the form in which the
 -- code's returns ask it. Assumes nothing.
 use mathlib.Core.Path.{_≡_, sym, ap, _∙_}
+use mathlib.Core.Logic.{⊎-elim}
 use mathlib.Core.List.{List}
 use mathlib.Core.Bool.{Bool, true, false, not}
 use Prim.Native.Nat.{ℕ, _+_, _-_, _≤_, _<_}
@@ -10,7 +11,7 @@ use lib.ListN.{length, getD, take, drop}
 use lib.Seq.{length-take-le, getD-take}
 use borrow.Author.Tests.{ltb-true}
 use Rattle.names.specs.Names.{alnum}
-use Rattle.names.specs.Wire.{State, letter, hyphen, first, stop, root, go, step, ended, inside, lengthOctet, hyphenFits, labelFits, past, placed, answerIn}
+use Rattle.names.specs.Wire.{State, letter, hyphen, first, stop, root, go, step, ended, inside, lengthOctet, hyphenFits, labelFits, past, placed, answerIn, Lesser}
 use Rattle.names.specs.Cases.{by-both}
 use Rattle.names.specs.Laws.{walk-end, walk-stop, walk-go, walk-root, ended-good, ended-bad, inside-letter, inside-hyphen, inside-other, first-letter, first-other, in-label, at-length, length-empty, length-root, length-unfit, length-go}
 
@@ -41,45 +42,53 @@ module _ (b : List ℕ) (n : ℕ) (fits : n ≤ length b) (at : ℕ) (st : State
     unfolding answerIn
     roots e = ap placed (walk-root (take n b) at st in-held (rw same e))
 
--- in a label that ends before the place `end`
-module _ (b : List ℕ) (n : ℕ) (fits : n ≤ length b) (at end : ℕ) (h : at < n) where
+-- in a label that ends before the place `end`; the code's `stop` is `limit` here, the smaller of `end` and n
+module _ (b : List ℕ) (n : ℕ) (fits : n ≤ length b) (at end limit : ℕ) (l : Lesser end n limit) where
   abbrev x : ℕ
   x = getD b at 0
 
   abbrev left : ℕ
   left = end - at
 
-  one-less : end - (at + 1) ≡ left - 1
-  one-less = omega arith
+  -- before the limit
+  module _ (i : at ≤ limit) (z : at ≡ limit → ⊥) where
+    in-name : at < n
+    in-name = omega arith
 
-  -- after a hyphen
-  pub hyphen-letter : {r : ℕ} → alnum x ≡ true → r ≡ answerIn b n (letter (end - (at + 1))) (at + 1) → r ≡ answerIn b n (hyphen left) at
-  hyphen-letter e g = rw one-less at g ∙ sym (goes b n fits at (hyphen left) h (inside-letter left x e))
+    one-less : end - (at + 1) ≡ left - 1
+    one-less = omega arith
 
-  pub hyphen-hyphen : {r : ℕ} → alnum x ≡ false → hyphenFits left x ≡ true → r ≡ answerIn b n (hyphen (end - (at + 1))) (at + 1) → r ≡ answerIn b n (hyphen left) at
-  hyphen-hyphen e q g = rw one-less at g ∙ sym (goes b n fits at (hyphen left) h (inside-hyphen left x e q))
+    -- after a hyphen
+    pub hyphen-letter : {r : ℕ} → alnum x ≡ true → r ≡ answerIn b n (letter (end - (at + 1))) (at + 1) → r ≡ answerIn b n (hyphen left) at
+    hyphen-letter e g = rw one-less at g ∙ sym (goes b n fits at (hyphen left) in-name (inside-letter left x e))
 
-  pub hyphen-other : alnum x ≡ false → hyphenFits left x ≡ false → at ≡ answerIn b n (hyphen left) at
-  hyphen-other e q = stops b n fits at (hyphen left) h (inside-other left x e q)
+    pub hyphen-hyphen : {r : ℕ} → alnum x ≡ false → hyphenFits left x ≡ true → r ≡ answerIn b n (hyphen (end - (at + 1))) (at + 1) → r ≡ answerIn b n (hyphen left) at
+    hyphen-hyphen e q g = rw one-less at g ∙ sym (goes b n fits at (hyphen left) in-name (inside-hyphen left x e q))
 
-  -- after a letter or a digit, in the label
-  module _ (i : at ≤ end) (z : at ≡ end → ⊥) where
+    pub hyphen-other : alnum x ≡ false → hyphenFits left x ≡ false → at ≡ answerIn b n (hyphen left) at
+    hyphen-other e q = stops b n fits at (hyphen left) in-name (inside-other left x e q)
+
+    -- after a letter or a digit
     here : step (letter left) at x ≡ inside left x
-    here = in-label left at x (λ e. z (omega arith))
+    here = in-label left at x (λ e. omega arith)
 
     pub letter-letter : {r : ℕ} → alnum x ≡ true → r ≡ answerIn b n (letter (end - (at + 1))) (at + 1) → r ≡ answerIn b n (letter left) at
-    letter-letter e g = rw one-less at g ∙ sym (goes b n fits at (letter left) h (here ∙ inside-letter left x e))
+    letter-letter e g = rw one-less at g ∙ sym (goes b n fits at (letter left) in-name (here ∙ inside-letter left x e))
 
     pub letter-hyphen : {r : ℕ} → alnum x ≡ false → hyphenFits left x ≡ true → r ≡ answerIn b n (hyphen (end - (at + 1))) (at + 1) → r ≡ answerIn b n (letter left) at
-    letter-hyphen e q g = rw one-less at g ∙ sym (goes b n fits at (letter left) h (here ∙ inside-hyphen left x e q))
+    letter-hyphen e q g = rw one-less at g ∙ sym (goes b n fits at (letter left) in-name (here ∙ inside-hyphen left x e q))
 
     pub letter-other : alnum x ≡ false → hyphenFits left x ≡ false → at ≡ answerIn b n (letter left) at
-    letter-other e q = stops b n fits at (letter left) h (here ∙ inside-other left x e q)
+    letter-other e q = stops b n fits at (letter left) in-name (here ∙ inside-other left x e q)
+
+  -- at the limit, after a hyphen: an octet of the label is to come, so that the n octets end there
+  pub hyphen-cut : at ≡ limit → at < end → at ≡ answerIn b n (hyphen left) at
+  hyphen-cut q i = cut-short b n fits at (hyphen left) (⊎-elim (λ e. omega arith) (λ e. omega arith) (l .2))
 
   -- at the label's end
-  module _ (z : at ≡ end) where
+  module _ (q : at ≡ limit) (h : at < n) where
     there : step (letter left) at x ≡ lengthOctet at x
-    there = at-length left at x (omega arith)
+    there = at-length left at x (⊎-elim (λ e. omega arith) (λ e. omega arith) (l .2))
 
     -- the root octet
     pub root-first : x ≡ 0 → at ≡ 0 → at ≡ answerIn b n (letter left) at
@@ -89,10 +98,10 @@ module _ (b : List ℕ) (n : ℕ) (fits : n ≤ length b) (at end : ℕ) (h : at
     rooted e f = roots b n fits at (letter left) h (there ∙ length-root at x e f)
 
     pub root-more : x ≡ 0 → (at ≡ 0 → ⊥) → at + 1 < n → at + 1 ≡ answerIn b n (letter left) at
-    root-more e f m = let l = length-take-le n b fits in sym (rooted e f ∙ ap placed (ended-bad (take n b) (at + 1) (omega arith)))
+    root-more e f m = let k = length-take-le n b fits in sym (rooted e f ∙ ap placed (ended-bad (take n b) (at + 1) (omega arith)))
 
     pub root-last : x ≡ 0 → (at ≡ 0 → ⊥) → n ≤ at + 1 → past ≡ answerIn b n (letter left) at
-    root-last e f m = let l = length-take-le n b fits in sym (rooted e f ∙ ap placed (ended-good (take n b) (at + 1) (omega arith)))
+    root-last e f m = let k = length-take-le n b fits in sym (rooted e f ∙ ap placed (ended-good (take n b) (at + 1) (omega arith)))
 
     -- a length octet, which the code holds as the number `size`
     module _ (size : ℕ) (w : size ≡ x) (e : x ≡ 0 → ⊥) where

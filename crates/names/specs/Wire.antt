@@ -1,5 +1,7 @@
 -- The check of a name in wire form, octet by octet. Assumes nothing: these are definitions.
-use Prim.Native.Nat.{ℕ, _+_, _-_}
+use mathlib.Core.Path.{_≡_}
+use mathlib.Core.Logic.{_⊎_}
+use Prim.Native.Nat.{ℕ, _+_, _-_, _≤_}
 use mathlib.Core.List.{List, [], _∷_}
 use mathlib.Core.Bool.{Bool, cond, _&&_}
 use lib.Dec.{leb, ltb, eqb}
@@ -83,3 +85,7 @@ named k = cond (eqb k past) Good (Bad k)
 -- the walk over the first n octets of a buffer, from the place `at` on
 unfoldable pub answerIn : List ℕ → ℕ → State → ℕ → ℕ
 answerIn b n st at = placed (walk st at (drop at (take n b)))
+
+-- r is the smaller of two numbers
+abbrev pub Lesser : ℕ → ℕ → ℕ → Type 0
+Lesser a b r = (r ≤ a) × (r ≤ b) × ((r ≡ a) ⊎ (r ≡ b))

@@ -1,17 +1,12 @@
 -- What a call that writes at the front of a buffer, or refuses, answers and leaves (00, demand 1; 01, "A refusal returns zero for
 -- every other number and writes nothing. After a result, output past its length is unchanged"). Assumes nothing: these are definitions.
 use mathlib.Core.Path.{_≡_}
-use mathlib.Core.Bool.{Bool, cond}
-use mathlib.Core.List.{List, [], _∷_}
+use mathlib.Core.Bool.{cond}
+use mathlib.Core.List.{List}
 use Prim.Native.Nat.{ℕ}
 use lib.Dec.{eqb}
 use lib.ListN.{length}
 use Rattle.octets.specs.Over.{over}
-
--- the number of the first test that holds, or 0
-abbrev pub first : List (Bool × ℕ) → ℕ
-first [] = 0
-first (t ∷ ts) = cond (t .0) (t .1) (first ts)
 
 -- with a refusal's number k, or 0, and the octets bs of the result: how many are written, and what the buffer then holds
 unfoldable pub count : ℕ → List ℕ → ℕ

@@ -1,12 +1,17 @@
--- The laws of `All` and `flat`. Assumes nothing.
+-- The laws of `All` and `flat`, and of the rest of a list. Assumes nothing.
 use mathlib.Core.Path.{_≡_, refl, sym, ap, _∙_}
 use mathlib.Core.List.{List, [], _∷_, _++_, append-assoc}
-use Prim.Native.Nat.{ℕ, zero, suc, _<_}
+use Prim.Native.Nat.{ℕ, zero, suc, _-_, _<_}
 use native.Mathlib.Omega.{arith}
-use lib.ListN.{length, getD}
+use lib.ListN.{length, getD, take, drop, length-drop}
+use lib.Seq.{take-all}
 use Rattle.octets.specs.Lists.{All, flat}
 
 module _ {A : Type 0} where
+  -- a part that goes to the end
+  pub take-rest : (k : ℕ) (l : List A) → take (length l - k) (drop k l) ≡ drop k l
+  take-rest k l = take-all (length l - k) (drop k l) (rw length-drop (omega arith))
+
   pub flat-append : (ls ms : List (List A)) → flat (ls ++ ms) ≡ flat ls ++ flat ms
   flat-append [] ms = refl
   flat-append (l ∷ ls) ms = ap (λ (m : List A). l ++ m) (flat-append ls ms) ∙ sym (append-assoc l (flat ls) (flat ms))

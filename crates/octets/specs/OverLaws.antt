@@ -1,12 +1,12 @@
 -- The laws of octets laid over a list, and how writes compose. Assumes nothing.
-use mathlib.Core.Path.{_≡_, sym, ap, _∙_}
+use mathlib.Core.Path.{_≡_, sym, ap, subst, _∙_}
 use mathlib.Core.List.{List, [], _∷_, _++_, append-assoc, append-nil}
-use Prim.Native.Nat.{ℕ, suc, _+_, _≤_, _<_}
+use Prim.Native.Nat.{ℕ, suc, _+_, _-_, _≤_, _<_}
 use native.Mathlib.Nat.{add-zero, add-assoc}
 use native.Mathlib.Numerals.{add-one}
 use native.Mathlib.Omega.{arith}
 use lib.ListN.{length, getD, take, drop, set, length-append, length-take, length-drop, take-append-drop}
-use lib.Seq.{take-append-le, take-take, take-suc, set-split, take-at, drop-at, drop-drop, length-take-le}
+use lib.Seq.{take-append-le, take-add, take-take, take-suc, set-split, take-at, drop-at, drop-drop, length-take-le}
 use Rattle.octets.specs.Over.{over, Wrote}
 
 -- nothing laid over a list leaves it
@@ -101,3 +101,63 @@ before {at} {m} {r} {r′} {a} {b} {l} {l′} {l″} e w v =
       next = simp length-append (omega (arith, w .next));
       laid = v .laid ∙ ap (λ (x : List ℕ). over at a x) (w .laid ∙ ap (λ (n : ℕ). over n b l) e) ∙ over-before at a b l room;
     }
+
+-- what stands behind octets that are laid over others is as before
+pub over-behind : (at k : ℕ) (bs l : List ℕ) → at + length bs ≤ length l → at + length bs ≤ k → drop k (over at bs l) ≡ drop k l
+unfolding over
+over-behind at k bs l h e =
+    let n : ℕ = at + length bs in
+    let split : n + (k - n) ≡ k = omega arith in
+    let back : (m : List ℕ) → drop (k - n) (drop n m) ≡ drop k m = λ m. drop-drop (k - n) n m ∙ ap (λ (i : ℕ). drop i m) split in
+    sym (back (take at l ++ bs ++ drop n l)) ∙ ap (λ (m : List ℕ). drop (k - n) m) (drop-at (take at l ++ bs) (drop n l) n (head-length at bs l h)) ∙ back l
+
+-- what is laid over as much or less from the same index hides it
+over-cover : (at : ℕ) (a b l : List ℕ) → length a ≤ length b → at + length b ≤ length l → over at b (over at a l) ≡ over at b l
+unfolding over
+over-cover at a b l h f =
+    let whole : take at l ++ a ++ drop (at + length a) l ≡ take at l ++ (a ++ drop (at + length a) l) = append-assoc (take at l) a (drop (at + length a) l) in
+    let front : take at (take at l ++ a ++ drop (at + length a) l) ≡ take at l =
+    ap (λ (x : List ℕ). take at x) whole ∙ take-at (take at l) (a ++ drop (at + length a) l) at (length-take-le at l (omega arith)) in
+    let back : drop (at + length b) (take at l ++ a ++ drop (at + length a) l) ≡ drop (at + length b) l = over-behind at (at + length b) a l (omega arith) (omega arith) in
+    rw (front, back)
+
+-- what is laid from the k-th octet of a on, to the end of a or farther, leaves the first k of a
+over-again : (at k : ℕ) (a b l : List ℕ) → k ≤ length a → length a ≤ k + length b → at + k + length b ≤ length l
+    → over (at + k) b (over at a l) ≡ over at (take k a ++ b) l
+over-again at k a b l h e f =
+    let size : length (take k a) ≡ k = length-take-le k a h in
+    let rest : length (drop k a) ≡ length a - k = length-drop k a in
+    let split : over at a l ≡ over (at + k) (drop k a) (over at (take k a) l) =
+    ap (λ (x : List ℕ). over at x l) (sym (take-append-drop k a)) ∙ sym (over-over at (take k a) (drop k a) l (omega arith))
+    ∙ ap (λ (j : ℕ). over (at + j) (drop k a) (over at (take k a) l)) size in
+    let long : length (over at (take k a) l) ≡ length l = over-length at (take k a) l (omega arith) in
+    ap (λ (x : List ℕ). over (at + k) b x) split
+    ∙ over-cover (at + k) (drop k a) b (over at (take k a) l) (omega arith) (omega arith)
+    ∙ ap (λ (j : ℕ). over (at + j) b (over at (take k a) l)) (sym size)
+    ∙ over-over at (take k a) b l (omega arith)
+
+-- the first i octets of s are written, and then those from the k-th on: where k is at most i, that is the whole of s, though some are written twice
+pub reaching-back : {at r m r′ : ℕ} (i k : ℕ) (s : List ℕ) {l l′ l″ : List ℕ} → k ≤ i → i ≤ length s → m ≡ at + k → Wrote at (take i s) l r l′
+    → Wrote m (drop k s) l′ r′ l″ → Wrote at s l r′ l″
+reaching-back {at} {r} {m} {r′} i k s {l} {l′} {l″} h e q w v =
+    let first : length (take i s) ≡ i = length-take-le i s e in
+    let last : length (drop k s) ≡ length s - k = length-drop k s in
+    let same : length l′ ≡ length l = ap length (w .laid) ∙ over-length at (take i s) l (w .room) in
+    let room : at + k + length (drop k s) ≤ length l = omega (arith, v .room) in
+    let all : take k (take i s) ++ drop k s ≡ s = ap (λ (x : List ℕ). x ++ drop k s) (take-take k i s h) ∙ take-append-drop k s in
+    record {
+      room = omega arith;
+      next = omega (arith, v .next);
+      laid = v .laid ∙ ap (λ (n : ℕ). over n (drop k s) l′) q ∙ ap (λ (x : List ℕ). over (at + k) (drop k s) x) (w .laid)
+          ∙ over-again at k (take i s) (drop k s) l (omega arith) (omega arith) room ∙ ap (λ (x : List ℕ). over at x l) all;
+    }
+
+-- the first i octets of s are written, and then the n after them
+pub taking-more : {at r r′ : ℕ} (i n : ℕ) (s : List ℕ) {l l′ l″ : List ℕ} → Wrote at (take i s) l r l′ → Wrote r (take n (drop i s)) l′ r′ l″
+    → Wrote at (take (i + n) s) l r′ l″
+taking-more {at} {r} {r′} i n s {l} {l′} {l″} w v = subst (λ (x : List ℕ). Wrote at x l r′ l″) (sym (take-add i n s)) (then w v)
+
+-- octets laid at the front of a buffer are the front of it
+pub wrote-front : {n : ℕ} {bs l l′ : List ℕ} → Wrote 0 bs l n l′ → take n l′ ≡ bs
+unfolding over
+wrote-front {n} {bs} {l} {l′} w = ap (λ (x : List ℕ). take n x) (w .laid) ∙ take-at bs (drop (0 + length bs) l) n (omega (arith, w .next))

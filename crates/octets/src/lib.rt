@@ -4,9 +4,18 @@
 // Nothing here knows of carriers, records or limits.
 ghost use mathlib.Core.Path.{_≡_};
 ghost use Prim.Native.Nat.{_+_, _*_, _≤_, _<_};
-ghost use lib.ListN.{length};
+ghost use lib.ListN.{length, take, drop};
 ghost use Rattle.octets.specs.Numbers.{be, at16, at32, allZero};
 ghost use Rattle.octets.specs.Over.{Wrote};
+
+// The most octets that are held at once.
+const HELD: usize = 1024;
+
+// From so many octets on, the C library moves them faster than blocks do.
+const LONG: usize = 128;
+
+// Octets of a block, which the processor moves at once.
+const BLOCK: usize = 16;
 
 // An octet as a number.
 pub fn wide(x: u8) -> usize
@@ -84,8 +93,8 @@ pub fn put32(out: &mut [u8], at: usize, v: usize) -> usize
     put16(out, next, v % 65536)
 }
 
-// Writes src at `at`, and returns the index after it.
-pub fn copy(out: &mut [u8], at: usize, src: &[u8]) -> usize
+// Writes src at `at` octet by octet, and returns the index after it.
+fn copy_each(out: &mut [u8], at: usize, src: &[u8]) -> usize
     requires { ⌜ at + length (now src) ≤ length (now out) ⌝ }
     ensures { λ r. ⌜ Wrote at (now (src .entry)) (now (out .entry)) r (now (out .exit)) ⌝ }
 {
@@ -97,4 +106,84 @@ pub fn copy(out: &mut [u8], at: usize, src: &[u8]) -> usize
         j += 1;
     }
     o
+}
+
+// The same, all octets read before one is written: of that the compiler makes one move from place to place, and nothing is held.
+fn copy_held(out: &mut [u8], at: usize, src: &[u8]) -> usize
+    requires { ⌜ (at + length (now src) ≤ length (now out)) × (length (now src) ≤ 1024) ⌝ }
+    ensures { λ r. ⌜ Wrote at (now (src .entry)) (now (out .entry)) r (now (out .exit)) ⌝ }
+{
+    let mut held = [0u8; HELD];
+    let n = copy_each(&mut held, 0, src);
+    copy_each(out, at, &held[..n])
+}
+
+// The same for 4 to 15 octets: the first 8 and the last 8, or 4 and 4, which may share some.
+fn copy_small(out: &mut [u8], at: usize, src: &[u8]) -> usize
+    requires { ⌜ (at + length (now src) ≤ length (now out)) × (4 ≤ length (now src)) × (length (now src) < 16) ⌝ }
+    ensures { λ r. ⌜ Wrote at (now (src .entry)) (now (out .entry)) r (now (out .exit)) ⌝ }
+{
+    if src.len() < 8 {
+        let last = src.len() - 4;
+        copy_held(out, at, &src[..4]);
+        return copy_held(out, at + last, &src[last..]);
+    }
+    let last = src.len() - 8;
+    copy_held(out, at, &src[..8]);
+    copy_held(out, at + last, &src[last..])
+}
+
+// The same for 16 octets or more: blocks of 16, the last of which may reach back into the one before it.
+fn copy_blocks(out: &mut [u8], at: usize, src: &[u8]) -> usize
+    requires { ⌜ (at + length (now src) ≤ length (now out)) × (16 ≤ length (now src)) ⌝ }
+    ensures { λ r. ⌜ Wrote at (now (src .entry)) (now (out .entry)) r (now (out .exit)) ⌝ }
+{
+    let mut i = 0;
+    while BLOCK <= src.len() - i {
+        let end = i + BLOCK;
+        copy_held(out, at + i, &src[i..end]);
+        i = end;
+    }
+    let last = src.len() - BLOCK;
+    copy_held(out, at + last, &src[last..])
+}
+
+// The same by the way that is fastest for so many octets.
+fn copy_all(out: &mut [u8], at: usize, src: &[u8]) -> usize
+    requires { ⌜ at + length (now src) ≤ length (now out) ⌝ }
+    ensures { λ r. ⌜ Wrote at (now (src .entry)) (now (out .entry)) r (now (out .exit)) ⌝ }
+{
+    let n = src.len();
+    if n < 4 {
+        return copy_each(out, at, src);
+    }
+    if n < BLOCK {
+        return copy_small(out, at, src);
+    }
+    if n < LONG {
+        return copy_blocks(out, at, src);
+    }
+    if n <= HELD {
+        return copy_held(out, at, src);
+    }
+    copy_each(out, at, src)
+}
+
+// Writes src at `at`, and returns the index after it. (`&src[..]`: lent anew, a slice goes on in registers.)
+pub fn copy(out: &mut [u8], at: usize, src: &[u8]) -> usize
+    requires { ⌜ at + length (now src) ≤ length (now out) ⌝ }
+    ensures { λ r. ⌜ Wrote at (now (src .entry)) (now (out .entry)) r (now (out .exit)) ⌝ }
+{
+    copy_all(out, at, &src[..])
+}
+
+// Writes the n octets that stand at `from` at `to` in the same buffer, and returns the index after them there. The two places may overlap.
+pub fn copy_within(out: &mut [u8], to: usize, from: usize, n: usize) -> usize
+    requires { ⌜ (to + n ≤ length (now out)) × (from + n ≤ length (now out)) × (n ≤ 1024) ⌝ }
+    ensures { λ r. ⌜ Wrote to (take n (drop from (now (out .entry)))) (now (out .entry)) r (now (out .exit)) ⌝ }
+{
+    let mut held = [0u8; HELD];
+    let end = from + n;
+    copy_each(&mut held, 0, &out[from..end]);
+    copy_each(out, to, &held[..n])
 }

@@ -9,8 +9,7 @@ use lib.ListN.{length, take, drop, length-take, length-drop, drop-of-length-le}
 use lib.Seq.{take-nil, drop-drop, take-take}
 use Rattle.octets.specs.Numbers.{be}
 use Rattle.octets.specs.Over.{Wrote}
-use Rattle.octets.specs.OverLaws.{wrote-none, then}
-use Rattle.moves.specs.MoveLaws.{over-behind}
+use Rattle.octets.specs.OverLaws.{wrote-none, then, over-behind}
 use Rattle.carriers.specs.declared.Carrier.the-variants.{Dhcp4}
 use Rattle.carriers.specs.Carriers.{codeOf}
 use Rattle.frames.specs.Emit.{optionOf}

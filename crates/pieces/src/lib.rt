@@ -35,7 +35,7 @@ fn put_piece(out: &mut [u8], at: usize, from: usize, n: usize) -> usize
 {
     let at_length = octets::put8(out, at, Carrier::DHCP4 as u8);
     let body = octets::put8(out, at_length, n as u8);
-    moves::move_down(out, body, from, n)
+    octets::copy_within(out, body, from, n)
 }
 
 // The joined octets stand in `out` from `from` on, n of them, with just the room for the headers before them: moves them to the front

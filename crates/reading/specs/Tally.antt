@@ -50,8 +50,8 @@ recordsAt c source slots = map (recordAt c source) (listed slots)
 
 -- ---- records kept
 
--- where the bodies of the first 16 records stand, the octets of a sheet of those, whether their bodies are all known to be clean, and
--- whether there are more records
+-- of at most 16 records: where their bodies stand, the octets of a sheet of them, and whether their bodies are all known to be clean; and
+-- whether there are more records, and then nothing else is asked
 pub record Held : Type 0 where
   pub slots : Slots
   pub size : ℕ

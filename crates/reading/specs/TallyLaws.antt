@@ -13,8 +13,9 @@ use Rattle.carriers.specs.declared.Carrier.{Carrier}
 use Rattle.carriers.specs.declared.Carrier.the-variants.{Dhcp4}
 use Rattle.frames.specs.declared.Step.{Step}
 use Rattle.frames.specs.Step.{part, stepAt}
-use Rattle.frames.specs.WalkLaws.{walked-start, walked-block, walked-skipped}
-use Rattle.frames.specs.Laws.{step-block, step-skipped}
+use Rattle.frames.specs.Skip.{Skips}
+use Rattle.frames.specs.WalkLaws.{walked-start, walked-block, walked-skips}
+use Rattle.frames.specs.Laws.{step-block}
 use Rattle.blocks.specs.Block.{Fields}
 use Rattle.order.specs.declared.Slots.{Slots}
 use Rattle.order.specs.OrderLaws.{le-or-lt}
@@ -178,10 +179,9 @@ module _ (c : Carrier) (area : List ℕ) where
     pub tallying-open : at < 40960 → Open t
     tallying-open h = shows-open (g .shows) (omega (arith, g .behind, length-map (g .bodies) (alone c)))
 
-    pub tallying-skipped : {end : ℕ} → stepAt c area at ≡ Step.Skipped end → Tallying c area end t
-    tallying-skipped e =
-        let m = step-skipped c area at e in
-        record { bodies = g .bodies; walked = walked-skipped c area (g .walked) e; shows = g .shows; behind = omega (arith, g .behind, m .0) }
+    pub tallying-skips : {to : ℕ} → Skips c area at to → Tallying c area to t
+    tallying-skips s =
+        record { bodies = g .bodies; walked = walked-skips c area (g .walked) s; shows = g .shows; behind = omega (arith, g .behind, s .forward) }
 
     module _ {start end : ℕ} (p : stepAt c area at ≡ Step.Block start end) where
       -- one more block, with what it yields

@@ -1,6 +1,6 @@
 // Reading: an area under a carrier becomes a record sheet (document 01, "Reading", "Area walk", "Numbers given back").
-// The area is walked once; each block is examined as it is met, and the places of at most 16 kept bodies are remembered. Only when
-// the answer is 0 are they ordered and written. The tests stand in the order 1, 2, 3, 4, 5.
+// The area is walked once, and in carrier 1 with several options once more to join them; each body is examined as it is met, and the places
+// of at most 16 kept bodies are remembered. Only when the answer is 0 are they ordered and written. The tests stand in the order 1, 2, 3, 4, 5.
 ghost use mathlib.Core.Path.{_≡_};
 ghost use mathlib.Core.Bool.{true};
 ghost use mathlib.Core.List.{List, [], _∷_};
@@ -171,7 +171,7 @@ fn read_blocks(c: Carrier, area: &[u8], out: &mut [u8]) -> Reading
                     more = true;
                 }
             }
-            Step::Skipped { end: past } => at = past,
+            Step::Skipped { end: past } => at = frames::skip_foreign(c, area, past),
             Step::End => return settle(out, c, area, slots, size, clean, more, found, bad, fault),
             Step::Fault => return refused(Refusal::FRAMING),
         }

@@ -7,10 +7,11 @@ use Prim.Native.Nat.{ℕ, zero, suc, _+_, _-_, _≤_, _<_}
 use native.Mathlib.Nat.{le-of-suc-le-suc, not-suc-le-zero}
 use native.Mathlib.Omega.{arith}
 use lib.ListN.{length, take, drop, length-drop}
-use lib.Seq.{take-all, drop-length, drop-drop}
+use lib.Seq.{drop-length, drop-drop}
 use lib.Dec.{ltb, eqb}
 use borrow.Author.Tests.{lt-ltb, le-ltb, ltb-false, eqb-true, eqb-false}
 use Rattle.octets.specs.Numbers.{at16}
+use Rattle.octets.specs.ListsLaws.{take-rest}
 use Rattle.svcparams.specs.Params.{Param, sizeOf, first, Tiled, bad, tiled, onto, after, pairsFrom, pairs}
 use Rattle.svcparams.specs.Entries.{afterEntry, entriesFrom, entries}
 
@@ -146,9 +147,6 @@ entries-tiled s kvs e = same-from 0 s kvs e
 abbrev pub rest : List ℕ → ℕ → List ℕ
 rest p at = take (length p - at) (drop at p)
 
-rest-all : (p : List ℕ) (at : ℕ) → rest p at ≡ drop at p
-rest-all p at = take-all (length p - at) (drop at p) (simp length-drop (omega arith))
-
 pub end-of : (p : List ℕ) (at : ℕ) → at ≤ length p → length p ≤ at → drop at p ≡ []
 end-of p at h k = let e : at ≡ length p = omega arith in ap (λ (i : ℕ). drop i p) e ∙ drop-length p
 
@@ -161,7 +159,7 @@ paramAt p at n = record { key = at16 (rest p at) 0; value = valueAt p at n }
 
 module _ (p : List ℕ) (at : ℕ) {n : ℕ} (e : n ≡ sizeOf (rest p at)) where
   is-size : sizeOf (drop at p) ≡ n
-  is-size = sym (e ∙ ap sizeOf (rest-all p at))
+  is-size = sym (e ∙ ap sizeOf (take-rest at p))
 
   pub stop-pairs : at < length p → n ≡ 0 → pairs (drop at p) ≡ bad
   stop-pairs h z = pairs-bad (drop at p) (simp length-drop (omega arith)) (is-size ∙ z)
@@ -177,7 +175,7 @@ module _ (p : List ℕ) (at : ℕ) {n : ℕ} (e : n ≡ sizeOf (rest p at)) wher
       omega arith
 
   first-is : first (drop at p) ≡ paramAt p at n
-  first-is = ap₂ (λ (l : List ℕ) (m : ℕ). record { key = at16 l 0; value = take (m - 4) (drop 4 l) }) (sym (rest-all p at)) is-size
+  first-is = ap₂ (λ (l : List ℕ) (m : ℕ). record { key = at16 l 0; value = take (m - 4) (drop 4 l) }) (sym (take-rest at p)) is-size
 
   left-is : drop (sizeOf (drop at p)) (drop at p) ≡ drop (at + n) p
   left-is = ap (λ (m : ℕ). drop m (drop at p)) is-size ∙ drop-drop n at p

@@ -150,6 +150,82 @@ fn options_joined_in_areas_of_every_size() {
     }
 }
 
+/// A body of carrier 2 or 5 with a name, IPv6 addresses and parameters.
+fn full(carrier: u8, addresses: &[[u8; 16]], parameters: &[u8]) -> Vec<u8> {
+    let list = addresses.concat();
+    if carrier == 5 {
+        return [&[0, 1, addresses.len() as u8, 3][..], &list, b"a.b", parameters].concat();
+    }
+    [&[0, 1, 0, 5][..], b"\x01a\x01b\x00", &(list.len() as u16).to_be_bytes(), &list, parameters].concat()
+}
+
+/// An option or attribute with a 16-bit code and a 16-bit length.
+fn wide(code: u16, body: &[u8]) -> Vec<u8> {
+    [&code.to_be_bytes()[..], &(body.len() as u16).to_be_bytes(), body].concat()
+}
+
+const USABLE: [u8; 16] = [0x20, 1, 0xd, 0xb8, 0, 0, 0, 0, 0, 0, 0, 0, 0, 0, 0, 9];
+
+/// Runs of foreign options whose lengths lie around one octet's end, then an own one, the reserved bit set or not, and each area cut at every
+/// octet near its end.
+#[test]
+fn foreign_options_of_every_size() {
+    let sizes = [0, 1, 3, 4, 144, 254, 255, 256, 257, 400, 511, 512, 1_024];
+    for (carrier, code) in [(2, 144), (4, 27), (5, 28)] {
+        let own = if carrier == 4 { [&[0, 1, 1, 3][..], &[192, 0, 2, 1], b"a.b"].concat() } else { full(carrier, &[USABLE], &[]) };
+        for first in sizes {
+            for second in sizes {
+                for mark in [0, 0x8000] {
+                    let foreign = [wide(code ^ 1, &vec![7; first]), wide((code + 256) | mark, &vec![0; second]), wide(1, &[])].concat();
+                    let area = [foreign, wide(code | mark, &own)].concat();
+                    let got = every_room(carrier, &area);
+                    assert_eq!((got.number, got.found), (0, usize::from(carrier > 2 || mark == 0)));
+                    for cut in 1..own.len() + 16 {
+                        let part = &area[..area.len() - cut.min(area.len())];
+                        compared(carrier, part, 200);
+                    }
+                }
+            }
+        }
+    }
+}
+
+/// Lists of IPv6 addresses with one at each place that is dropped, or that nearly is.
+#[test]
+fn one_address_at_every_place() {
+    let loopback = std::array::from_fn(|i| u8::from(i == 15));
+    let multicast = std::array::from_fn(|i| if i == 0 { 255 } else { 2 });
+    let unspecified = [0; 16];
+    let nearly = std::array::from_fn(|i| u8::from(i == 15 || i == 7));
+    let link = std::array::from_fn(|i| [0xfe, 0x80].get(i).copied().unwrap_or(1));
+    for (carrier, code) in [(2, 144), (5, 28)] {
+        for many in (1..=17).chain([62, 63]) {
+            for place in 0..many {
+                for (one, dropped) in [(loopback, true), (multicast, true), (unspecified, false), (nearly, false), (link, false)] {
+                    let mut addresses = vec![USABLE; many];
+                    addresses[place] = one;
+                    let got = compared(carrier, &wide(code, &full(carrier, &addresses, &[])), 2_000);
+                    let kept = many - usize::from(dropped);
+                    assert_eq!(got.length, if kept == 0 { 7 } else { 7 + 8 + 5 + 3 + 16 * kept });
+                }
+            }
+        }
+    }
+}
+
+/// Parameters of every length up to the limit and one past it, which are copied by blocks or at once according to their length.
+#[test]
+fn parameters_of_every_length() {
+    for long in 0..=1_021u16 {
+        let value: Vec<u8> = (0..long).map(|i| (i % 251) as u8).collect();
+        let parameters = wide(65_280, &value);
+        for (carrier, code) in [(2, 144), (5, 28)] {
+            let got = every_room(carrier, &wide(code, &full(carrier, &[USABLE], &parameters)));
+            assert_eq!(got.fault, if long > 1_020 { 24 } else { 0 });
+        }
+    }
+}
+
 #[test]
 fn octets_without_any_order() {
     let mut r = Random::new(16);

@@ -127,6 +127,47 @@ fn large_before_room() {
     }
 }
 
+/// A sheet of one record of a carrier, of priority 1 and the name a.b.
+fn one_record(carrier: u8, addresses: &[Vec<u8>], parameters: &[u8]) -> Vec<u8> {
+    let head = [b"RSV\x00\x01", &[carrier, 1, 0, 1, 0, 0, 0, 0, 1, 5][..], b"\x01a\x01b\x00", &[addresses.len() as u8]].concat();
+    [head, addresses.concat(), (parameters.len() as u16).to_be_bytes().to_vec(), parameters.to_vec()].concat()
+}
+
+/// An address that reading would drop, at each place of lists of addresses, is refused.
+#[test]
+fn an_unusable_address_at_every_place() {
+    for carrier in 1..=5 {
+        let (usable, unusable) = match carrier {
+            1 | 4 => (vec![192, 0, 2, 1], [vec![127, 0, 0, 1], vec![239, 1, 1, 1]]),
+            _ => (vec![32; 16], [[vec![0; 15], vec![1]].concat(), vec![255; 16]]),
+        };
+        for many in (1..=17).chain([62, 63]) {
+            for place in 0..many {
+                for bad in &unusable {
+                    let mut addresses = vec![usable.clone(); many];
+                    assert_eq!(every_room(&one_record(carrier, &addresses, &[])).number, 0);
+                    addresses[place].clone_from(bad);
+                    assert_eq!(every_room(&one_record(carrier, &addresses, &[])).number, 25);
+                }
+            }
+        }
+    }
+}
+
+/// Parameters of every length up to the limit and one past it, in every carrier.
+#[test]
+fn parameters_of_every_length() {
+    for long in 0..=1_021u16 {
+        let value: Vec<u8> = (0..long).map(|i| (i % 251) as u8).collect();
+        let parameters = [&[0xff, 0][..], &long.to_be_bytes(), &value].concat();
+        for carrier in 1..=5 {
+            let address = vec![32; if carrier == 1 || carrier == 4 { 4 } else { 16 }];
+            let got = every_room(&one_record(carrier, &[address], &parameters));
+            assert_eq!(got.number, if long > 1_020 { 24 } else { 0 });
+        }
+    }
+}
+
 #[test]
 fn octets_without_any_order() {
     let mut r = Random::new(27);

@@ -16,7 +16,7 @@ div-result c = omega arith
 
 returns : tie.Need-returns
 returns c =
-    let args = c .before .before .before .before .args in
+    let args = c .before .before .before .args in
     let more = listOf (args .w) (args .s .now) in
     ap₂ ltb (c .kept-count .ensures .0) (sym (list-length (args .w) (args .s .now))) ∙ fewer-any (args .w) more
 

@@ -1,90 +1,24 @@
--- `addresses::kept_count` meets its contract. The loop's invariant: the count so far, with those kept of the addresses that are left,
--- is the whole count. Assumes nothing.
+-- `addresses::kept_count` meets its contract: a width that is not 4 is 16. Assumes nothing.
 use borrow.Author.Needs.{needs}
 use native.Mathlib.Omega.{arith}
-use mathlib.Core.Path.{_≡_, ap}
-use Prim.Native.Nat.{_+_, _-_, _≤_}
-use lib.ListN.{length, drop}
-use Rattle.addresses.specs.Addresses.{listOf, keptOf}
-use Rattle.addresses.specs.AddressesLaws.{part-wide, kept-drop, kept-keep, kept-end}
+use mathlib.Core.Path.{_≡_}
 use Rattle.addresses.proofs.kept_count.Statement.{statement}
 use Rattle.addresses.proofs.kept_count.Tie as tie
 
-abbrev Inv-loop : tie.InvT-loop
-Inv-loop w s n₀ at₀ n at = (at ≤ length s) × (n ≤ at) × (n + length (keptOf w (listOf w (drop at s))) ≡ length (keptOf w (listOf w s)))
+count-each-requires : tie.Need-count-each-requires
+count-each-requires c κs = search needs
 
-abbrev μ-loop : tie.MeasureT-loop
-μ-loop w s n₀ at₀ n at = length s - at
+returns : tie.Need-returns
+returns c = search needs
 
-loop-holds : tie.Need-loop-holds Inv-loop μ-loop
-loop-holds c = (omega arith, omega arith, omega arith)
+count-fours-requires : tie.Need-count-fours-requires
+count-fours-requires c κs = search needs
 
-sub-loop : tie.Need-sub-loop Inv-loop μ-loop
-sub-loop c = omega arith
-
-add-next : tie.Need-add-next Inv-loop μ-loop
-add-next c = omega arith
-
-sub-dropped : tie.Need-sub-dropped Inv-loop μ-loop
-sub-dropped c = omega arith
-
-part-dropped-start : tie.Need-part-dropped-start Inv-loop μ-loop
-part-dropped-start c = omega arith
-
-part-dropped-end : tie.Need-part-dropped-end Inv-loop μ-loop
-part-dropped-end c = omega arith
-
-dropped-requires : tie.Need-dropped-requires Inv-loop μ-loop
-dropped-requires c κs = search (needs, part-wide)
-
-add-n : tie.Need-add-n Inv-loop μ-loop
-add-n c = omega arith
-
-loop-less : tie.Need-loop-less Inv-loop μ-loop
-loop-less c = omega arith
-
-loop-again : tie.Need-loop-again Inv-loop μ-loop
-loop-again c =
-    let in-loop = c .before .before .before in
-    let at-loop = in-loop .before in
-    let kept = kept-keep _ _ (at-loop .loop .at) (at-loop .before .before .pre .0) (in-loop .loop-test .taken) (c .before .dropped .ensures) (c .if1 .taken) in
-    (omega arith, omega arith, omega (arith, ap length kept))
-
-loop-less-2 : tie.Need-loop-less-2 Inv-loop μ-loop
-loop-less-2 c = omega arith
-
-loop-again-2 : tie.Need-loop-again-2 Inv-loop μ-loop
-loop-again-2 c =
-    let in-loop = c .before .before .before in
-    let at-loop = in-loop .before in
-    let kept = kept-drop _ _ (at-loop .loop .at) (at-loop .before .before .pre .0) (in-loop .loop-test .taken) (c .before .dropped .ensures) (c .if1 .left) in
-    (omega arith, omega arith, omega (arith, ap length kept))
-
-cast-result : tie.Need-cast-result Inv-loop μ-loop
-cast-result c = omega arith
-
-returns : tie.Need-returns Inv-loop μ-loop
-returns c =
-    let a = c .before .before .before .args in
-    (omega (arith, ap length (kept-end (a .w) (a .s .now) (c .before .loop .at) (c .loop-test .left))), omega arith)
+returns-2 : tie.Need-returns-2
+returns-2 c =
+    let wide = c .before .before .before .pre .0 in
+    let long : c .before .before .before .args .w ≡ 16 = omega (arith, wide .is, wide .one, c .before .if1 .left) in
+    rw long (c .count-fours .ensures)
 
 pub kept-count-spec : {M : Type 1} → statement M
-kept-count-spec =
-    tie.close
-    (tie.spec
-    Inv-loop
-    μ-loop
-    loop-holds
-    sub-loop
-    add-next
-    sub-dropped
-    part-dropped-start
-    part-dropped-end
-    dropped-requires
-    add-n
-    loop-less
-    loop-again
-    loop-less-2
-    loop-again-2
-    cast-result
-    returns)
+kept-count-spec = tie.close (tie.spec count-each-requires returns count-fours-requires returns-2)

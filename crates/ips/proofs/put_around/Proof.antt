@@ -4,7 +4,8 @@ use native.Mathlib.Omega.{arith}
 use mathlib.Core.Path.{sym}
 use Prim.Native.Nat.{_*_}
 use lib.Seq.{length-take-le}
-use Rattle.ips.specs.Writes.{part-to-end, around-length, wrote-around}
+use Rattle.octets.specs.ListsLaws.{take-rest}
+use Rattle.ips.specs.Writes.{around-length, wrote-around}
 use Rattle.ips.proofs.put_around.Statement.{statement}
 use Rattle.ips.proofs.put_around.Tie as tie
 
@@ -56,7 +57,7 @@ put-fields-requires-2 c κs =
     let p = q .before .before .before .before in
     let s = first (p .before) in
     let size = around-length (s .args .a .now) (s .args .start) (s .args .count) in
-    rw part-to-end (omega arith)
+    rw take-rest (omega arith)
 
 same-length : tie.Need-same-length
 same-length c = search needs
@@ -69,7 +70,7 @@ returns c =
     let p = q .before .before .before .before in
     let s = first (p .before) in
     wrote-around (s .args .a .now) (s .args .start) (s .args .count) (p .put-fields .ensures) (q .put-code .ensures) (r .put-code2 .ensures)
-    (rw part-to-end at (t .put-fields2 .ensures))
+    (rw take-rest at (t .put-fields2 .ensures))
 
 pub put-around-spec : {M : Type 1} → statement M
 put-around-spec =

@@ -2,7 +2,8 @@
 use borrow.Author.Needs.{needs}
 use native.Mathlib.Omega.{arith}
 use Rattle.octets.specs.OverLaws.{wrote-none}
-use Rattle.ips.specs.Writes.{part-to-end, no-colons, some-length, wrote-colons}
+use Rattle.octets.specs.ListsLaws.{take-rest}
+use Rattle.ips.specs.Writes.{no-colons, some-length, wrote-colons}
 use Rattle.ips.proofs.put_fields.Statement.{statement}
 use Rattle.ips.proofs.put_fields.Tie as tie
 
@@ -37,7 +38,7 @@ put-led-requires c κs =
     let e = g .before .before in
     let s = e .before .before .before in
     let size = some-length (s .args .s .now) (g .get16 .result) (e .if1 .left) (g .get16 .ensures .0) in
-    rw (part-to-end 2 (s .args .s .now)) (omega arith)
+    rw (take-rest 2 (s .args .s .now)) (omega arith)
 
 same-length : tie.Need-same-length
 same-length c = search needs
@@ -49,7 +50,7 @@ returns-2 c =
     let g = p .before in
     let e = g .before .before in
     let s = e .before .before .before in
-    wrote-colons (s .args .s .now) (e .if1 .left) (g .get16 .ensures .0) (p .put-hex .ensures) (rw (part-to-end 2 (s .args .s .now)) at (q .put-led .ensures))
+    wrote-colons (s .args .s .now) (e .if1 .left) (g .get16 .ensures .0) (p .put-hex .ensures) (rw (take-rest 2 (s .args .s .now)) at (q .put-led .ensures))
 
 pub put-fields-spec : {M : Type 1} → statement M
 put-fields-spec =

@@ -3,7 +3,8 @@ use borrow.Author.Needs.{needs}
 use native.Mathlib.Omega.{arith}
 use mathlib.Core.Path.{_≡_}
 use lib.ListN.{length, drop, length-drop}
-use Rattle.ips.specs.Writes.{part-to-end, mixed-length, wrote-mixed}
+use Rattle.octets.specs.ListsLaws.{take-rest}
+use Rattle.ips.specs.Writes.{mixed-length, wrote-mixed}
 use Rattle.ips.proofs.put_mixed.Statement.{statement}
 use Rattle.ips.proofs.put_mixed.Tie as tie
 
@@ -32,7 +33,7 @@ put4-requires c κs =
     let s = first p in
     let four : length (drop 12 (s .args .a .now)) ≡ 4 = omega (arith, length-drop 12 (s .args .a .now)) in
     let size = mixed-length (s .args .a .now) in
-    rw (part-to-end 12 (s .args .a .now)) (four, omega arith)
+    rw (take-rest 12 (s .args .a .now)) (four, omega arith)
 
 same-length : tie.Need-same-length
 same-length c = search needs
@@ -42,7 +43,7 @@ returns c =
     let q = c .before .before in
     let p = q .before .before .before .before .before in
     let a = first p .args .a .now in
-    wrote-mixed a (p .copy .ensures) (rw (part-to-end 12 a) at (q .put4 .ensures))
+    wrote-mixed a (p .copy .ensures) (rw (take-rest 12 a) at (q .put4 .ensures))
 
 pub put-mixed-spec : {M : Type 1} → statement M
 put-mixed-spec =

@@ -1,10 +1,12 @@
 -- The proof of the cycle of calls {after_hyphen, after_letter}. The measure of each is how many of the n octets are left from `at` on.
 -- At each return one lemma of Outcomes says what the walk answers on the way there. Assumes nothing.
 use Prim.Native.Nat.{ℕ, _<_, _-_}
+use native.Mathlib.Omega.{arith}
+use mathlib.Core.Logic.{⊎-elim}
 use borrow.Author.Needs.{needs}
 use borrow.Fn.Kinds.{In}
 use borrow.Fn.PlainCycle.{Measures, is, falls, and}
-use Rattle.names.specs.Outcomes.{cut-short, hyphen-letter, hyphen-hyphen, hyphen-other, letter-letter, letter-hyphen, letter-other, root-first, root-more, root-last, label-unfit, cut-at-first, label-opens, bad-first-octet, told, told-not, told-not-not, hyphen-more}
+use Rattle.names.specs.Outcomes.{cut-short, hyphen-cut, hyphen-letter, hyphen-hyphen, hyphen-other, letter-letter, letter-hyphen, letter-other, root-first, root-more, root-last, label-unfit, cut-at-first, label-opens, bad-first-octet, told, told-not, told-not-not, hyphen-more}
 use Rattle.names.proofs.after_hyphen.Reads as after-hyphen
 use Rattle.names.proofs.after_hyphen.Kinds as after-hyphen-kinds
 use Rattle.names.proofs.+after_hyphen+after_letter.Lts-after_hyphen as after-hyphen-lts
@@ -14,6 +16,7 @@ use Rattle.names.proofs.+after_hyphen+after_letter.Lts-after_letter as 
 use Rattle.names.proofs.hyphen_fits.Reads as hyphen-fits-reads
 use Rattle.names.proofs.is_alnum.Reads as is-alnum-reads
 use Rattle.names.proofs.label_fits.Reads as label-fits-reads
+use Rattle.names.proofs.lesser.Reads as lesser-reads
 use Rattle.octets.proofs.wide.Reads as wide-reads
 use Rattle.names.proofs.+after_hyphen+after_letter.{statement}
 use Rattle.names.proofs.+after_hyphen+after_letter.Tie.{close}
@@ -53,13 +56,13 @@ abbrev after-hyphen-calls : ℕ → after-hyphen-lts.Claims
 after-hyphen-calls t = (is-alnum-reads.Asked, is-alnum-reads.Learnt, after-letter-below t, after-letter.Post, hyphen-fits-reads.Asked, hyphen-fits-reads.Learnt, after-hyphen-below t, after-hyphen.Post)
 
 abbrev after-letter-calls : ℕ → after-letter-lts.Claims
-after-letter-calls t = (wide-reads.Asked, wide-reads.Learnt, label-fits-reads.Asked, label-fits-reads.Learnt, is-alnum-reads.Asked, is-alnum-reads.Learnt, after-letter-below t, after-letter.Post, hyphen-fits-reads.Asked, hyphen-fits-reads.Learnt, after-hyphen-below t, after-hyphen.Post)
+after-letter-calls t = (wide-reads.Asked, wide-reads.Learnt, label-fits-reads.Asked, label-fits-reads.Learnt, is-alnum-reads.Asked, is-alnum-reads.Learnt, lesser-reads.Asked, lesser-reads.Learnt, after-letter-below t, after-letter.Post, hyphen-fits-reads.Asked, hyphen-fits-reads.Learnt, after-hyphen-below t, after-hyphen.Post)
 
 pub +after-hyphen+after-letter-spec : {M : Type 1} → statement M
 +after-hyphen+after-letter-spec = close μ-after-hyphen μ-after-letter (λ t. after-hyphen-lts.spec (after-hyphen-calls t)
     (after-hyphen-at t)
     after-hyphen.Post
-    (λ c. search (needs, cut-short))
+    (λ c. search (needs, hyphen-cut))
     (λ c. search needs)
     (λ c. search needs)
     (λ c κs. search needs)
@@ -67,7 +70,7 @@ pub +after-hyphen+after-letter-spec : {M : Type 1} → statement M
     (λ c. search (needs, hyphen-letter, told))
     (λ c. search needs)
     (λ c κs. search needs)
-    (λ c κs. search (needs, hyphen-more))
+    (λ c κs. (search needs, search (needs, hyphen-more)))
     (λ c. search (needs, hyphen-hyphen, told))
     (λ c. search (needs, hyphen-other, told)))
     λ t. after-letter-lts.spec (after-letter-calls t)
@@ -88,13 +91,16 @@ pub +after-hyphen+after-letter-spec : {M : Type 1} → statement M
     (λ c. search needs)
     (λ c. search needs)
     (λ c κs. search needs)
+    (λ c κs. (search needs, (search needs, search needs, ⊎-elim (λ e. omega arith) (λ e. omega arith) (c .lesser .ensures .2), c .lesser .ensures)))
     (λ c. search (needs, label-opens, told, told-not-not))
     (λ c. search (needs, bad-first-octet, told, told-not-not))
+    (λ c. search needs)
+    (λ c. search needs)
     (λ c κs. search needs)
-    (λ c κs. search needs)
+    (λ c κs. (search needs, search needs))
     (λ c. search (needs, letter-letter, told))
     (λ c. search needs)
     (λ c κs. search needs)
-    (λ c κs. search (needs, hyphen-more))
+    (λ c κs. (search needs, search (needs, hyphen-more)))
     (λ c. search (needs, letter-hyphen, told))
     (λ c. search (needs, letter-other, told))

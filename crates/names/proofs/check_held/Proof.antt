@@ -1,11 +1,12 @@
 -- `names::check_held` meets its contract. Assumes nothing.
 use borrow.Author.Needs.{needs}
+use mathlib.Core.Logic.{inl}
 use Rattle.names.specs.Held.{held-check}
 use Rattle.names.proofs.check_held.Statement.{statement}
 use Rattle.names.proofs.check_held.Tie as tie
 
 after-letter-requires : tie.Need-after-letter-requires
-after-letter-requires c κs = search needs
+after-letter-requires c κs = search (needs, inl)
 
 name-of-requires : tie.Need-name-of-requires
 name-of-requires c κs = search needs

@@ -16,8 +16,8 @@ cast-put8-2 c = omega arith
 put8-requires-2 : tie.Need-put8-requires-2
 put8-requires-2 c κs = omega arith
 
-move-down-requires : tie.Need-move-down-requires
-move-down-requires c κs = omega arith
+copy-within-requires : tie.Need-copy-within-requires
+copy-within-requires c κs = omega arith
 
 same-length : tie.Need-same-length
 same-length c = omega arith
@@ -28,7 +28,7 @@ returns c =
     let length-put = moved .before .before .before .before in
     let code-put = length-put .before .before .before .before in
     let a = code-put .before .before .before .args in
-    piece-written (a .from) (a .n) (omega arith) (omega (arith, code-put .put8 .ensures .next, length-put .put82 .ensures .next)) (code-put .put8 .ensures) (length-put .put82 .ensures) (moved .move-down .ensures)
+    piece-written (a .from) (a .n) (omega arith) (omega (arith, code-put .put8 .ensures .next, length-put .put82 .ensures .next)) (code-put .put8 .ensures) (length-put .put82 .ensures) (moved .copy-within .ensures)
 
 pub put-piece-spec : {M : Type 1} → statement M
 put-piece-spec =
@@ -38,6 +38,6 @@ put-piece-spec =
     put8-requires
     cast-put8-2
     put8-requires-2
-    move-down-requires
+    copy-within-requires
     same-length
     returns)

@@ -10,13 +10,14 @@ use Rattle.frames.specs.declared.Step.{Step}
 use Rattle.frames.specs.Frame.{frame}
 use Rattle.frames.specs.Step.{stepAt}
 use Rattle.frames.specs.Laws.{step-block, step-skipped}
+use Rattle.frames.specs.SkipLaws.{skips-step, skips-then}
 use Rattle.order.specs.declared.Slot.{Slot}
 use Rattle.order.specs.Listed.{listed}
 use Rattle.order.specs.ListedLaws.{listed-next}
 use Rattle.reading.specs.Reading.{readFramed}
 use Rattle.reading.specs.Tally.{heldOf, Seen, tallyOf, Open}
 use Rattle.reading.specs.Walks.{Tallying}
-use Rattle.reading.specs.TallyLaws.{holds-none, holds-ready, tallying-start, tallying-open, tallying-discarded, tallying-kept, tallying-full, tallying-skipped}
+use Rattle.reading.specs.TallyLaws.{holds-none, holds-ready, tallying-start, tallying-open, tallying-discarded, tallying-kept, tallying-full, tallying-skips}
 use Rattle.reading.specs.AnswerLaws.{gives-as, gives-from, answer-end, answer-fault}
 use borrow.Author.Needs.{needs}
 use Rattle.reading.proofs.read_blocks.Statement.{statement}
@@ -169,11 +170,17 @@ loop-again-3 c =
 enum-known-past : tie.Need-enum-known-past Inv-loop μ-loop
 enum-known-past c = search needs
 
+skip-foreign-requires : tie.Need-skip-foreign-requires Inv-loop μ-loop
+skip-foreign-requires c κs = step-skipped _ _ _ (skipped (c .before)) .1
+
 loop-less-4 : tie.Need-loop-less-4 Inv-loop μ-loop
-loop-less-4 c = let m = step-skipped _ _ _ (skipped (c .before)) in omega arith
+loop-less-4 c = let m = step-skipped _ _ _ (skipped (c .before .before)) in omega (arith, c .skip-foreign .ensures .forward)
 
 loop-again-4 : tie.Need-loop-again-4 Inv-loop μ-loop
-loop-again-4 c = let i = c .before .before .before .before .loop .inv in (tallying-skipped _ _ (i .0) (skipped (c .before)), i .1, i .2)
+loop-again-4 c =
+    let k = c .before .before in
+    let i = k .before .before .before .loop .inv in
+    (tallying-skips _ _ (i .0) (skips-then (skips-step _ _ _ (skipped k)) (c .skip-foreign .ensures)), i .1, i .2)
 
 enum-told : tie.Need-enum-told Inv-loop μ-loop
 enum-told c = search needs
@@ -240,6 +247,7 @@ read-blocks-spec =
     loop-less-3
     loop-again-3
     enum-known-past
+    skip-foreign-requires
     loop-less-4
     loop-again-4
     enum-told

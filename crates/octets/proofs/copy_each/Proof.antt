@@ -1,4 +1,4 @@
--- `octets::copy` meets its contract. The loop's invariant: the first j bytes of `src` are laid over `out` from `at`. Assumes nothing.
+-- `octets::copy_each` meets its contract. The loop's invariant: the first j bytes of `src` are laid over `out` from `at`. Assumes nothing.
 use borrow.Author.Needs.{needs}
 use native.Mathlib.Omega.{arith}
 use mathlib.Core.Path.{_≡_, refl, sym, _∙_}
@@ -8,8 +8,8 @@ use lib.ListN.{length, take, length-set}
 use lib.Seq.{take-all}
 use Rattle.octets.specs.Over.{over}
 use Rattle.octets.specs.OverLaws.{over-nil, over-take}
-use Rattle.octets.proofs.copy.Statement.{statement}
-use Rattle.octets.proofs.copy.Tie as tie
+use Rattle.octets.proofs.copy_each.Statement.{statement}
+use Rattle.octets.proofs.copy_each.Tie as tie
 
 abbrev Inv-loop : tie.InvT-loop
 Inv-loop out₀ at src j₀ o₀ out j o = (j ≤ length src) × (o ≡ at + j) × (length out ≡ length out₀) × (out ≡ over at (take j src) out₀)
@@ -55,8 +55,8 @@ returns c =
     let all : take (at-loop .loop .j) s ≡ s = take-all (at-loop .loop .j) s (omega arith) in
     record { room = omega arith; next = omega arith; laid = at-loop .loop .inv .3 ∙ rw all }
 
-pub copy-spec : {M : Type 1} → statement M
-copy-spec =
+pub copy-each-spec : {M : Type 1} → statement M
+copy-each-spec =
     tie.close
     (tie.spec
     Inv-loop

@@ -1,3 +1,0 @@
-pub mod MoveLaws
-pub mod Block
-pub mod BlockLaws
