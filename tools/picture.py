@@ -14,7 +14,9 @@ INK, LINE, PALE = "#1b2a3a", "#8aa0b4", "#f4f7fa"
 # Rows of crates from top to bottom: title, and boxes with a name and a word on it.
 LAYERS = [
     ("theorems", [("exactly", "demand 2"), ("roundtrip", "read after write"), ("prefixes", "demand 3"), ("cuts", "demand 3"), ("boundary", "K1 to K12")]),
-    ("interface", [("dnr", "C library"), ("hexes", "hexadecimal"), ("ips", "address text"), ("showing", "text, JSON"), ("tool", "the command")]),
+    ("command", [("showing", "a sheet shown"), ("tool", "the command")]),
+    ("text and JSON", [("chars", "as room allows"), ("words", "of numbers"), ("values", "escaped"), ("lines", "for a person"), ("json", "for a script")]),
+    ("interface", [("dnr", "C library"), ("hexes", "hexadecimal"), ("ips", "address text")]),
     ("calls", [("reading", "area to sheet"), ("written", "writing, defined"), ("writing", "sheet to octets")]),
     ("sheets", [("records", "one record"), ("sheets", "head"), ("taking", "taken apart")]),
     ("decisions", [("judge", "21 to 28"), ("order", "by priority")]),

@@ -16,7 +16,7 @@ use Rattle.svcparams.specs.TilingLaws.{end-of}
 
 -- ---- numbers of two octets
 
-words-cons : (m : List ℕ) (i : ℕ) → i + 1 < length m → words (drop i m) ≡ at16 m i ∷ words (drop (i + 2) m)
+pub words-cons : (m : List ℕ) (i : ℕ) → i + 1 < length m → words (drop i m) ≡ at16 m i ∷ words (drop (i + 2) m)
 unfolding words
 words-cons m i h =
     let a : i + 1 ≡ suc i = omega arith in
@@ -29,7 +29,7 @@ words-short [] h = refl
 words-short (a ∷ []) h = refl
 words-short (a ∷ b ∷ s) h = absurd (omega arith)
 
-words-end : (m : List ℕ) (i : ℕ) → length m ≤ i + 1 → words (drop i m) ≡ []
+pub words-end : (m : List ℕ) (i : ℕ) → length m ≤ i + 1 → words (drop i m) ≡ []
 words-end m i h = words-short (drop i m) (simp length-drop (omega arith))
 
 -- ---- a mandatory list rises

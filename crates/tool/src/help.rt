@@ -1,6 +1,6 @@
 // The text of `dnr --help`.
 ghost use Rattle.io.specs.Counts.{Counts};
-use showing::put_all;
+use chars::put_all;
 
 // Octets that hold the text.
 const TEXT: usize = 2048;

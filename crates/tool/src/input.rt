@@ -1,8 +1,8 @@
 // The octets that are given: a file, or standard input, read whole.
 ghost use Rattle.io.specs.Counts.{Counts};
 use crate::messages;
+use chars::put_all;
 use libc::STDIN_FILENO;
-use showing::put_all;
 
 // The most octets that are read. Hexadecimal text of 40,960 octets with one character between them has 122,880.
 pub const MOST: usize = 163840;

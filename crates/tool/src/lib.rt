@@ -14,13 +14,13 @@ ghost use lib.ListN.{length};
 ghost use Rattle.io.specs.Counts.{Counts};
 use args::Asked;
 use args::Command;
+use chars::put_all;
+use chars::put_number;
 use hexes::Hex;
 use libc::STDERR_FILENO;
 use libc::STDOUT_FILENO;
 use numbers::Refusal;
 use reading::Reading;
-use showing::put_all;
-use showing::put_number;
 
 // The most octets of a sheet (document 01, "The record sheet").
 const SHEET: usize = 36775;

@@ -3,8 +3,8 @@ ghost use Prim.Native.Nat.{_≤_};
 ghost use lib.ListN.{length};
 ghost use Rattle.io.specs.Counts.{Counts};
 ghost use Rattle.libc.specs.Io.{Ended};
+use chars::put_all;
 use libc::PATH_MAX;
-use showing::put_all;
 
 // Where the last octet of a path stands for C: it is 0.
 const LAST: usize = 4095;

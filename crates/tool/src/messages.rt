@@ -2,10 +2,10 @@
 ghost use Rattle.io.specs.Counts.{Counts};
 use crate::args::Asked;
 use crate::args::Wrong;
+use chars::put_all;
+use chars::put_number;
 use libc::STDERR_FILENO;
-use showing::put_all;
-use showing::put_number;
-use showing::put_words;
+use words::put_words;
 
 // Octets of a line: a path, and the longest words.
 const LINE: usize = 4608;

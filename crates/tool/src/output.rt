@@ -6,9 +6,9 @@ ghost use Rattle.io.specs.Counts.{Counts};
 use crate::args::same;
 use crate::links;
 use crate::messages;
+use chars::put_all;
 use libc::SEEK_END;
 use libc::STDOUT_FILENO;
-use showing::put_all;
 
 // Octets of the hexadecimal text of 40,960 octets.
 const HEX: usize = 122880;

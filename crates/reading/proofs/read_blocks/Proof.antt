@@ -64,6 +64,18 @@ skipped : (c : tie.After-past Inv-loop μ-loop)
     stepAt (a .c) (now (a .area)) (l .loop .at) ≡ Step.Skipped (c .past .given .0 .0)
 skipped c = sym (c .before .before .next-block .ensures) ∙ c .past .given .1
 
+ended : (c : tie.After-enum-told Inv-loop μ-loop)
+    → let l = c .before .before .before in
+    let a = start l .args in
+    stepAt (a .c) (now (a .area)) (l .loop .at) ≡ Step.End
+ended c = sym (c .before .before .next-block .ensures) ∙ c .enum-told .given .1
+
+broken : (c : tie.After-enum-told2 Inv-loop μ-loop)
+    → let l = c .before .before .before in
+    let a = start l .args in
+    stepAt (a .c) (now (a .area)) (l .loop .at) ≡ Step.Fault
+broken c = sym (c .before .before .next-block .ensures) ∙ c .enum-told2 .given .1
+
 empty-requires : tie.Need-empty-requires Inv-loop μ-loop
 empty-requires c κs = search needs
 
@@ -198,7 +210,7 @@ returns c =
     let l = e .before .before .before in
     let a = start l .args in
     gives-from (readFramed (a .c) (frame (a .c) (now (a .area)))) (l .loop .inv .1)
-    (gives-as (answer-end _ _ _ (l .loop .inv .0) (start l .pre .0) (sym (e .before .before .next-block .ensures) ∙ e .enum-told .given .1)) (s .settle .ensures))
+    (gives-as (answer-end _ _ _ (l .loop .inv .0) (start l .pre .0) (ended e)) (s .settle .ensures))
 
 enum-told-2 : tie.Need-enum-told-2 Inv-loop μ-loop
 enum-told-2 c = search needs
@@ -215,7 +227,7 @@ returns-2 c =
     let l = e .before .before .before in
     let a = start l .args in
     gives-from (readFramed (a .c) (frame (a .c) (now (a .area)))) (l .loop .inv .1)
-    (gives-as (answer-fault _ _ _ (l .loop .inv .0) (sym (e .before .before .next-block .ensures) ∙ e .enum-told2 .given .1)) (c .refused .ensures _ (λ z. omega arith)))
+    (gives-as (answer-fault _ _ _ (l .loop .inv .0) (broken e)) (c .refused .ensures _ (λ z. omega arith)))
 
 pub read-blocks-spec : {M : Type 1} → statement M
 read-blocks-spec =

@@ -1,0 +1,4 @@
+pub mod Puts
+pub mod Ascii
+pub mod PutsLaws
+pub mod AsciiLaws

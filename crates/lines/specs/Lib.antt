@@ -1,0 +1,4 @@
+pub mod Lines
+pub mod LabelLaws
+pub mod PartLaws
+pub mod ListedLaws

@@ -1,0 +1,54 @@
+-- `values::put_name` meets its contract: the text of a name fits, and it is what is written. Assumes nothing.
+use native.Mathlib.Omega.{arith}
+use borrow.Author.Needs.{needs}
+use lib.ListN.{length-take}
+use mathlib.Core.Path.{_∙_}
+use Rattle.chars.specs.PutsLaws.{puts-none, puts-as}
+use Rattle.octets.specs.OverLaws.{wrote-front}
+use Rattle.values.specs.StringLaws.{name-short, name-long}
+use Rattle.values.proofs.put_name.Statement.{statement}
+use Rattle.values.proofs.put_name.Tie as tie
+
+least-requires : tie.Need-least-requires
+least-requires c κs = search needs
+
+returns : tie.Need-returns
+returns c = puts-as (name-short _ (c .before .if1 .taken)) (puts-none _ _ (c .least .ensures))
+
+slice-aggregate-to-text : tie.Need-slice-aggregate-to-text
+slice-aggregate-to-text c = search needs
+
+to-text-requires : tie.Need-to-text-requires
+to-text-requires c κs = search needs
+
+array-share-prefix-text : tie.Need-array-share-prefix-text
+array-share-prefix-text c = search needs
+
+slice-aggregate-put-all : tie.Need-slice-aggregate-put-all
+slice-aggregate-put-all c = simp length-take (omega arith)
+
+put-all-requires : tie.Need-put-all-requires
+put-all-requires c κs = search needs
+
+same-length : tie.Need-same-length
+same-length c = search needs
+
+returns-2 : tie.Need-returns-2
+returns-2 c =
+    let w = c .before .before in
+    let t = w .before .before .before .before in
+    puts-as (wrote-front (t .to-text .ensures) ∙ name-long _ (t .before .before .if1 .left)) (w .put-all .ensures .1)
+
+pub put-name-spec : {M : Type 1} → statement M
+put-name-spec =
+    tie.close
+    (tie.spec
+    least-requires
+    returns
+    slice-aggregate-to-text
+    to-text-requires
+    array-share-prefix-text
+    slice-aggregate-put-all
+    put-all-requires
+    same-length
+    returns-2)

@@ -1,0 +1,5 @@
+pub mod Values
+pub mod ListLaws
+pub mod ValueLaws
+pub mod StringLaws
+pub mod ParameterLaws
