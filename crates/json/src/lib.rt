@@ -238,7 +238,7 @@ fn put_records(out: &mut [u8], at: usize, c: Carrier, s: &[u8]) -> usize
     o
 }
 
-// Writes a sheet.
+// Writes a sheet; of octets that are none nothing is said.
 pub fn put_sheet(out: &mut [u8], at: usize, c: Carrier, s: &[u8]) -> usize
     ensures { λ r. ⌜ ((rs : List Fields) → Standing c (now (s .entry)) 7 rs → Puts at (jsonOf c rs) (now (out .entry)) r (now (out .exit))) ⌝ }
 {

@@ -1,4 +1,4 @@
--- A sheet as lines for a person (docs/COMMAND.md, "Text of a sheet"). Each line begins with its line break, so that the last line has none.
+-- A sheet as lines for a person (docs/COMMAND.md, "Text of a sheet"). Each line but the first begins with a line break.
 -- Assumes nothing: these are definitions.
 use Prim.Native.Nat.{ℕ, zero, suc, _-_}
 use mathlib.Core.Bool.{Bool, false, cond, not}
@@ -38,7 +38,7 @@ leadOf label = labelOf label ++ gapOf (length label)
 
 -- ---- parameters
 
--- the value of a parameter
+-- the value of a parameter; that of no-default-alpn is empty in a sheet that writing accepts
 unfoldable pub valueBy : ℕ → List ℕ → List ℕ
 valueBy k v =
     cond (eqb k key.mandatory) (keysOf false v)
@@ -78,7 +78,7 @@ unfoldable pub commonOf : Carrier → ℕ → ℕ → Bool → List ℕ
 commonOf c priority lifetime full =
     leadOf (ascii "priority") ++ (decimalOf priority ++ (lifetimeOf c lifetime ++ cond full [] (ascii "\n    name only")))
 
--- a record's lines, after an empty one
+-- a record's lines, after an empty one; a record of mode 0 has neither addresses nor parameters
 unfoldable pub recordOf : Carrier → Fields → List ℕ
 recordOf c r =
     ascii "\n\n"

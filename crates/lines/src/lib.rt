@@ -1,4 +1,4 @@
-// A sheet as lines for a person. Each line begins with its line break, so that a sheet's last line has none.
+// A sheet as lines for a person. Each line but the first begins with a line break, so that the last line has none after it.
 ghost use mathlib.Core.Path.{_≡_};
 ghost use mathlib.Core.List.{List};
 ghost use Prim.Native.Nat.{_+_, _≤_, _<_};
@@ -209,7 +209,7 @@ fn put_head(out: &mut [u8], at: usize, c: Carrier, count: usize) -> usize
     put(out, end, b's')
 }
 
-// Writes a sheet of `count` records.
+// Writes a sheet of `count` records; of octets that are no such sheet nothing is said.
 pub fn put_sheet(out: &mut [u8], at: usize, c: Carrier, count: usize, s: &[u8]) -> usize
     ensures { λ r. ⌜ ((rs : List Fields) → Standing c (now (s .entry)) 7 rs → count ≡ length rs → Puts at (textOf c rs) (now (out .entry)) r (now (out .exit))) ⌝ }
 {

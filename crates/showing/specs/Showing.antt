@@ -1,4 +1,5 @@
--- What is shown of octets: of a sheet its text or its JSON, of octets that are no sheet nothing. Assumes nothing: these are definitions.
+-- What is shown of octets: of a sheet its text or its JSON, of octets that are no sheet nothing. A sheet is what taking answers (2, 40 to 43 and
+-- 4 tested); of one that writing refuses for another number the text means nothing. Assumes nothing: these are definitions.
 use mathlib.Core.Bool.{Bool, cond}
 use mathlib.Core.List.{List, []}
 use Prim.Native.Nat.{ℕ}

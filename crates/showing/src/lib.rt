@@ -22,7 +22,7 @@ pub fn put_sheet(out: &mut [u8], at: usize, s: &[u8], json: bool) -> usize
     }
 }
 
-// Writes a sheet at the front of `out`, and returns how many octets that is.
+// Writes a sheet and a line break at the front of `out`, and returns how many octets that is; of octets that are no sheet the line break alone.
 pub fn show(s: &[u8], out: &mut [u8], json: bool) -> usize
     ensures { λ r. ⌜ Counts r (now (out .exit)) ⌝ }
     ensures { λ r. ⌜ Puts 0 (shownOf json (now (s .entry)) ++ (10 ∷ [])) (now (out .entry)) r (now (out .exit)) ⌝ }

@@ -28,8 +28,8 @@ const SHEET: usize = 36775;
 // Octets that hold what any sheet is written as: sixteen records of 2,298 octets, and less than 64 more for each.
 const OCTETS: usize = 40960;
 
-// Octets that hold the text of any sheet. A parameter without a value takes 4 octets of a sheet and 45 of JSON at most, an octet of a value 5, an
-// address 42.
+// Octets that hold the text of any sheet. A parameter without a value takes 4 octets of a sheet and 45 of JSON at most, an octet of a value 5, a
+// mandatory key 18 for its 2, an address 42.
 const TEXT: usize = 524288;
 
 // ---- read

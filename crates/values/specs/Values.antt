@@ -43,8 +43,8 @@ codeOf json b = charOf json backslash ++ ((48 + b / 100) ∷ (48 + b / 10 % 10) 
 abbrev pub markedOf : Bool → ℕ → List ℕ
 markedOf json b = charOf json backslash ++ charOf json b
 
--- an octet of a value: printable ASCII as it is, but a backslash, a quotation mark and a comma after a backslash, and every other octet by its
--- code (as RFC 9460 appendix A.1 escapes them)
+-- an octet of a value: 33 to 126 as they are, but a backslash, a quotation mark and a comma after a backslash, and every other octet by its
+-- code (in the manner of RFC 9460 appendix A)
 unfoldable pub escapedOf : Bool → ℕ → List ℕ
 escapedOf json b =
     cond (leb b 32) (codeOf json b)
@@ -110,7 +110,7 @@ carrierOf Router = ascii "router advertisement"
 carrierOf Ike4 = ascii "IKEv2 ENCDNS_IP4"
 carrierOf Ike6 = ascii "IKEv2 ENCDNS_IP6"
 
--- a name in wire form, as text without a final dot; of octets that are no name at all, nothing
+-- a name in wire form, as text without a final dot; of fewer than two octets, which are no name, nothing
 unfoldable pub nameOf : List ℕ → List ℕ
 nameOf wire = cond (ltb (length wire) 2) [] (textOf wire)
 

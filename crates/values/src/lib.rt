@@ -1,5 +1,6 @@
 // Values as text and JSON show them: names, addresses, and the octets, keys and lists of parameters (docs/COMMAND.md). Octets of values are
-// escaped, so that only printable ASCII is written. Nothing here judges a value.
+// escaped. A name is shown as its text stands: that of a record that writing accepts has letters, digits, hyphens and dots alone.
+// Nothing here judges a value.
 ghost use mathlib.Core.Path.{_≡_};
 ghost use mathlib.Core.Bool.{cond};
 ghost use mathlib.Core.List.{[], _∷_, _++_};
@@ -58,8 +59,8 @@ fn put_marked(out: &mut [u8], at: usize, json: bool, b: u8) -> usize
     put_char(out, next, json, b)
 }
 
-// Writes an octet of a value: printable ASCII as it is, but a backslash, a quotation mark and a comma after a backslash, and every other
-// octet as a backslash and three decimal digits (as RFC 9460 appendix A.1 escapes them).
+// Writes an octet of a value: 33 to 126 as they are, but a backslash, a quotation mark and a comma after a backslash, and every other octet as
+// a backslash and three decimal digits (in the manner of RFC 9460 appendix A).
 fn put_escaped(out: &mut [u8], at: usize, json: bool, b: u8) -> usize
     ensures { λ r. ⌜ Puts at (escapedOf json b) (now (out .entry)) r (now (out .exit)) ⌝ }
 {

@@ -27,7 +27,7 @@ table =
     ∷ worded fault.field (ascii "a field runs past the end of its block, an instance past the joined data, or no instance")
     ∷ worded fault.priority (ascii "priority 0 (AliasMode)")
     ∷ worded fault.name (ascii "name not acceptable")
-    ∷ worded fault.addresses (ascii "no addresses, or their length is no multiple")
+    ∷ worded fault.addresses (ascii "no addresses, their length is no multiple, or name only in IKEv2")
     ∷ worded fault.limit (ascii "more than 63 addresses, or over 1,024 octets of parameters")
     ∷ worded fault.dropped (ascii "no usable address, or an unusable one in a sheet")
     ∷ worded fault.parameters (ascii "parameters: tiling, order or key 65535")

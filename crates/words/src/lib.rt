@@ -75,7 +75,11 @@ fn put_fault(out: &mut [u8], at: usize, number: usize) -> usize
         Fault::FIELD => put_field(out, at),
         Fault::PRIORITY => put_all(out, at, b"priority 0 (AliasMode)"),
         Fault::NAME => put_all(out, at, b"name not acceptable"),
-        Fault::ADDRESSES => put_all(out, at, b"no addresses, or their length is no multiple"),
+        Fault::ADDRESSES => put_all(
+            out,
+            at,
+            b"no addresses, their length is no multiple, or name only in IKEv2",
+        ),
         Fault::LIMIT => put_limit(out, at),
         Fault::DROPPED => put_all(out, at, b"no usable address, or an unusable one in a sheet"),
         Fault::PARAMETERS => put_all(out, at, b"parameters: tiling, order or key 65535"),
