@@ -57,6 +57,14 @@ host_tests() {
     failed=$((failed + $2))
 }
 
+# Waits for the command, which is built beside other checks.
+command_built() {
+    wait "$building"
+    status=$?
+    cat "$log/build"
+    return "$status"
+}
+
 # Compiles exactly when the header says what the source exports.
 header_held() {
     python3 tools/header.py include/dnr.h crates/dnr/src/lib.rt >"$log/header.c" &&
@@ -91,9 +99,12 @@ made_anew() {
 step "layout of the sources" rt fmt --check
 rt_ci
 step "libdnr.a" rt staticlib dnr
-step "build/dnr" sh tools/build.sh
+# the command is proved and linked while the host tests run, which need the library alone
+sh tools/build.sh >"$log/build" 2>&1 &
+building=$!
 step "include/dnr.h agrees with the source" header_held
 host_tests
+step "build/dnr" command_built
 tool "examples" sh tools/examples.sh
 tool "installation" sh tools/install.sh
 tool "command" sh tools/command.sh

@@ -27,7 +27,7 @@ copy-each-requires-2 : tie.Need-copy-each-requires-2
 copy-each-requires-2 c κs = omega (arith, ap length (held (c .before .before .before)))
 
 same-length : tie.Need-same-length
-same-length c = search needs
+same-length c = omega arith
 
 returns : tie.Need-returns
 returns c =

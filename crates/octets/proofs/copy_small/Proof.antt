@@ -1,16 +1,15 @@
 -- `octets::copy_small` meets its contract: the first octets, and then the last, which reach back to them. Assumes nothing.
-use borrow.Author.Needs.{needs}
 use mathlib.Core.Path.{ap}
 use native.Mathlib.Omega.{arith}
 use Prim.Native.Nat.{_-_}
-use lib.ListN.{length, length-take}
+use lib.ListN.{length, length-take, length-drop}
 use Rattle.octets.specs.OverLaws.{reaching-back}
 use Rattle.octets.specs.ListsLaws.{take-rest}
 use Rattle.octets.proofs.copy_small.Statement.{statement}
 use Rattle.octets.proofs.copy_small.Tie as tie
 
 sub-last : tie.Need-sub-last
-sub-last c = search needs
+sub-last c = omega arith
 
 slice-aggregate-copy-held : tie.Need-slice-aggregate-copy-held
 slice-aggregate-copy-held c = simp length-take (omega arith)
@@ -19,22 +18,22 @@ copy-held-requires : tie.Need-copy-held-requires
 copy-held-requires c κs = simp length-take (omega arith, omega arith)
 
 add-copy-held : tie.Need-add-copy-held
-add-copy-held c = search needs
+add-copy-held c = omega arith
 
 sub-copy-held : tie.Need-sub-copy-held
-sub-copy-held c = search needs
+sub-copy-held c = omega arith
 
 part-copy-held-start : tie.Need-part-copy-held-start
-part-copy-held-start c = search needs
+part-copy-held-start c = omega arith
 
 part-copy-held-end : tie.Need-part-copy-held-end
-part-copy-held-end c = search needs
+part-copy-held-end c = omega arith
 
 copy-held-requires-2 : tie.Need-copy-held-requires-2
-copy-held-requires-2 c κs = search needs
+copy-held-requires-2 c κs = simp (length-take, length-drop) (omega arith, omega arith)
 
 same-length : tie.Need-same-length
-same-length c = search needs
+same-length c = omega arith
 
 returns : tie.Need-returns
 returns c =
@@ -45,7 +44,7 @@ returns c =
     reaching-back 4 last (a .src .now) (omega arith) (omega arith) (omega arith) (v .copy-held .ensures) (rw (take-rest last (a .src .now)) at (w .copy-held2 .ensures))
 
 sub-last-2 : tie.Need-sub-last-2
-sub-last-2 c = search needs
+sub-last-2 c = omega arith
 
 slice-aggregate-copy-held-2 : tie.Need-slice-aggregate-copy-held-2
 slice-aggregate-copy-held-2 c = simp length-take (omega arith)
@@ -54,22 +53,22 @@ copy-held-requires-3 : tie.Need-copy-held-requires-3
 copy-held-requires-3 c κs = simp length-take (omega arith, omega arith)
 
 add-copy-held-2 : tie.Need-add-copy-held-2
-add-copy-held-2 c = search needs
+add-copy-held-2 c = omega arith
 
 sub-copy-held-2 : tie.Need-sub-copy-held-2
-sub-copy-held-2 c = search needs
+sub-copy-held-2 c = omega arith
 
 part-copy-held-start-2 : tie.Need-part-copy-held-start-2
-part-copy-held-start-2 c = search needs
+part-copy-held-start-2 c = omega arith
 
 part-copy-held-end-2 : tie.Need-part-copy-held-end-2
-part-copy-held-end-2 c = search needs
+part-copy-held-end-2 c = omega arith
 
 copy-held-requires-4 : tie.Need-copy-held-requires-4
-copy-held-requires-4 c κs = search needs
+copy-held-requires-4 c κs = simp (length-take, length-drop) (omega arith, omega arith)
 
 same-length-2 : tie.Need-same-length-2
-same-length-2 c = search needs
+same-length-2 c = omega arith
 
 returns-2 : tie.Need-returns-2
 returns-2 c =

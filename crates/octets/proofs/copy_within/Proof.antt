@@ -24,19 +24,19 @@ held-length c =
     ap length (held c) ∙ long
 
 add-end : tie.Need-add-end
-add-end c = search needs
+add-end c = omega arith
 
 slice-aggregate-copy-each : tie.Need-slice-aggregate-copy-each
 slice-aggregate-copy-each c = search needs
 
 sub-copy-each : tie.Need-sub-copy-each
-sub-copy-each c = search needs
+sub-copy-each c = omega arith
 
 part-copy-each-start : tie.Need-part-copy-each-start
-part-copy-each-start c = search needs
+part-copy-each-start c = omega arith
 
 part-copy-each-end : tie.Need-part-copy-each-end
-part-copy-each-end c = search needs
+part-copy-each-end c = omega arith
 
 copy-each-requires : tie.Need-copy-each-requires
 copy-each-requires c κs = search needs
@@ -51,7 +51,7 @@ copy-each-requires-2 : tie.Need-copy-each-requires-2
 copy-each-requires-2 c κs = omega (arith, held-length (c .before .before .before))
 
 same-length : tie.Need-same-length
-same-length c = search needs
+same-length c = omega arith
 
 returns : tie.Need-returns
 returns c =
