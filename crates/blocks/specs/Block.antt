@@ -10,8 +10,10 @@ use Rattle.octets.specs.Numbers.{be, zeros, allZero}
 use Rattle.octets.specs.Fields.{part, number, counted, putCounted}
 use Rattle.numbers.specs.Fault as fault
 use Rattle.carriers.specs.declared.Carrier.{Carrier}
-use Rattle.carriers.specs.declared.Carrier.the-variants.{Dhcp4, Dhcp6, Router, Ike4, Ike6}
-use Rattle.carriers.specs.Carriers.{lengthWidth, lifetimeWidth, addressWidth}
+use Rattle.carriers.specs.declared.Carrier.the-variants.{Router}
+use Rattle.carriers.specs.declared.Form.{Form}
+use Rattle.carriers.specs.declared.Form.the-variants.{Wire, Padded, Text}
+use Rattle.carriers.specs.Carriers.{headerOf, lengthWidth, formOf, lifetimeWidth, addressWidth}
 
 -- what a block says; `name` and `addresses` are as carried, so in carriers 4 and 5 the name is text
 pub record Fields : Type 0 where
@@ -83,12 +85,13 @@ attribute c l =
     fields (whole priority 0 name addresses parameters))))))
 
 -- the fields of a body, or its fault; a field past the end goes before what is no padding
+abbrev pub parseBy : Form → Carrier → List ℕ → Parsed
+parseBy Wire c l = opening c l (afterName c)
+parseBy Padded c l = opening c l afterNamePadded
+parseBy Text c l = attribute c l
+
 unfoldable pub parse : Carrier → List ℕ → Parsed
-parse Dhcp4 l = opening Dhcp4 l (afterName Dhcp4)
-parse Dhcp6 l = opening Dhcp6 l (afterName Dhcp6)
-parse Router l = opening Router l afterNamePadded
-parse Ike4 l = attribute Ike4 l
-parse Ike6 l = attribute Ike6 l
+parse c l = parseBy (formOf c) c l
 
 -- ---- writing: the same fields in the same order
 
@@ -122,21 +125,26 @@ putAttribute c f =
     ++ (f .addresses ++ (f .name ++ f .parameters))))
 
 -- the body that says these fields
+abbrev pub layoutBy : Form → Carrier → Fields → List ℕ
+layoutBy Wire c f = putOpening c f (putAfterName c f)
+layoutBy Padded c f = putOpening c f (putAfterNamePadded f)
+layoutBy Text c f = putAttribute c f
+
 unfoldable pub layout : Carrier → Fields → List ℕ
-layout Dhcp4 f = putOpening Dhcp4 f (putAfterName Dhcp4 f)
-layout Dhcp6 f = putOpening Dhcp6 f (putAfterName Dhcp6 f)
-layout Router f = putOpening Router f (putAfterNamePadded f)
-layout Ike4 f = putAttribute Ike4 f
-layout Ike6 f = putAttribute Ike6 f
+layout c f = layoutBy (formOf c) c f
 
 -- octets of the body that fields are laid out to: L in carrier 1, the option's length in carriers 2, 4 and 5, and in carrier 3 the option's
 -- octets without type and length
+abbrev pub sizeBy : Form → Carrier → Fields → ℕ
+sizeBy Wire c f =
+    cond (f .full)
+    (2 + lengthWidth c + lengthWidth c + length (f .name) + length (f .addresses) + length (f .parameters))
+    (2 + lengthWidth c + length (f .name))
+sizeBy Padded c f = optionSize f + gap (optionSize f) - headerOf Router
+sizeBy Text c f = 4 + length (f .addresses) + length (f .name) + length (f .parameters)
+
 abbrev pub sizeOf : Carrier → Fields → ℕ
-sizeOf Dhcp4 f = cond (f .full) (4 + length (f .name) + length (f .addresses) + length (f .parameters)) (3 + length (f .name))
-sizeOf Dhcp6 f = cond (f .full) (6 + length (f .name) + length (f .addresses) + length (f .parameters)) (4 + length (f .name))
-sizeOf Router f = optionSize f + gap (optionSize f) - 2
-sizeOf Ike4 f = 4 + length (f .addresses) + length (f .name) + length (f .parameters)
-sizeOf Ike6 f = 4 + length (f .addresses) + length (f .name) + length (f .parameters)
+sizeOf c f = sizeBy (formOf c) c f
 
 -- ---- what can be laid out, and what a carrier can bring
 
@@ -161,12 +169,13 @@ FitsRouter f =
 abbrev pub FitsAttribute : Carrier → Fields → Type 0
 FitsAttribute c f = (f .full ≡ true) × (length (f .addresses) % addressWidth c ≡ 0) × (length (f .addresses) / addressWidth c < 256)
 
+abbrev pub FitsBy : Form → Carrier → Fields → Type 0
+FitsBy Wire c f = FitsNamed c f
+FitsBy Padded c f = FitsRouter f
+FitsBy Text c f = FitsAttribute c f
+
 abbrev pub FitsTail : Carrier → Fields → Type 0
-FitsTail Dhcp4 f = FitsNamed Dhcp4 f
-FitsTail Dhcp6 f = FitsNamed Dhcp6 f
-FitsTail Router f = FitsRouter f
-FitsTail Ike4 f = FitsAttribute Ike4 f
-FitsTail Ike6 f = FitsAttribute Ike6 f
+FitsTail c f = FitsBy (formOf c) c f
 
 -- each number has room in its field; so a lifetime is 0 but in carrier 3
 pub record Fits (c : Carrier) (f : Fields) : Type 0 where
@@ -176,9 +185,10 @@ pub record Fits (c : Carrier) (f : Fields) : Type 0 where
   pub tail : FitsTail c f
 
 -- in carrier 3 the option, with its type and length, is a multiple of 8 (01, "length in units of 8 octets, header included")
+abbrev pub PossibleBy : Form → List ℕ → Type 0
+PossibleBy Wire l = Unit {0}
+PossibleBy Padded l = (length l + headerOf Router) % 8 ≡ 0
+PossibleBy Text l = Unit {0}
+
 abbrev pub Possible : Carrier → List ℕ → Type 0
-Possible Dhcp4 l = Unit {0}
-Possible Dhcp6 l = Unit {0}
-Possible Router l = (length l + 2) % 8 ≡ 0
-Possible Ike4 l = Unit {0}
-Possible Ike6 l = Unit {0}
+Possible c l = PossibleBy (formOf c) l

@@ -15,9 +15,12 @@ use Rattle.octets.specs.Fields.{counted, putCounted}
 use Rattle.octets.specs.FieldsLaws.{part-read, number-read, counted-read, part-says, number-says, counted-says}
 use Rattle.numbers.specs.Fault as fault
 use Rattle.carriers.specs.declared.Carrier.{Carrier}
-use Rattle.carriers.specs.declared.Carrier.the-variants.{Dhcp4, Dhcp6, Router, Ike4, Ike6}
-use Rattle.carriers.specs.Carriers.{lengthWidth, lifetimeWidth, addressWidth}
-use Rattle.blocks.specs.Block.{Fields, Parsed, bad, fields, nameOnly, whole, short, opening, afterName, isPadding, padded, afterNamePadded, attribute, parse, putOpening, putAfterName, gap, putAfterNamePadded, putAttribute, layout, FitsNamed, FitsRouter, FitsAttribute, Fits, Possible}
+use Rattle.carriers.specs.declared.Carrier.the-variants.{Router}
+use Rattle.carriers.specs.declared.Form.{Form}
+use Rattle.carriers.specs.declared.Form.the-variants.{Wire, Padded, Text}
+use Rattle.carriers.specs.Carriers.{lengthWidth, formOf, lifetimeIn, lifetimeWidth, addressWidth}
+use Rattle.carriers.specs.CarriersLaws.{padded-router, length-width, address-width}
+use Rattle.blocks.specs.Block.{Fields, Parsed, bad, fields, nameOnly, whole, short, opening, afterName, isPadding, padded, afterNamePadded, attribute, parseBy, parse, putOpening, putAfterName, gap, putAfterNamePadded, putAttribute, layoutBy, layout, FitsNamed, FitsRouter, FitsAttribute, FitsBy, Fits, PossibleBy, Possible}
 
 -- ---- laid out, then split
 
@@ -70,13 +73,15 @@ attribute-read c p t n b a q hp ht hn h =
     simp (number-read, part-read, z, h .0)
 
 -- what is laid out is split as it was
+layout-read : (k : Form) (c : Carrier) (f : Fields) → formOf c ≡ k → f .priority < 65536 → f .lifetime < 256 ^ lifetimeWidth c
+    → length (f .name) < 256 ^ lengthWidth c → FitsBy k c f → parseBy k c (layoutBy k c f) ≡ fields f
+layout-read Wire c f e p t n h = opening-read c f _ _ p t n ∙ afterName-read c _ _ _ (f .full) _ _ (length-width c .0) h
+layout-read Padded c f e p t n h = opening-read c f _ _ p t n ∙ afterNamePadded-read _ _ _ (f .full) _ _ h
+layout-read Text c f e p t n h = attribute-read c _ _ _ (f .full) _ _ p (rw e at t) n h
+
 pub parse-layout : (c : Carrier) (f : Fields) → Fits c f → parse c (layout c f) ≡ fields f
 unfolding parse layout
-parse-layout Dhcp4 f h = opening-read Dhcp4 f _ _ (h .priority) (h .lifetime) (h .name) ∙ afterName-read Dhcp4 _ _ _ (f .full) _ _ (omega arith) (h .tail)
-parse-layout Dhcp6 f h = opening-read Dhcp6 f _ _ (h .priority) (h .lifetime) (h .name) ∙ afterName-read Dhcp6 _ _ _ (f .full) _ _ (omega arith) (h .tail)
-parse-layout Router f h = opening-read Router f _ _ (h .priority) (h .lifetime) (h .name) ∙ afterNamePadded-read _ _ _ (f .full) _ _ (h .tail)
-parse-layout Ike4 f h = attribute-read Ike4 _ _ _ (f .full) _ _ (h .priority) (h .lifetime) (h .name) (h .tail)
-parse-layout Ike6 f h = attribute-read Ike6 _ _ _ (f .full) _ _ (h .priority) (h .lifetime) (h .name) (h .tail)
+parse-layout c f h = layout-read (formOf c) c f refl (h .priority) (h .lifetime) (h .name) (h .tail)
 
 -- ---- split, so it was laid out
 
@@ -120,10 +125,6 @@ opening-says c P l next h k =
     number-says short t (λ l. Says (P (be 2 p ++ l))) l _ h tt (λ u l hu h.
     counted-says short (lengthWidth c) (λ l. Says (P (be 2 p ++ (be t u ++ l)))) l _ h (λ _. tt) (λ n l hn _ h.
     k p u n l hp hu hn h)))
-
--- b is what f is laid out to, and f fits
-abbrev Laid : Carrier → List ℕ → Fields → Type 0
-Laid c b f = (b ≡ layout c f) × Fits c f
 
 -- what is to be shown of fields that fit
 abbrev Shown : Carrier → (Fields → List ℕ) → (Fields → Type 0) → (List ℕ → Fields → Type 0) → Type 0
@@ -169,23 +170,31 @@ attribute-says c P b z hw h k =
     let count : length a / w ≡ i = rw ea (mul-div-cancel i hw) in
     rw (← count, ← en) (k (whole p 0 n a q) hp (rw z (omega arith)) (rw en hm) (refl, rw ea (mul-mod-left i w), rw count hi)))))))
 
-parse-says : (c : Carrier) (b : List ℕ) → Bytes b → Possible c b → Says (Laid c b) (parse c b)
-unfolding parse layout
-parse-says Dhcp4 b h _ = named-says Dhcp4 (Laid Dhcp4) b h (λ f hp hu hn t. (refl, record { priority = hp; lifetime = hu; name = hn; tail = t }))
-parse-says Dhcp6 b h _ = named-says Dhcp6 (Laid Dhcp6) b h (λ f hp hu hn t. (refl, record { priority = hp; lifetime = hu; name = hn; tail = t }))
-parse-says Router b h m =
-    given-says (Laid Router b) (parse Router b) m
-    (router-says (Laid Router) b h (λ f hp hu hn t. (refl, record { priority = hp; lifetime = hu; name = hn; tail = t })))
-parse-says Ike4 b h _ = attribute-says Ike4 (Laid Ike4) b refl (omega arith) h (λ f hp hu hn t. (refl, record { priority = hp; lifetime = hu; name = hn; tail = t }))
-parse-says Ike6 b h _ = attribute-says Ike6 (Laid Ike6) b refl (omega arith) h (λ f hp hu hn t. (refl, record { priority = hp; lifetime = hu; name = hn; tail = t }))
+-- by the form: b is what f is laid out to, and f fits
+abbrev LaidBy : Form → Carrier → List ℕ → Fields → Type 0
+LaidBy k c b f = (b ≡ layoutBy k c f) × ((f .priority < 65536) × (f .lifetime < 256 ^ lifetimeWidth c) × (length (f .name) < 256 ^ lengthWidth c) × FitsBy k c f)
+
+form-says : (k : Form) (c : Carrier) (b : List ℕ) → formOf c ≡ k → Bytes b → PossibleBy k b → Says (LaidBy k c b) (parseBy k c b)
+form-says Wire c b e h _ = named-says c (LaidBy Wire c) b h (λ f hp hu hn t. (refl, (hp, hu, hn, t)))
+form-says Padded c b e h m =
+    rw (padded-router c e)
+    (given-says (LaidBy Padded Router b) (parseBy Padded Router b) m (router-says (LaidBy Padded Router) b h (λ f hp hu hn t. (refl, (hp, hu, hn, t)))))
+form-says Text c b e h _ = attribute-says c (LaidBy Text c) b (ap lifetimeIn e) (address-width c .0) h (λ f hp hu hn t. (refl, (hp, hu, hn, t)))
+
+parse-says : (c : Carrier) (b : List ℕ) → Bytes b → Possible c b → Says (LaidBy (formOf c) c b) (parse c b)
+unfolding parse
+parse-says c b h m = form-says (formOf c) c b refl h m
 
 -- what is split was laid out so
 pub layout-parse : (c : Carrier) (b : List ℕ) {f : Fields} → Bytes b → Possible c b → parse c b ≡ fields f → b ≡ layout c f
+unfolding layout
 layout-parse c b h m e = (rw e at (parse-says c b h m)) .0
 
 -- and its fields fit
 pub parse-fits : (c : Carrier) (b : List ℕ) {f : Fields} → Bytes b → Possible c b → parse c b ≡ fields f → Fits c f
-parse-fits c b h m e = (rw e at (parse-says c b h m)) .1
+parse-fits c b h m e =
+    let p = (rw e at (parse-says c b h m)) .1 in
+    record { priority = p .0; lifetime = p .1; name = p .2; tail = p .3 }
 
 -- both as one: a body says f exactly where it is f's layout and f fits
 pub parse-iff : (c : Carrier) (b : List ℕ) (f : Fields) → Bytes b → Possible c b → (parse c b ≡ fields f) ↔ ((b ≡ layout c f) × Fits c f)

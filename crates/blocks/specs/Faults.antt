@@ -11,9 +11,12 @@ use Rattle.octets.specs.Numbers.{val}
 use Rattle.octets.specs.Fields.{part, number, counted}
 use Rattle.numbers.specs.Fault as fault
 use Rattle.carriers.specs.declared.Carrier.{Carrier}
-use Rattle.carriers.specs.declared.Carrier.the-variants.{Dhcp4, Dhcp6, Router, Ike4, Ike6}
-use Rattle.carriers.specs.Carriers.{lengthWidth, lifetimeWidth, addressWidth}
-use Rattle.blocks.specs.Block.{Fields, Parsed, bad, fields, short, opening, afterName, isPadding, padded, afterNamePadded, attribute, parse}
+use Rattle.carriers.specs.declared.Carrier.the-variants.{Router}
+use Rattle.carriers.specs.declared.Form.{Form}
+use Rattle.carriers.specs.declared.Form.the-variants.{Wire, Padded, Text}
+use Rattle.carriers.specs.Carriers.{lengthWidth, formOf, lifetimeWidth, addressWidth}
+use Rattle.carriers.specs.CarriersLaws.{padded-router}
+use Rattle.blocks.specs.Block.{Fields, Parsed, bad, fields, short, opening, afterName, isPadding, padded, afterNamePadded, attribute, parseBy, parse}
 
 -- what holds of `short` and of all fields, and in carrier 3 of the fault of padding, holds of every answer
 module _ (Q : Parsed → Type 0) (stop : Q short) (good : (f : Fields) → Q (fields f)) where
@@ -42,8 +45,8 @@ module _ (Q : Parsed → Type 0) (stop : Q short) (good : (f : Fields) → Q (fi
   padded-all : Q (bad fault.padding) → (l : List ℕ) (f : Fields) → Q (padded l f)
   padded-all h l f = either-all (isPadding l) _ _ (good f) h
 
-  router-all : Q (bad fault.padding) → (l : List ℕ) → Q (opening Router l afterNamePadded)
-  router-all h l = opening-all Router l afterNamePadded (λ p t n l.
+  router-all : Q (bad fault.padding) → (c : Carrier) (l : List ℕ) → Q (opening c l afterNamePadded)
+  router-all h c l = opening-all c l afterNamePadded (λ p t n l.
       either-all (ltb (length l) 8) _ _ (padded-all h l _) (counted-all 2 l _ (λ a l. counted-all 2 l _ (λ q l. padded-all h l _))))
 
   attribute-all : (c : Carrier) (l : List ℕ) → Q (attribute c l)
@@ -51,13 +54,14 @@ module _ (Q : Parsed → Type 0) (stop : Q short) (good : (f : Fields) → Q (fi
       number-all 2 l _ (λ p l. number-all 1 l _ (λ i l. number-all (lengthWidth c) l _ (λ m l.
       part-all (i * addressWidth c) l _ (λ a l. part-all m l _ (λ n q. good _)))))
 
+  form-all : (k : Form) (c : Carrier) (l : List ℕ) → (k ≡ Padded → Q (bad fault.padding)) → Q (parseBy k c l)
+  form-all Wire c l h = named-all c l
+  form-all Padded c l h = router-all (h refl) c l
+  form-all Text c l h = attribute-all c l
+
   parse-all : (c : Carrier) (l : List ℕ) → (c ≡ Router → Q (bad fault.padding)) → Q (parse c l)
   unfolding parse
-  parse-all Dhcp4 l h = named-all Dhcp4 l
-  parse-all Dhcp6 l h = named-all Dhcp6 l
-  parse-all Router l h = router-all (h refl) l
-  parse-all Ike4 l h = attribute-all Ike4 l
-  parse-all Ike6 l h = attribute-all Ike6 l
+  parse-all c l h = form-all (formOf c) c l (λ e. h (padded-router c e))
 
 pub parse-fault : (c : Carrier) (b : List ℕ) (k : ℕ) → parse c b ≡ bad k → (k ≡ fault.field) ⊎ ((c ≡ Router) × (k ≡ fault.padding))
 parse-fault c b k =

@@ -4,7 +4,6 @@ use mathlib.Core.Bool.{true, false, cond}
 use mathlib.Core.List.{List}
 use Prim.Native.Nat.{ℕ, _+_, _%_, _≤_, _<_}
 use lib.ListN.{length, take, drop}
-use Rattle.octets.specs.Numbers.{val}
 use Rattle.carriers.specs.declared.Carrier.{Carrier}
 use Rattle.carriers.specs.Carriers.{lengthWidth, lifetimeWidth, addressWidth, asText}
 use Rattle.blocks.specs.declared.Places.{Places}
@@ -42,10 +41,6 @@ Ranged c (Full p t at n a m q k) = Numbers c p t × (at ≡ nameAt c m) × (asTe
 -- carriers 1 and 2: no lifetime, and the name is not text
 abbrev pub Named : Carrier → Type 0
 Named c = (lifetimeWidth c ≡ 0) × (asText c ≡ false)
-
--- the number in the w octets at an offset
-unfoldable pub numberAt : ℕ → ℕ → List ℕ → ℕ
-numberAt w at b = val (take w (drop at b))
 
 -- `next` on the name of n octets at an offset, and on what follows it
 abbrev pub pastName : ℕ → ℕ → List ℕ → (List ℕ → List ℕ → Parsed) → Parsed

@@ -9,48 +9,24 @@ use native.Mathlib.Omega.{arith}
 use borrow.Author.Tests.{le-ltb, lt-ltb, eq-eqb, ne-eqb}
 use lib.Dec.{ltb}
 use lib.ListN.{length, take, drop, getD, length-drop}
-use lib.Seq.{drop-drop, drop-cons}
-use Rattle.octets.specs.Numbers.{val, at16, at32, allZero}
-use Rattle.octets.specs.NumbersLaws.{at16-val, at32-val}
+use lib.Seq.{drop-drop}
+use Rattle.octets.specs.Numbers.{val, at16, at32, numberAt, allZero}
+use Rattle.octets.specs.NumbersLaws.{at16-val, number-8, number-16, number-32}
 use Rattle.octets.specs.ListsLaws.{take-rest}
 use Rattle.octets.specs.Fields.{number, counted}
 use Rattle.numbers.specs.Fault as fault
 use Rattle.carriers.specs.declared.Carrier.{Carrier}
-use Rattle.carriers.specs.declared.Carrier.the-variants.{Dhcp4, Dhcp6, Router, Ike4, Ike6}
-use Rattle.carriers.specs.Carriers.{lengthWidth, lifetimeWidth, addressWidth, asText}
+use Rattle.carriers.specs.declared.Carrier.the-variants.{Router}
+use Rattle.carriers.specs.declared.Form.{Form}
+use Rattle.carriers.specs.Carriers.{lengthWidth, formOf, lifetimeWidth, addressWidth, asText}
+use Rattle.carriers.specs.CarriersLaws.{address-width, text-width, wire-form, text-form}
 use Rattle.blocks.specs.declared.Places.{Places}
 use Rattle.blocks.specs.declared.Places.the-variants.{Bad, NameOnly, Full}
-use Rattle.blocks.specs.Block.{Parsed, fields, whole, short, opening, afterName, isPadding, padded, afterNamePadded, attribute, parse}
+use Rattle.blocks.specs.Block.{Parsed, fields, whole, short, opening, afterName, isPadding, padded, afterNamePadded, attribute, parseBy, parse}
 use Rattle.blocks.specs.Together.{part-is, part-two, part-three}
-use Rattle.blocks.specs.Places.{told, Inside, nameAt, Numbers, Ranged, Named, numberAt, pastName}
-
-number-16 : (b : List ℕ) (i : ℕ) → i + 1 < length b → at16 b i ≡ numberAt 2 i b
-unfolding numberAt
-number-16 b i h = at16-val b i h
-
-number-32 : (b : List ℕ) (i : ℕ) → i + 3 < length b → at32 b i ≡ numberAt 4 i b
-unfolding numberAt
-number-32 b i h = at32-val b i h
-
-number-8 : (b : List ℕ) (i : ℕ) → i < length b → getD b i 0 ≡ numberAt 1 i b
-unfolding numberAt
-number-8 b i h = rw (drop-cons b i 0 h) (omega arith)
+use Rattle.blocks.specs.Places.{told, Inside, nameAt, Numbers, Ranged, Named, pastName}
 
 -- ---- widths
-
-pub length-width : (c : Carrier) → (0 < lengthWidth c) × (lengthWidth c ≤ 2)
-length-width Dhcp4 = (omega arith, omega arith)
-length-width Dhcp6 = (omega arith, omega arith)
-length-width Router = (omega arith, omega arith)
-length-width Ike4 = (omega arith, omega arith)
-length-width Ike6 = (omega arith, omega arith)
-
-pub address-width : (c : Carrier) → (0 < addressWidth c) × (addressWidth c ≤ 16)
-address-width Dhcp4 = (omega arith, omega arith)
-address-width Dhcp6 = (omega arith, omega arith)
-address-width Router = (omega arith, omega arith)
-address-width Ike4 = (omega arith, omega arith)
-address-width Ike6 = (omega arith, omega arith)
 
 -- octets of the addresses in carriers 4 and 5
 pub addresses-fit : (c : Carrier) {k w : ℕ} → k < 256 → w ≡ addressWidth c → k * w < 4096
@@ -84,11 +60,7 @@ opening-is c b next = part-three short 2 (lifetimeWidth c) (lengthWidth c) b _ �
 
 named-parse : (c : Carrier) (b : List ℕ) → Named c → parse c b ≡ opening c b (afterName c)
 unfolding parse
-named-parse Dhcp4 b h = refl
-named-parse Dhcp6 b h = refl
-named-parse Router b h = absurd (omega (arith, h .0))
-named-parse Ike4 b h = absurd (true≢false (h .1))
-named-parse Ike6 b h = absurd (true≢false (h .1))
+named-parse c b h = ap (λ (k : Form). parseBy k c b) (wire-form (formOf c) (h .0) (h .1))
 
 module _ (c : Carrier) (b : List ℕ) (z : Named c) {w : ℕ} (e : w ≡ lengthWidth c) where
   named-is : let n : ℕ = numberAt w 2 b in
@@ -242,20 +214,9 @@ module _ {p t : ℕ} (h : p < 65536) (i : t < 4294967296) where
 
 -- ---- carriers 4 and 5
 
-text-width : (c : Carrier) → asText c ≡ true → lengthWidth c ≡ 1
-text-width Dhcp4 h = absurd (false≢true h)
-text-width Dhcp6 h = absurd (false≢true h)
-text-width Router h = absurd (false≢true h)
-text-width Ike4 h = refl
-text-width Ike6 h = refl
-
 attribute-parse : (c : Carrier) (b : List ℕ) → asText c ≡ true → parse c b ≡ attribute c b
 unfolding parse
-attribute-parse Dhcp4 b h = absurd (false≢true h)
-attribute-parse Dhcp6 b h = absurd (false≢true h)
-attribute-parse Router b h = absurd (false≢true h)
-attribute-parse Ike4 b h = refl
-attribute-parse Ike6 b h = refl
+attribute-parse c b h = ap (λ (k : Form). parseBy k c b) (text-form (formOf c) h)
 
 module _ (c : Carrier) (b : List ℕ) (z : asText c ≡ true) where
   attribute-is : let k : ℕ = numberAt 1 2 b * addressWidth c in let n : ℕ = numberAt 1 3 b in

@@ -5,10 +5,11 @@ ghost use mathlib.Core.Path.{_≡_};
 ghost use mathlib.Core.Bool.{true};
 ghost use Prim.Native.Nat.{_+_, _≤_, _<_};
 ghost use lib.ListN.{length};
+ghost use Rattle.octets.specs.Numbers.{numberAt};
 ghost use Rattle.carriers.specs.Carriers.{lengthWidth, asText};
 ghost use Rattle.carriers.specs.declared.Carrier.the-variants.{Router};
 ghost use Rattle.blocks.specs.Block.{isPadding, afterName, afterNamePadded, parse};
-ghost use Rattle.blocks.specs.Places.{Named, numberAt, pastName, told, Inside, Ranged};
+ghost use Rattle.blocks.specs.Places.{Named, pastName, told, Inside, Ranged};
 use carriers::Carrier;
 
 // Where the fields of a body stand, or its fault.
@@ -239,7 +240,7 @@ fn attribute(carrier: Carrier, body: &[u8]) -> Places
 }
 
 // Where the fields of a body stand, or its fault. (`&body[..]`: a slice that is lent anew goes on in registers, one that is handed on as it
-// came goes through memory.)
+// came goes through memory. One arm for each carrier: its widths are then known where they are used.)
 pub fn split(carrier: Carrier, body: &[u8]) -> Places
     ensures { λ r. ⌜ told (now (body .entry)) r ≡ parse carrier (now (body .entry)) ⌝ }
     ensures { λ r. ⌜ Inside (now (body .entry)) r ⌝ }

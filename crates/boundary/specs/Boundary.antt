@@ -7,7 +7,7 @@ use native.Mathlib.Omega.{arith}
 use borrow.Author.Tests.{lt-ltb, le-ltb}
 use lib.Dec.{ltb}
 use lib.ListN.{length, getD}
-use Rattle.octets.specs.Numbers.{allZero}
+use Rattle.octets.specs.Numbers.{allZero, numberAt}
 use Rattle.octets.specs.Lists.{All}
 use Rattle.octets.specs.ListsLaws.{all-at}
 use Rattle.octets.specs.Fields.{part, number, counted}
@@ -90,7 +90,7 @@ rising12 =
 
 -- each piece holds: the octets come back but of K7, K10 and K11, whose sheets have no record, and of K12
 pub boundary : All Holds table
-unfolding readOf chosenOf frameFrom parse part number counted isPadding allZero instancesFrom joinedYield outcomeOf judgedOf
+unfolding readOf chosenOf frameFrom numberAt parse part number counted isPadding allZero instancesFrom joinedYield outcomeOf judgedOf
     nameCheck wire.walk alnum textCheck text.walk wireOf wireFrom run
     tailFault listOf keptOf unusable unusable4 unusable16
     paramsFault pairsFrom sizeOf keys rising has hasHint stringsFrom alpnGood valueGood allGood

@@ -5,7 +5,7 @@ use mathlib.Core.List.{List, [], _∷_, _++_, map}
 use Prim.Native.Nat.{ℕ, _*_}
 use native.Mathlib.Omega.{arith}
 use lib.ListN.{length, getD, take, drop, set}
-use Rattle.octets.specs.Numbers.{be, zeros, at16}
+use Rattle.octets.specs.Numbers.{be, zeros, at16, numberAt}
 use Rattle.octets.specs.Lists.{All, flat}
 use Rattle.octets.specs.Fields.{part, number, counted}
 use Rattle.carriers.specs.declared.Carrier.the-variants.{Dhcp4, Dhcp6, Router, Ike4, Ike6}
@@ -52,12 +52,12 @@ options p = bodies (frame Dhcp4 (p .area))
 
 -- K8's joined data are 300 octets, in options of 255 and 45
 k8-options : (length (flat (options k8)) ≡ 300) × (map length (options k8) ≡ 255 ∷ 45 ∷ [])
-unfolding frameFrom
+unfolding frameFrom numberAt
 k8-options = (refl, refl)
 
 -- K9's joined data are 255 octets, in one option
 k9-options : (length (flat (options k9)) ≡ 255) × (map length (options k9) ≡ 255 ∷ [])
-unfolding frameFrom
+unfolding frameFrom numberAt
 k9-options = (refl, refl)
 
 -- an output of 59 octets for K1: 5; of 60: done

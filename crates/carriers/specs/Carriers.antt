@@ -1,11 +1,14 @@
--- What is said of each carrier (01, "Five carriers, by number", "Area walk", "Block layouts"). Assumes nothing: these are definitions.
+-- What is said of each carrier (01, "Five carriers, by number", "Area walk", "Block layouts"): one table. Assumes nothing: these are definitions.
 use mathlib.Core.Bool.{Bool, true, false, cond}
-use Prim.Native.Nat.{ℕ}
+use Prim.Native.Nat.{ℕ, _+_, _%_}
 use lib.Dec.{eqb}
 use Rattle.carriers.specs.declared.Carrier.{Carrier}
 use Rattle.carriers.specs.declared.Carrier.the-variants.{Dhcp4, Dhcp6, Router, Ike4, Ike6}
 use Rattle.carriers.specs.declared.Chosen.{Chosen}
 use Rattle.carriers.specs.declared.Chosen.the-variants.{Known, Unknown}
+use Rattle.carriers.specs.declared.Facts.{Facts}
+use Rattle.carriers.specs.declared.Form.{Form}
+use Rattle.carriers.specs.declared.Form.the-variants.{Wire, Padded, Text}
 use Rattle.carriers.specs.declared.Octets.{Octets}
 
 -- the carrier of a number
@@ -17,60 +20,79 @@ chosenOf n =
     (cond (eqb n 4) (Known Ike4)
     (cond (eqb n 5) (Known Ike6) Unknown))))
 
+-- ---- the table
+
+-- number and code (RFC 9463 §9, RFC 9464 §8); of a header: octets of code and of length each, whether a bit of the code is reserved (RFC 7296 §3.15.1),
+-- whether the length is in units of eight and counts the header (RFC 4861 §4.6); whether options are joined, between padding (RFC 3396, RFC 2132);
+-- of a body: octets of an address and of a length, and its form
+abbrev row : ℕ → ℕ → ℕ → Bool → Bool → Bool → ℕ → ℕ → Form → Facts
+row n c w r e j a l k = record { number = n; code = c; width = w; reserved = r; eights = e; joined = j; address = a; length = l; form = k }
+
+abbrev pub factsOf : Carrier → Facts
+factsOf Dhcp4 = row 1 162 1 false false true 4 1 Wire
+factsOf Dhcp6 = row 2 144 2 false false false 16 2 Wire
+factsOf Router = row 3 144 1 false true false 16 2 Padded
+factsOf Ike4 = row 4 27 2 true false false 4 1 Text
+factsOf Ike6 = row 5 28 2 true false false 16 1 Text
+
 abbrev pub numberOf : Carrier → ℕ
-numberOf Dhcp4 = 1
-numberOf Dhcp6 = 2
-numberOf Router = 3
-numberOf Ike4 = 4
-numberOf Ike6 = 5
+numberOf c = factsOf c .number
 
--- the code of the carrier's own options, or the type of its attributes (RFC 9463 §9, RFC 9464 §8)
+-- the code of the carrier's own options, or the type of its attributes
 abbrev pub codeOf : Carrier → ℕ
-codeOf Dhcp4 = 162
-codeOf Dhcp6 = 144
-codeOf Router = 144
-codeOf Ike4 = 27
-codeOf Ike6 = 28
+codeOf c = factsOf c .code
 
--- octets of an option's header
+-- octets of the code in an option's header, of the length, and of the header
+abbrev pub headWidth : Carrier → ℕ
+headWidth c = factsOf c .width
+
 abbrev pub headerOf : Carrier → ℕ
-headerOf Dhcp4 = 2
-headerOf Dhcp6 = 4
-headerOf Router = 2
-headerOf Ike4 = 4
-headerOf Ike6 = 4
+headerOf c = headWidth c + headWidth c
+
+-- whether the highest bit of a 16-bit code is reserved, and what was read without it
+abbrev pub hasReserved : Carrier → Bool
+hasReserved c = factsOf c .reserved
+
+abbrev pub bareCode : Bool → ℕ → ℕ
+bareCode reserved n = cond reserved (n % 32768) n
+
+-- whether a length is in units of eight and counts the header
+abbrev pub inEights : Carrier → Bool
+inEights c = factsOf c .eights
+
+-- whether an area has padding and an end, and the data of its own options are one
+abbrev pub isJoined : Carrier → Bool
+isJoined c = factsOf c .joined
 
 -- octets of an address
 abbrev pub addressWidth : Carrier → ℕ
-addressWidth Dhcp4 = 4
-addressWidth Dhcp6 = 16
-addressWidth Router = 16
-addressWidth Ike4 = 4
-addressWidth Ike6 = 16
+addressWidth c = factsOf c .address
 
 -- octets of the ADN length, of the address length in carriers 1 to 3, and of the parameter length in carrier 3
 abbrev pub lengthWidth : Carrier → ℕ
-lengthWidth Dhcp4 = 1
-lengthWidth Dhcp6 = 2
-lengthWidth Router = 2
-lengthWidth Ike4 = 1
-lengthWidth Ike6 = 1
+lengthWidth c = factsOf c .length
+
+-- the form of its bodies
+abbrev pub formOf : Carrier → Form
+formOf c = factsOf c .form
 
 -- octets of a lifetime: only carrier 3 has one
+abbrev pub lifetimeIn : Form → ℕ
+lifetimeIn Wire = 0
+lifetimeIn Padded = 4
+lifetimeIn Text = 0
+
 abbrev pub lifetimeWidth : Carrier → ℕ
-lifetimeWidth Dhcp4 = 0
-lifetimeWidth Dhcp6 = 0
-lifetimeWidth Router = 4
-lifetimeWidth Ike4 = 0
-lifetimeWidth Ike6 = 0
+lifetimeWidth c = lifetimeIn (formOf c)
 
 -- whether the name stands as text, and there is no name-only form (01, "Carriers 4 and 5 have no such mode")
+abbrev pub textIn : Form → Bool
+textIn Wire = false
+textIn Padded = false
+textIn Text = true
+
 abbrev pub asText : Carrier → Bool
-asText Dhcp4 = false
-asText Dhcp6 = false
-asText Router = false
-asText Ike4 = true
-asText Ike6 = true
+asText c = textIn (formOf c)
 
 -- a length in octets
 abbrev pub octets : ℕ → Octets

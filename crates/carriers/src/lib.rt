@@ -1,9 +1,9 @@
-// The five carriers (document 01, "Five carriers, by number") and what differs between them as data: option codes as associated
-// constants, header sizes and widths as functions. Lengths in octets and in units of eight are two types that are never mixed
-// (document 01, "Block layouts"); they are converted here alone, each way in one function.
+// The five carriers (document 01, "Five carriers, by number") and what differs between them as data: one table, with a row for each
+// carrier. Lengths in octets and in units of eight are two types that are never mixed (document 01, "Block layouts"); they are
+// converted here alone, each way in one function.
 ghost use mathlib.Core.Path.{_≡_};
 ghost use Prim.Native.Nat.{_*_, _/_, _<_};
-ghost use Rattle.carriers.specs.Carriers.{chosenOf, numberOf, codeOf, headerOf, addressWidth, lengthWidth, lifetimeWidth, asText};
+ghost use Rattle.carriers.specs.Carriers.{chosenOf, factsOf, numberOf, codeOf, headerOf, addressWidth, lengthWidth, formOf, lifetimeWidth, asText};
 
 pub enum Carrier {
     // 1: DHCPv4 option 162 (RFC 9463 §5).
@@ -24,28 +24,57 @@ pub enum Chosen {
     Unknown,
 }
 
+// The form of a block's body (document 01, "Block layouts").
+pub enum Form {
+    // Carriers 1 and 2: the name in wire form, and alone or with addresses and parameters.
+    Wire,
+    // Carrier 3: the same with a lifetime before it, a length before the parameters, and padding.
+    Padded,
+    // Carriers 4 and 5: addresses, the name as text, parameters; there is no name-only form.
+    Text,
+}
+
+// What is said of a carrier: a row of the table.
+pub struct Facts {
+    pub number: u8,
+    // The code of its own options, or the type of its attributes.
+    pub code: usize,
+    // Octets of the code in an option's header, and of the length.
+    pub width: usize,
+    // Whether the highest bit of a code is reserved, and is ignored when read (RFC 7296 §3.15.1).
+    pub reserved: bool,
+    // Whether a length is in units of eight octets and counts the header (RFC 4861 §4.6).
+    pub eights: bool,
+    // Whether an area has padding and an end (RFC 2132 §3.1, §3.2), and the data of its own options are one (RFC 3396).
+    pub joined: bool,
+    // Octets of an address.
+    pub address: usize,
+    // Octets of the ADN length, and of the address length in carriers 1 to 3.
+    pub length: usize,
+    pub form: Form,
+}
+
 // A length in octets.
 pub struct Octets(pub usize);
 
-// A length in units of 8 octets, as carrier 3 has it in one octet.
-pub struct Eights(pub u8);
+// A length in units of 8 octets, as carrier 3 has it.
+pub struct Eights(pub usize);
 
 // The one place where units of eight become octets.
 pub fn octets_of(e: Eights) -> Octets
+    requires { ⌜ e .0 < 65536 ⌝ }
     ensures { λ r. ⌜ r .0 ≡ 8 * e .0 ⌝ }
-    ensures { λ r. ⌜ r .0 < 2048 ⌝ }
 {
     let units = e.0;
-    Octets(8 * octets::wide(units))
+    Octets(8 * units)
 }
 
 // The one place where octets become units of eight.
 pub fn eights_of(o: Octets) -> Eights
-    requires { ⌜ o .0 < 2048 ⌝ }
     ensures { λ r. ⌜ r .0 ≡ o .0 / 8 ⌝ }
 {
     let n = o.0;
-    Eights((n / 8) as u8)
+    Eights(n / 8)
 }
 
 impl Carrier {
@@ -82,80 +111,125 @@ impl Carrier {
         Chosen::Unknown
     }
 
+    // The table.
+    pub fn facts(self) -> Facts
+        ensures { λ r. ⌜ r ≡ factsOf self ⌝ }
+    {
+        match self {
+            Carrier::Dhcp4 => Facts {
+                number: 1,
+                code: Carrier::DHCP4,
+                width: 1,
+                reserved: false,
+                eights: false,
+                joined: true,
+                address: 4,
+                length: 1,
+                form: Form::Wire,
+            },
+            Carrier::Dhcp6 => Facts {
+                number: 2,
+                code: Carrier::DHCP6,
+                width: 2,
+                reserved: false,
+                eights: false,
+                joined: false,
+                address: 16,
+                length: 2,
+                form: Form::Wire,
+            },
+            Carrier::Router => Facts {
+                number: 3,
+                code: Carrier::ROUTER,
+                width: 1,
+                reserved: false,
+                eights: true,
+                joined: false,
+                address: 16,
+                length: 2,
+                form: Form::Padded,
+            },
+            Carrier::Ike4 => Facts {
+                number: 4,
+                code: Carrier::IKE4,
+                width: 2,
+                reserved: true,
+                eights: false,
+                joined: false,
+                address: 4,
+                length: 1,
+                form: Form::Text,
+            },
+            Carrier::Ike6 => Facts {
+                number: 5,
+                code: Carrier::IKE6,
+                width: 2,
+                reserved: true,
+                eights: false,
+                joined: false,
+                address: 16,
+                length: 1,
+                form: Form::Text,
+            },
+        }
+    }
+
     pub fn number(self) -> u8
         ensures { λ r. ⌜ r ≡ numberOf self ⌝ }
     {
-        match self {
-            Carrier::Dhcp4 => 1,
-            Carrier::Dhcp6 => 2,
-            Carrier::Router => 3,
-            Carrier::Ike4 => 4,
-            Carrier::Ike6 => 5,
-        }
+        let f = self.facts();
+        f.number
     }
 
     // The code of the options, or the type of the attributes, that are this carrier's blocks.
     pub fn code(self) -> usize
         ensures { λ r. ⌜ r ≡ codeOf self ⌝ }
     {
-        match self {
-            Carrier::Dhcp4 => Carrier::DHCP4,
-            Carrier::Dhcp6 => Carrier::DHCP6,
-            Carrier::Router => Carrier::ROUTER,
-            Carrier::Ike4 => Carrier::IKE4,
-            Carrier::Ike6 => Carrier::IKE6,
-        }
+        let f = self.facts();
+        f.code
     }
 
     // Octets of an option's header.
     pub fn header_size(self) -> usize
         ensures { λ r. ⌜ r ≡ headerOf self ⌝ }
     {
-        match self {
-            Carrier::Dhcp4 => 2,
-            Carrier::Dhcp6 => 4,
-            Carrier::Router => 2,
-            Carrier::Ike4 => 4,
-            Carrier::Ike6 => 4,
-        }
+        let f = self.facts();
+        let width = f.width;
+        width + width
     }
 
     // Octets of an address.
     pub fn address_width(self) -> usize
         ensures { λ r. ⌜ r ≡ addressWidth self ⌝ }
     {
-        match self {
-            Carrier::Dhcp4 => 4,
-            Carrier::Dhcp6 => 16,
-            Carrier::Router => 16,
-            Carrier::Ike4 => 4,
-            Carrier::Ike6 => 16,
-        }
+        let f = self.facts();
+        f.address
     }
 
     // Octets of the ADN length, and of the address length in carriers 1 to 3.
     pub fn length_width(self) -> usize
         ensures { λ r. ⌜ r ≡ lengthWidth self ⌝ }
     {
-        match self {
-            Carrier::Dhcp4 => 1,
-            Carrier::Dhcp6 => 2,
-            Carrier::Router => 2,
-            Carrier::Ike4 => 1,
-            Carrier::Ike6 => 1,
-        }
+        let f = self.facts();
+        f.length
+    }
+
+    // The form of its bodies.
+    pub fn form(self) -> Form
+        ensures { λ r. ⌜ r ≡ formOf self ⌝ }
+    {
+        let f = self.facts();
+        f.form
     }
 
     // Octets of a lifetime: only carrier 3 has one.
     pub fn lifetime_width(self) -> usize
         ensures { λ r. ⌜ r ≡ lifetimeWidth self ⌝ }
     {
-        match self {
-            Carrier::Dhcp4 => 0,
-            Carrier::Dhcp6 => 0,
-            Carrier::Router => 4,
-            Carrier::Ike4 => 0,
-            Carrier::Ike6 => 0,
+        match self.form() {
+            Form::Wire => 0,
+            Form::Padded => 4,
+            Form::Text => 0,
         }
     }
 
@@ -163,12 +237,10 @@ impl Carrier {
     pub fn as_text(self) -> bool
         ensures { λ r. ⌜ r ≡ asText self ⌝ }
     {
-        match self {
-            Carrier::Dhcp4 => false,
-            Carrier::Dhcp6 => false,
-            Carrier::Router => false,
-            Carrier::Ike4 => true,
-            Carrier::Ike6 => true,
+        match self.form() {
+            Form::Wire => false,
+            Form::Padded => false,
+            Form::Text => true,
         }
     }
 }

@@ -12,8 +12,11 @@ use Rattle.octets.specs.NumbersLaws.{bytes-left, bytes-right}
 use Rattle.octets.specs.Numbers.{be, Bytes}
 use Rattle.octets.specs.Fields.{putCounted}
 use Rattle.carriers.specs.declared.Carrier.{Carrier}
-use Rattle.carriers.specs.declared.Carrier.the-variants.{Dhcp4, Dhcp6, Router, Ike4, Ike6}
-use Rattle.carriers.specs.Carriers.{lengthWidth, lifetimeWidth, addressWidth, asText}
+use Rattle.carriers.specs.declared.Carrier.the-variants.{Router}
+use Rattle.carriers.specs.declared.Form.{Form}
+use Rattle.carriers.specs.declared.Form.the-variants.{Wire, Padded, Text}
+use Rattle.carriers.specs.Carriers.{lengthWidth, lifetimeWidth, addressWidth, asText, formOf}
+use Rattle.carriers.specs.CarriersLaws.{padded-router}
 use Rattle.names.specs.declared.Name.the-variants.{Good}
 use Rattle.names.specs.Wire.{nameCheck}
 use Rattle.names.specs.Exact as names
@@ -21,7 +24,7 @@ use Rattle.texts.specs.TextCheck.{textCheck}
 use Rattle.texts.specs.Exact as texts
 use Rattle.addresses.specs.Addresses.{listOf, keptOf}
 use Rattle.svcparams.specs.Exactly.{params-exactly}
-use Rattle.blocks.specs.Block.{Fields, putOpening, putAfterName, putAfterNamePadded, putAttribute, padding, layout}
+use Rattle.blocks.specs.Block.{Fields, putOpening, putAfterName, putAfterNamePadded, putAttribute, padding, layoutBy, layout}
 use Rattle.judge.specs.declared.Side.the-variants.{Reading}
 use Rattle.judge.specs.Passed.{PassedTail, Passed}
 use Rattle.exactly.specs.Allowed.{NameAllowed, TailAllowed, Allowed}
@@ -67,11 +70,12 @@ attribute-parameters c f h =
 -- the parameters of a layout of octets are octets
 pub parameters-bytes : (c : Carrier) (f : Fields) → f .full ≡ true → Bytes (layout c f) → Bytes (f .parameters)
 unfolding layout
-parameters-bytes Dhcp4 f e h = named-parameters Dhcp4 f e h
-parameters-bytes Dhcp6 f e h = named-parameters Dhcp6 f e h
-parameters-bytes Router f e h = router-parameters f e h
-parameters-bytes Ike4 f e h = attribute-parameters Ike4 f h
-parameters-bytes Ike6 f e h = attribute-parameters Ike6 f h
+parameters-bytes c f e h = go (formOf c) refl h
+  where
+    go : (k : Form) → formOf c ≡ k → Bytes (layoutBy k c f) → Bytes (f .parameters)
+    go Wire q h = named-parameters c f e h
+    go Padded q h = router-parameters f e (rw (padded-router c q) at h)
+    go Text q h = attribute-parameters c f h
 
 -- ---- passed when read, and allowed
 

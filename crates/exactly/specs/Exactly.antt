@@ -17,6 +17,7 @@ use Rattle.octets.specs.ListsLaws.{all-map}
 use Rattle.octets.specs.Fields.{putCounted}
 use Rattle.carriers.specs.declared.Carrier.{Carrier}
 use Rattle.carriers.specs.declared.Carrier.the-variants.{Dhcp4, Dhcp6, Router, Ike4, Ike6}
+use Rattle.carriers.specs.CarriersLaws.{other-joined}
 use Rattle.frames.specs.Frame.{framed, frame, joined, blocksOf}
 use Rattle.frames.specs.BodyLaws.{bodies-bytes, bodies-units}
 use Rattle.blocks.specs.Block.{Fields, layout, Fits, Possible}
@@ -75,11 +76,7 @@ module _ (c : Carrier) (b : List ℕ) (rs : List Fields) (octets : Bytes b) (pos
 -- a block of another carrier than 1 yields the one record of its body, exactly if its body yields one
 pub block-exactly : (c : Carrier) → (c ≡ Dhcp4 → ⊥) → (b : List ℕ) (rs : List Fields) → Bytes b → Possible c b
     → (yieldOf c b ≡ yields rs) ↔ ((r : Fields) × (rs ≡ r ∷ []) × Yielding c b r)
-block-exactly Dhcp4 n b rs octets possible = absurd (n refl)
-block-exactly Dhcp6 n b rs octets possible = single-exactly Dhcp6 b rs octets possible
-block-exactly Router n b rs octets possible = single-exactly Router b rs octets possible
-block-exactly Ike4 n b rs octets possible = single-exactly Ike4 b rs octets possible
-block-exactly Ike6 n b rs octets possible = single-exactly Ike6 b rs octets possible
+block-exactly c n b rs octets possible = rw (other-joined c n) (single-exactly c b rs octets possible)
 
 -- ---- one instance at the front of carrier 1's joined data
 

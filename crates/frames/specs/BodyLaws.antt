@@ -14,8 +14,8 @@ use borrow.Author.Tests.{ltb-true, ltb-false}
 use Rattle.octets.specs.Numbers.{Bytes}
 use Rattle.octets.specs.NumbersLaws.{bytes-take, bytes-drop}
 use Rattle.carriers.specs.declared.Carrier.{Carrier}
-use Rattle.carriers.specs.declared.Carrier.the-variants.{Dhcp4, Dhcp6, Router, Ike4, Ike6}
-use Rattle.carriers.specs.Carriers.{headerOf, octets}
+use Rattle.carriers.specs.declared.Carrier.the-variants.{Dhcp4, Router}
+use Rattle.carriers.specs.Carriers.{headerOf, isJoined, octets}
 use Rattle.frames.specs.declared.Head.{Head}
 use Rattle.octets.specs.Lists.{flat}
 use Rattle.frames.specs.Frame.{firstOf, Framed, fault, framed, onto, after, frameFrom, frame, blocksOf}
@@ -23,6 +23,7 @@ use Rattle.octets.specs.Lists.{All}
 use Rattle.frames.specs.Walk.{Plain}
 use Rattle.frames.specs.HeadLaws.{first-own}
 use Rattle.frames.specs.Laws.{past}
+use Rattle.frames.specs.WalkLaws.{apart-false}
 
 -- P of each body, where the area is framed
 abbrev EachIn : (List ℕ → Type 0) → Framed → Type 0
@@ -131,11 +132,7 @@ flat-within c area bs e = let h = subst (Within 0 (length area)) e (within-from 
 
 -- in carriers 2 to 5 each body is a block
 pub blocks-plain : (c : Carrier) (bs : List (List ℕ)) → Plain c → blocksOf c bs ≡ bs
-blocks-plain Dhcp4 bs p = absurd p
-blocks-plain Dhcp6 bs p = refl
-blocks-plain Router bs p = refl
-blocks-plain Ike4 bs p = refl
-blocks-plain Ike6 bs p = refl
+blocks-plain c bs p = rw (apart-false (isJoined c) p)
 
 -- in carrier 1 a body alone is the block, and several make one
 pub blocks-one : (b : List ℕ) → blocksOf Dhcp4 (b ∷ []) ≡ b ∷ []

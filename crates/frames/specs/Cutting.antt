@@ -5,19 +5,18 @@ use mathlib.Core.Bool.{Bool, true, false}
 use mathlib.Core.List.{List, [], _∷_, _++_}
 use Prim.Native.Nat.{ℕ, zero, suc, _+_, _-_, _≤_, _<_}
 use native.Mathlib.Omega.{arith}
-use lib.ListN.{length, take, drop, length-append, take-append-drop}
+use lib.ListN.{length, getD, take, drop, length-append, take-append-drop}
 use lib.Seq.{take-append-le, take-append-add, take-at, length-take-le}
 use lib.Dec.{ltb}
 use borrow.Author.Tests.{ltb-true, ltb-false}
 use Rattle.carriers.specs.declared.Carrier.{Carrier}
-use Rattle.carriers.specs.declared.Carrier.the-variants.{Dhcp4, Dhcp6, Router, Ike4, Ike6}
-use Rattle.carriers.specs.Carriers.{headerOf, octets}
+use Rattle.carriers.specs.Carriers.{headerOf, isJoined, octets}
 use Rattle.frames.specs.declared.Head.{Head}
-use Rattle.frames.specs.Frame.{firstOf, Framed, fault, framed, onto, after, frameFrom, frame}
+use Rattle.frames.specs.Frame.{headIn, firstOf, Framed, fault, framed, onto, after, frameFrom, frame}
 use Rattle.octets.specs.Lists.{All}
 use Rattle.frames.specs.Walk.{prepend, Plain}
 use Rattle.frames.specs.Emit.{optionOf, Fits, optionsOf}
-use Rattle.frames.specs.HeadLaws.{head-end, first-local, first-append, first-cut}
+use Rattle.frames.specs.HeadLaws.{head-end, mark-apart, first-local, first-append, first-cut}
 use Rattle.frames.specs.Laws.{fault-framed, frame-bad, frame-over}
 use Rattle.frames.specs.WalkLaws.{prepend-none}
 use Rattle.frames.specs.EmitLaws.{option-first, frame-own, frame-options, options-append}
@@ -25,11 +24,7 @@ use Rattle.frames.specs.EmitLaws.{option-first, frame-own, frame-options
 -- ---- putting areas together
 
 first-plain : (c : Carrier) (s : List ℕ) → Plain c → firstOf c s ≡ Head.End → ⊥
-first-plain Dhcp4 s p e = p
-first-plain Dhcp6 s p e = head-end Dhcp6 s e
-first-plain Router s p e = head-end Router s e
-first-plain Ike4 s p e = head-end Ike4 s e
-first-plain Ike6 s p e = head-end Ike6 s e
+first-plain c s p e = head-end c s (sym (mark-apart (getD s 0 0) (headIn c s) (isJoined c) p) ∙ e)
 
 onto-prepend : (own : Bool) (b : List ℕ) (cs bs : List (List ℕ)) (f : Framed) → onto own b (framed cs) ≡ framed bs → onto own b (prepend cs f) ≡ prepend bs f
 onto-prepend own b cs bs fault e = refl

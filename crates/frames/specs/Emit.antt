@@ -1,28 +1,34 @@
 -- Own options as octets (01, Area walk; the reserved bit of carriers 4 and 5 is written as 0). Assumes nothing: these are definitions.
 use mathlib.Core.Path.{_≡_}
+use mathlib.Core.Bool.{Bool, true, false, cond}
 use mathlib.Core.List.{List, [], _∷_, _++_}
-use Prim.Native.Nat.{ℕ, _+_, _/_, _%_, _<_}
+use Prim.Native.Nat.{ℕ, _+_, _*_, _/_, _%_, _^_, _<_}
 use lib.ListN.{length}
 use Rattle.octets.specs.Numbers.{be}
 use Rattle.carriers.specs.declared.Carrier.{Carrier}
-use Rattle.carriers.specs.declared.Carrier.the-variants.{Dhcp4, Dhcp6, Router, Ike4, Ike6}
-use Rattle.carriers.specs.Carriers.{codeOf}
+use Rattle.carriers.specs.Carriers.{codeOf, headWidth, headerOf, inEights}
 
--- the carrier's code and the length in front of a body; in carrier 3 the length of both, in units of eight
+-- the length that says a body of n octets after h octets of header; in units of eight the header is counted
+abbrev pub lengthSaid : Bool → ℕ → ℕ → ℕ
+lengthSaid eights h n = cond eights ((n + h) / 8) n
+
+abbrev pub lengthIn : Carrier → ℕ → ℕ
+lengthIn c n = lengthSaid (inEights c) (headerOf c) n
+
+-- the header in front of a body of n octets: the carrier's code and the length
+abbrev pub headOf : Carrier → ℕ → List ℕ
+headOf c n = be (headWidth c) (codeOf c) ++ be (headWidth c) (lengthIn c n)
+
 abbrev pub optionOf : Carrier → List ℕ → List ℕ
-optionOf Dhcp4 body = be 1 (codeOf Dhcp4) ++ (be 1 (length body) ++ body)
-optionOf Dhcp6 body = be 2 (codeOf Dhcp6) ++ (be 2 (length body) ++ body)
-optionOf Router body = be 1 (codeOf Router) ++ (be 1 ((length body + 2) / 8) ++ body)
-optionOf Ike4 body = be 2 (codeOf Ike4) ++ (be 2 (length body) ++ body)
-optionOf Ike6 body = be 2 (codeOf Ike6) ++ (be 2 (length body) ++ body)
+optionOf c body = headOf c (length body) ++ body
 
--- a body whose length the header can say
+-- a body of n octets whose length w octets can say, after h octets of header
+abbrev pub CanSay : Bool → ℕ → ℕ → ℕ → Type 0
+CanSay true h w n = ((n + h) % 8 ≡ 0) × (n + h < 8 * 256 ^ w)
+CanSay false h w n = n < 256 ^ w
+
 abbrev pub Fits : Carrier → List ℕ → Type 0
-Fits Dhcp4 body = length body < 256
-Fits Dhcp6 body = length body < 65536
-Fits Router body = ((length body + 2) % 8 ≡ 0) × (length body + 2 < 2048)
-Fits Ike4 body = length body < 65536
-Fits Ike6 body = length body < 65536
+Fits c body = CanSay (inEights c) (headerOf c) (headWidth c) (length body)
 
 -- an option for each body, one after another
 abbrev pub optionsOf : Carrier → List (List ℕ) → List ℕ

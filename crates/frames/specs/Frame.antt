@@ -1,34 +1,28 @@
 -- How an area is framed (01, Area walk), once over the carrier. Assumes nothing: these are definitions.
-use Prim.Native.Nat.{ℕ, zero, suc, _+_, _-_, _*_, _%_}
+use Prim.Native.Nat.{ℕ, zero, suc, _+_, _-_, _*_}
 use mathlib.Core.Bool.{Bool, true, false, cond}
 use mathlib.Core.List.{List, [], _∷_}
 use lib.ListN.{length, getD, take, drop}
 use lib.Dec.{ltb, eqb}
-use Rattle.octets.specs.Numbers.{at16}
+use Rattle.octets.specs.Numbers.{numberAt}
 use Rattle.octets.specs.Lists.{flat}
 use Rattle.carriers.specs.declared.Carrier.{Carrier}
-use Rattle.carriers.specs.declared.Carrier.the-variants.{Dhcp4, Dhcp6, Router, Ike4, Ike6}
-use Rattle.carriers.specs.Carriers.{codeOf, headerOf, octets}
+use Rattle.carriers.specs.Carriers.{codeOf, headWidth, headerOf, hasReserved, bareCode, inEights, isJoined, octets}
 use Rattle.frames.specs.declared.Head.{Head}
 use Rattle.frames.specs.declared.Head.the-variants.{Bad, End, Option}
 
 -- ---- one header
 
--- the code in the header that stands first; in IKEv2 without the reserved bit (RFC 7296 §3.15.1)
-abbrev pub codeIn : Carrier → List ℕ → ℕ
-codeIn Dhcp4 s = getD s 0 0
-codeIn Dhcp6 s = at16 s 0
-codeIn Router s = getD s 0 0
-codeIn Ike4 s = getD s 0 0 % 128 * 256 + getD s 1 0
-codeIn Ike6 s = getD s 0 0 % 128 * 256 + getD s 1 0
+-- the octets of an option with h octets of header of which the length n was read; in units of eight the header is counted (RFC 4861 §4.6)
+abbrev pub wholeSize : Bool → ℕ → ℕ → ℕ
+wholeSize eights h n = cond eights (8 * n) (h + n)
 
--- how many octets the option that stands first says that it has, its header counted; in carrier 3 in units of eight, the header included
+-- the code in the header that stands first, and how many octets the option says that it has, its header counted
+abbrev pub codeIn : Carrier → List ℕ → ℕ
+codeIn c s = bareCode (hasReserved c) (numberAt (headWidth c) 0 s)
+
 abbrev pub sizeIn : Carrier → List ℕ → ℕ
-sizeIn Dhcp4 s = 2 + getD s 1 0
-sizeIn Dhcp6 s = 4 + at16 s 2
-sizeIn Router s = 8 * getD s 1 0
-sizeIn Ike4 s = 4 + at16 s 2
-sizeIn Ike6 s = 4 + at16 s 2
+sizeIn c s = wholeSize (inEights c) (headerOf c) (numberAt (headWidth c) (headWidth c) s)
 
 -- a header that runs past the end is no header, and neither is one that says a size of 0, which only carrier 3 can say (RFC 4861 §4.6)
 abbrev pub headIn : Carrier → List ℕ → Head
@@ -38,14 +32,11 @@ headIn c s =
     (Option (eqb (codeIn c s) (codeOf c)) (octets (sizeIn c s))))
 
 -- in carrier 1, code 0 is one octet of padding, and code 255 ends the area (RFC 2132 §3.1, §3.2)
+abbrev pub orMark : Bool → ℕ → Head → Head
+orMark joined x z = cond joined (cond (eqb x 0) (Option false (octets 1)) (cond (eqb x 255) End z)) z
+
 abbrev pub firstOf : Carrier → List ℕ → Head
-firstOf Dhcp4 s =
-    cond (eqb (getD s 0 0) 0) (Option false (octets 1))
-    (cond (eqb (getD s 0 0) 255) End (headIn Dhcp4 s))
-firstOf Dhcp6 s = headIn Dhcp6 s
-firstOf Router s = headIn Router s
-firstOf Ike4 s = headIn Ike4 s
-firstOf Ike6 s = headIn Ike6 s
+firstOf c s = orMark (isJoined c) (getD s 0 0) (headIn c s)
 
 -- ---- an area
 
@@ -84,8 +75,4 @@ joined [] = []
 joined (b ∷ bs) = flat (b ∷ bs) ∷ []
 
 abbrev pub blocksOf : Carrier → List (List ℕ) → List (List ℕ)
-blocksOf Dhcp4 bs = joined bs
-blocksOf Dhcp6 bs = bs
-blocksOf Router bs = bs
-blocksOf Ike4 bs = bs
-blocksOf Ike6 bs = bs
+blocksOf c bs = cond (isJoined c) (joined bs) bs

@@ -2,18 +2,21 @@
 use mathlib.Core.Path.{_≡_, refl, sym, ap, ap₂, _∙_}
 use mathlib.Core.Bool.{Bool, true, false, cond, false≢true}
 use mathlib.Core.List.{List, _++_}
-use Prim.Native.Nat.{ℕ, _+_, _≤_, _<_}
+use Prim.Native.Nat.{ℕ, _+_, _*_, _≤_, _<_}
 use native.Mathlib.Omega.{arith}
 use lib.ListN.{length, getD, take, length-append, List·getD-append}
 use lib.Seq.{getD-take, length-take-le}
 use lib.Dec.{ltb, eqb}
 use borrow.Author.Tests.{lt-ltb, le-ltb, eq-eqb, ne-eqb, ltb-false, eqb-true, eqb-false}
+use Rattle.octets.specs.Numbers.{at16, numberAt}
+use Rattle.octets.specs.NumbersLaws.{number-8, number-16, number-local}
 use Rattle.carriers.specs.declared.Carrier.{Carrier}
-use Rattle.carriers.specs.declared.Carrier.the-variants.{Dhcp4, Dhcp6, Router, Ike4, Ike6}
-use Rattle.carriers.specs.Carriers.{codeOf, headerOf, octets}
+use Rattle.carriers.specs.Carriers.{codeOf, headWidth, headerOf, hasReserved, inEights, isJoined, octets}
+use Rattle.carriers.specs.CarriersLaws.{headed}
 use Rattle.frames.specs.declared.Head.{Head}
 use Rattle.frames.specs.declared.Head.the-variants.{Bad, End, Option}
-use Rattle.frames.specs.Frame.{codeIn, sizeIn, headIn, firstOf}
+use Rattle.frames.specs.Frame.{wholeSize, codeIn, sizeIn, headIn, orMark, firstOf}
+use Rattle.frames.specs.Walk.{Apart}
 
 bad-option : {w : Bool} {n : ℕ} → Bad ≡ Option w (octets n) → ⊥
 bad-option e = let z : _≡_ {A = ℕ} 0 1 = cc in omega arith
@@ -40,11 +43,7 @@ sizeOf (Option own size) = size .0
 -- ---- a header with a code and a length
 
 pub header-pos : (c : Carrier) → 0 < headerOf c
-header-pos Dhcp4 = omega arith
-header-pos Dhcp6 = omega arith
-header-pos Router = omega arith
-header-pos Ike4 = omega arith
-header-pos Ike6 = omega arith
+header-pos c = omega (arith, headed c .some)
 
 pub head-short : (c : Carrier) (s : List ℕ) → length s < headerOf c → headIn c s ≡ Bad
 head-short c s h = simp (lt-ltb _ _ h)
@@ -63,12 +62,10 @@ pub record Read (c : Carrier) (s : List ℕ) (own : Bool) (n : ℕ) : Type 0 whe
   pub code : own ≡ eqb (codeIn c s) (codeOf c)
   pub size : n ≡ sizeIn c s
 
-size-header : (c : Carrier) (s : List ℕ) → 0 < sizeIn c s → headerOf c ≤ sizeIn c s
-size-header Dhcp4 s h = omega arith
-size-header Dhcp6 s h = omega arith
-size-header Router s h = omega arith
-size-header Ike4 s h = omega arith
-size-header Ike6 s h = omega arith
+-- a size that is not 0 counts the header, which is no longer than a unit
+size-header : (eights : Bool) (h n : ℕ) → h ≤ 8 → 0 < wholeSize eights h n → h ≤ wholeSize eights h n
+size-header true h n l p = omega arith
+size-header false h n l p = omega arith
 
 tests-inv : (b z w : Bool) (n : ℕ) {own : Bool} {m : ℕ} → cond b Bad (cond z Bad (Option w (octets n))) ≡ Option own (octets m)
     → (b ≡ false) × (z ≡ false) × (own ≡ w) × (m ≡ n)
@@ -80,9 +77,10 @@ pub head-inv : (c : Carrier) (s : List ℕ) {own : Bool} {n : ℕ} → headIn c 
 head-inv c s e =
     let p = tests-inv (ltb (length s) (headerOf c)) (eqb (sizeIn c s) 0) (eqb (codeIn c s) (codeOf c)) (sizeIn c s) e in
     let nz : sizeIn c s ≡ 0 → ⊥ = eqb-false _ _ (p .1) in
+    let few = headed c .few in
     record {
       room = ltb-false _ _ (p .0);
-      body = omega (arith, p .3, size-header c s (omega (arith, nz)));
+      body = omega (arith, p .3, size-header (inEights c) (headerOf c) (numberAt (headWidth c) (headWidth c) s) (omega arith) (omega (arith, nz)));
       code = p .2;
       size = p .3;
     }
@@ -96,124 +94,81 @@ pub head-end : (c : Carrier) (s : List ℕ) → headIn c s ≡ End → ⊥
 head-end c s e = tests-end (ltb (length s) (headerOf c)) (eqb (sizeIn c s) 0) (eqb (codeIn c s) (codeOf c)) (sizeIn c s) e
 
 -- a header that is all there does not look past itself
-code-local : (c : Carrier) (s t : List ℕ) → headerOf c ≤ length s → codeIn c (s ++ t) ≡ codeIn c s
-code-local Dhcp4 s t h =
-    let h0 : 0 < length s = omega arith in
-    simp List·getD-append
-code-local Dhcp6 s t h =
-    let h0 : 0 < length s = omega arith in
-    let h1 : 1 < length s = omega arith in
-    simp List·getD-append
-code-local Router s t h =
-    let h0 : 0 < length s = omega arith in
-    simp List·getD-append
-code-local Ike4 s t h =
-    let h0 : 0 < length s = omega arith in
-    let h1 : 1 < length s = omega arith in
-    simp List·getD-append
-code-local Ike6 s t h =
-    let h0 : 0 < length s = omega arith in
-    let h1 : 1 < length s = omega arith in
-    simp List·getD-append
-
-size-local : (c : Carrier) (s t : List ℕ) → headerOf c ≤ length s → sizeIn c (s ++ t) ≡ sizeIn c s
-size-local Dhcp4 s t h =
-    let h1 : 1 < length s = omega arith in
-    simp List·getD-append
-size-local Dhcp6 s t h =
-    let h2 : 2 < length s = omega arith in
-    let h3 : 3 < length s = omega arith in
-    simp List·getD-append
-size-local Router s t h =
-    let h1 : 1 < length s = omega arith in
-    simp List·getD-append
-size-local Ike4 s t h =
-    let h2 : 2 < length s = omega arith in
-    let h3 : 3 < length s = omega arith in
-    simp List·getD-append
-size-local Ike6 s t h =
-    let h2 : 2 < length s = omega arith in
-    let h3 : 3 < length s = omega arith in
-    simp List·getD-append
-
 head-local : (c : Carrier) (s t : List ℕ) → headerOf c ≤ length s → headIn c (s ++ t) ≡ headIn c s
 head-local c s t h =
     let h′ : headerOf c ≤ length (s ++ t) = simp length-append (omega arith) in
-    simp (code-local c s t h, size-local c s t h, le-ltb _ _ h, le-ltb _ _ h′)
+    let w : ℕ = headWidth c in
+    simp (number-local w 0 s t (omega arith), number-local w w s t (omega arith), le-ltb _ _ h, le-ltb _ _ h′)
+
+-- a header of two octets, and of four
+module _ (w : ℕ) (s : List ℕ) (room : w + w ≤ length s) where
+  pub narrow-header : w ≡ 1 → (getD s 0 0 ≡ numberAt w 0 s) × (0 * 256 + getD s 1 0 ≡ numberAt w w s)
+  narrow-header e = rw e (number-8 s 0 (omega arith), omega (arith, number-8 s 1 (omega arith)))
+
+  pub wide-header : w ≡ 2 → (at16 s 0 ≡ numberAt w 0 s) × (at16 s 2 ≡ numberAt w w s)
+  wide-header e = rw e (number-16 s 0 (omega arith), number-16 s 2 (omega arith))
 
 -- ---- the header that stands first
 
--- in carrier 1
-pub first-pad : (s : List ℕ) → getD s 0 0 ≡ 0 → firstOf Dhcp4 s ≡ Option false (octets 1)
-first-pad s e = simp (eq-eqb _ _ e)
+module _ (x : ℕ) (z : Head) where
+  pub mark-pad : (j : Bool) → j ≡ true → x ≡ 0 → orMark j x z ≡ Option false (octets 1)
+  mark-pad j t e = simp (t, eq-eqb _ _ e)
 
-pub first-end : (s : List ℕ) → getD s 0 0 ≡ 255 → firstOf Dhcp4 s ≡ End
-first-end s e = let nz : getD s 0 0 ≡ 0 → ⊥ = λ z. omega arith in simp (ne-eqb _ _ nz, eq-eqb _ _ e)
+  pub mark-end : (j : Bool) → j ≡ true → x ≡ 255 → orMark j x z ≡ End
+  mark-end j t e = let nz : x ≡ 0 → ⊥ = λ q. omega arith in simp (t, ne-eqb _ _ nz, eq-eqb _ _ e)
 
-pub first-other : (s : List ℕ) → (getD s 0 0 ≡ 0 → ⊥) → (getD s 0 0 ≡ 255 → ⊥) → firstOf Dhcp4 s ≡ headIn Dhcp4 s
-first-other s a b = simp (ne-eqb _ _ a, ne-eqb _ _ b)
+  pub mark-other : (j : Bool) → (j ≡ true → (x ≡ 0 → ⊥) × (x ≡ 255 → ⊥)) → orMark j x z ≡ z
+  mark-other true o = simp (ne-eqb _ _ (o refl .0), ne-eqb _ _ (o refl .1))
+  mark-other false o = refl
 
--- an option of carrier 1 is one octet of padding, or has a header
-module _ (s : List ℕ) (own : Bool) (n : ℕ) (P : Type 0)
-    (pad : getD s 0 0 ≡ 0 → own ≡ false → n ≡ 1 → P)
-    (other : (getD s 0 0 ≡ 0 → ⊥) → (getD s 0 0 ≡ 255 → ⊥) → headIn Dhcp4 s ≡ Option own (octets n) → P) where
-  by-tests : (a b : Bool) → eqb (getD s 0 0) 0 ≡ a → eqb (getD s 0 0) 255 ≡ b
-      → cond a (Option false (octets 1)) (cond b End (headIn Dhcp4 s)) ≡ Option own (octets n) → P
-  by-tests true b t u e = pad (eqb-true _ _ t) (ap ownOf (sym e)) (ap sizeOf (sym e))
-  by-tests false true t u e = absurd (end-option e)
-  by-tests false false t u e = other (eqb-false _ _ t) (eqb-false _ _ u) e
+  pub mark-apart : (j : Bool) → Apart j → orMark j x z ≡ z
+  mark-apart true a = absurd a
+  mark-apart false a = refl
 
-  pub by-pad : firstOf Dhcp4 s ≡ Option own (octets n) → P
-  by-pad e = by-tests (eqb (getD s 0 0) 0) (eqb (getD s 0 0) 255) refl refl e
+-- an option is one octet of padding, whatever header may stand there, or what the header says
+module _ (x : ℕ) (z : Head) (own : Bool) (n : ℕ) (P : Type 0) where
+  by-mark : (j : Bool) → (((y : Head) → orMark j x y ≡ Option own (octets n)) → own ≡ false → n ≡ 1 → P)
+      → (((y : Head) → orMark j x y ≡ y) → z ≡ Option own (octets n) → P) → orMark j x z ≡ Option own (octets n) → P
+  by-mark false pad other e = other (λ y. refl) e
+  by-mark true pad other e = go (eqb x 0) (eqb x 255) refl refl
+    where
+      go : (a b : Bool) → eqb x 0 ≡ a → eqb x 255 ≡ b → P
+      go true b t u = pad (λ y. rw t (rw t at e)) (ap ownOf (sym (rw t at e))) (ap sizeOf (sym (rw t at e)))
+      go false true t u = absurd (end-option (rw (t, u) at e))
+      go false false t u = other (λ y. rw (t, u)) (rw (t, u) at e)
 
 -- an option has at least one octet
 pub first-pos : (c : Carrier) (s : List ℕ) {own : Bool} {n : ℕ} → firstOf c s ≡ Option own (octets n) → 0 < n
-first-pos Dhcp4 s {own} {n} e = by-pad s own n (0 < n) (λ z w q. omega arith) (λ a b q. let r = head-inv Dhcp4 s q in omega arith) e
-first-pos Dhcp6 s e = let r = head-inv Dhcp6 s e in omega arith
-first-pos Router s e = let r = head-inv Router s e in omega arith
-first-pos Ike4 s e = let r = head-inv Ike4 s e in omega arith
-first-pos Ike6 s e = let r = head-inv Ike6 s e in omega arith
+first-pos c s {own} {n} e =
+    by-mark (getD s 0 0) (headIn c s) own n (0 < n) (isJoined c)
+    (λ _ w q. omega arith)
+    (λ _ q. omega (arith, head-inv c s q .body, header-pos c)) e
 
 -- the carrier's own options have a header
 pub first-own : (c : Carrier) (s : List ℕ) {n : ℕ} → firstOf c s ≡ Option true (octets n) → Read c s true n
-first-own Dhcp4 s {n} e = by-pad s true n (Read Dhcp4 s true n) (λ z w q. absurd (false≢true (sym w))) (λ a b q. head-inv Dhcp4 s q) e
-first-own Dhcp6 s e = head-inv Dhcp6 s e
-first-own Router s e = head-inv Router s e
-first-own Ike4 s e = head-inv Ike4 s e
-first-own Ike6 s e = head-inv Ike6 s e
+first-own c s {n} e =
+    by-mark (getD s 0 0) (headIn c s) true n (Read c s true n) (isJoined c)
+    (λ _ w q. absurd (false≢true (sym w)))
+    (λ _ q. head-inv c s q) e
 
 -- what stands first does not depend on what follows, once the header is all there
 pub first-local : (c : Carrier) (s t : List ℕ) → headerOf c ≤ length s → firstOf c (s ++ t) ≡ firstOf c s
-first-local Dhcp4 s t h =
-    let h0 : 0 < length s = omega arith in
-    ap₂ (λ (x : ℕ) (z : Head). cond (eqb x 0) (Option false (octets 1)) (cond (eqb x 255) End z)) (List·getD-append s t 0 0 h0) (head-local Dhcp4 s t h)
-first-local Dhcp6 s t h = head-local Dhcp6 s t h
-first-local Router s t h = head-local Router s t h
-first-local Ike4 s t h = head-local Ike4 s t h
-first-local Ike6 s t h = head-local Ike6 s t h
+first-local c s t h =
+    ap₂ (orMark (isJoined c)) (List·getD-append s t 0 0 (omega (arith, header-pos c))) (head-local c s t h)
 
 -- an option that stands first stands first whatever follows
 pub first-append : (c : Carrier) (s t : List ℕ) {own : Bool} {n : ℕ} → 0 < length s → firstOf c s ≡ Option own (octets n)
     → firstOf c (s ++ t) ≡ Option own (octets n)
-first-append Dhcp4 s t {own} {n} h e =
-    by-pad s own n (firstOf Dhcp4 (s ++ t) ≡ Option own (octets n))
-    (λ z w q. first-pad (s ++ t) (List·getD-append s t 0 0 h ∙ z) ∙ cc)
-    (λ a b q. first-local Dhcp4 s t (head-inv Dhcp4 s q .room) ∙ e) e
-first-append Dhcp6 s t h e = first-local Dhcp6 s t (head-inv Dhcp6 s e .room) ∙ e
-first-append Router s t h e = first-local Router s t (head-inv Router s e .room) ∙ e
-first-append Ike4 s t h e = first-local Ike4 s t (head-inv Ike4 s e .room) ∙ e
-first-append Ike6 s t h e = first-local Ike6 s t (head-inv Ike6 s e .room) ∙ e
+first-append c s t {own} {n} h e =
+    by-mark (getD s 0 0) (headIn c s) own n (firstOf c (s ++ t) ≡ Option own (octets n)) (isJoined c)
+    (λ same w q. ap (λ (x : ℕ). orMark (isJoined c) x (headIn c (s ++ t))) (List·getD-append s t 0 0 h) ∙ same (headIn c (s ++ t)))
+    (λ _ q. first-local c s t (head-inv c s q .room) ∙ e) e
 
 -- of an option of several octets, too few for the header are no header
 pub first-cut : (c : Carrier) (s : List ℕ) (k : ℕ) {own : Bool} {n : ℕ} → firstOf c s ≡ Option own (octets n) → 0 < k → k < n → k ≤ length s → k < headerOf c
     → firstOf c (take k s) ≡ Bad
-first-cut Dhcp4 s k {own} {n} e p l h q =
+first-cut c s k {own} {n} e p l h q =
     let len : length (take k s) ≡ k = length-take-le k s h in
-    let same : getD (take k s) 0 0 ≡ getD s 0 0 = getD-take k s 0 0 p in
-    by-pad s own n (firstOf Dhcp4 (take k s) ≡ Bad)
-    (λ z w one. absurd (omega arith))
-    (λ a b e. first-other (take k s) (λ z. a (sym same ∙ z)) (λ z. b (sym same ∙ z)) ∙ head-short Dhcp4 (take k s) (omega arith)) e
-first-cut Dhcp6 s k e p l h q = let len : length (take k s) ≡ k = length-take-le k s h in head-short Dhcp6 (take k s) (omega arith)
-first-cut Router s k e p l h q = let len : length (take k s) ≡ k = length-take-le k s h in head-short Router (take k s) (omega arith)
-first-cut Ike4 s k e p l h q = let len : length (take k s) ≡ k = length-take-le k s h in head-short Ike4 (take k s) (omega arith)
-first-cut Ike6 s k e p l h q = let len : length (take k s) ≡ k = length-take-le k s h in head-short Ike6 (take k s) (omega arith)
+    by-mark (getD s 0 0) (headIn c s) own n (firstOf c (take k s) ≡ Bad) (isJoined c)
+    (λ _ w one. absurd (omega arith))
+    (λ same _. ap (λ (x : ℕ). orMark (isJoined c) x (headIn c (take k s))) (getD-take k s 0 0 p) ∙ same (headIn c (take k s)) ∙ head-short c (take k s) (omega arith)) e

@@ -1,6 +1,6 @@
 -- How a walk begins, goes on and ends: the invariant of a loop over `next_block`. Assumes nothing.
-use mathlib.Core.Path.{_≡_, refl, sym, ap, _∙_}
-use mathlib.Core.Bool.{true}
+use mathlib.Core.Path.{_≡_, refl, sym, ap, _∙_, subst⁻¹}
+use mathlib.Core.Bool.{Bool, true, false}
 use mathlib.Core.List.{List, [], _∷_, _++_, append-nil}
 use Prim.Native.Nat.{ℕ}
 use native.Mathlib.Omega.{arith}
@@ -11,9 +11,17 @@ use Rattle.frames.specs.declared.Step.{Step}
 use Rattle.frames.specs.Frame.{Framed, fault, framed, onto, frame}
 use Rattle.frames.specs.Step.{part, stepAt}
 use Rattle.frames.specs.Skip.{Skips}
-use Rattle.frames.specs.Walk.{prepend, Walked}
+use Rattle.frames.specs.Walk.{prepend, Walked, Apart}
 use Rattle.frames.specs.Laws.{step-end, step-fault, step-block}
 use Rattle.frames.specs.SkipLaws.{skips-step}
+
+-- carriers 2 to 5
+pub apart-false : (j : Bool) → Apart j → j ≡ false
+apart-false true a = absurd a
+apart-false false a = refl
+
+pub false-apart : {j : Bool} → j ≡ false → Apart j
+false-apart e = subst⁻¹ Apart e tt
 
 pub prepend-none : (f : Framed) → prepend [] f ≡ f
 prepend-none fault = refl

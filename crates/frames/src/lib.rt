@@ -2,13 +2,16 @@
 // for all five carriers, in which lengths in octets and in units of eight are never mixed. An area where a header or a body runs
 // past the end cannot be framed. In carrier 1 the bodies are joined here (RFC 3396). Nothing here looks inside a body.
 ghost use mathlib.Core.Path.{_≡_};
-ghost use Prim.Native.Nat.{_≤_, _<_};
+ghost use Prim.Native.Nat.{_+_, _*_, _≤_, _<_};
 ghost use lib.ListN.{length};
+ghost use Rattle.octets.specs.Numbers.{numberAt};
+ghost use Rattle.octets.specs.Over.{Wrote};
 ghost use Rattle.carriers.specs.declared.Carrier.the-variants.{Dhcp4};
-ghost use Rattle.carriers.specs.Carriers.{headerOf};
-ghost use Rattle.frames.specs.Frame.{codeIn, sizeIn, headIn, firstOf, frame};
+ghost use Rattle.carriers.specs.Carriers.{headWidth, headerOf, bareCode, inEights};
+ghost use Rattle.frames.specs.Frame.{wholeSize, headIn, firstOf, frame};
 ghost use Rattle.frames.specs.Step.{stepAt};
-ghost use Rattle.frames.specs.Skip.{Wide, markedCode, Skips};
+ghost use Rattle.frames.specs.Skip.{Skips, Passes};
+ghost use Rattle.frames.specs.Emit.{lengthSaid, headOf, CanSay};
 ghost use Rattle.frames.specs.Gather.{GatheredFrom, Joins, AtMost};
 use carriers::Carrier;
 use carriers::Eights;
@@ -19,8 +22,20 @@ const PAD: u8 = 0;
 
 const END: u8 = 255;
 
-// The reserved bit of an IKEv2 attribute's type (RFC 7296 §3.15.1).
+// What the reserved bit of an IKEv2 attribute's type adds (RFC 7296 §3.15.1).
 const RESERVED: usize = 32768;
+
+// Octets of a 16-bit code or length, and of a header of the two.
+const WIDE: usize = 2;
+
+const WIDE_HEADER: usize = WIDE + WIDE;
+
+// A header as it stands: its code, and its length in two octets.
+struct Header {
+    code: usize,
+    upper: u8,
+    lower: u8,
+}
 
 // What the header that stands first says: nothing that can be framed, the area's end, or an option of `size` octets, its header
 // counted, which is the carrier's own or not.
@@ -54,31 +69,42 @@ pub enum Joined {
     Whole(usize),
 }
 
-// The code in the header that stands first in `s`.
-fn code_in(c: Carrier, s: &[u8]) -> usize
-    requires { ⌜ headerOf c ≤ length (now s) ⌝ }
-    ensures { λ r. ⌜ r ≡ codeIn c (now (s .entry)) ⌝ }
+// The header that stands first in `s`, with a code and a length of `width` octets each.
+fn header_in(width: usize, s: &[u8]) -> Header
+    requires { ⌜ (0 < width) × (width ≤ 2) × (width + width ≤ length (now s)) ⌝ }
+    ensures { λ r. ⌜ r .code ≡ numberAt width 0 (now (s .entry)) ⌝ }
+    ensures { λ r. ⌜ r .upper * 256 + r .lower ≡ numberAt width width (now (s .entry)) ⌝ }
 {
-    match c {
-        Carrier::Dhcp4 => octets::wide(s[0]),
-        Carrier::Dhcp6 => octets::get16(s, 0),
-        Carrier::Router => octets::wide(s[0]),
-        Carrier::Ike4 => octets::wide16(s[0] % 128, s[1]),
-        Carrier::Ike6 => octets::wide16(s[0] % 128, s[1]),
+    if width == 1 {
+        return Header {
+            code: octets::wide(s[0]),
+            upper: 0,
+            lower: s[1],
+        };
+    }
+    Header {
+        code: octets::get16(s, 0),
+        upper: s[2],
+        lower: s[3],
     }
 }
 
-// How many octets the option that stands first in `s` says that it has, its header counted.
-fn size_in(c: Carrier, s: &[u8]) -> Octets
-    requires { ⌜ headerOf c ≤ length (now s) ⌝ }
-    ensures { λ r. ⌜ r .0 ≡ sizeIn c (now (s .entry)) ⌝ }
+// The code without the bit that is reserved.
+fn bare_code(reserved: bool, code: usize) -> usize
+    ensures { λ r. ⌜ r ≡ bareCode reserved code ⌝ }
 {
-    match c {
-        Carrier::Dhcp4 => Octets(2 + octets::wide(s[1])),
-        Carrier::Dhcp6 => Octets(4 + octets::get16(s, 2)),
-        Carrier::Router => carriers::octets_of(Eights(s[1])),
-        Carrier::Ike4 => Octets(4 + octets::get16(s, 2)),
-        Carrier::Ike6 => Octets(4 + octets::get16(s, 2)),
+    if reserved { code % RESERVED } else { code }
+}
+
+// How many octets an option with a header of `header` octets has, of which the length `n` was read.
+fn whole_size(eights: bool, header: usize, n: usize) -> Octets
+    requires { ⌜ (header ≤ 4) × (n < 65536) ⌝ }
+    ensures { λ r. ⌜ r .0 ≡ wholeSize eights header n ⌝ }
+{
+    if eights {
+        carriers::octets_of(Eights(n))
+    } else {
+        Octets(header + n)
     }
 }
 
@@ -86,16 +112,20 @@ fn size_in(c: Carrier, s: &[u8]) -> Octets
 fn head_in(c: Carrier, s: &[u8]) -> Head
     ensures { λ r. ⌜ r ≡ headIn c (now (s .entry)) ⌝ }
 {
-    if s.len() < c.header_size() {
+    let f = c.facts();
+    let width = f.width;
+    let header = width + width;
+    if s.len() < header {
         return Head::Bad;
     }
-    let size = size_in(c, s);
+    let h = header_in(width, s);
+    let size = whole_size(f.eights, header, octets::wide16(h.upper, h.lower));
     let n = size.0;
     if n == 0 {
         return Head::Bad;
     }
     Head::Option {
-        own: code_in(c, s) == c.code(),
+        own: bare_code(f.reserved, h.code) == f.code,
         size,
     }
 }
@@ -105,25 +135,21 @@ pub fn first(c: Carrier, s: &[u8]) -> Head
     requires { ⌜ 0 < length (now s) ⌝ }
     ensures { λ r. ⌜ r ≡ firstOf c (now (s .entry)) ⌝ }
 {
-    match c {
-        Carrier::Dhcp4 => {
-            let code = s[0];
-            if code == PAD {
-                return Head::Option {
-                    own: false,
-                    size: Octets(1),
-                };
-            }
-            if code == END {
-                return Head::End;
-            }
-            head_in(c, s)
+    let f = c.facts();
+    if f.joined {
+        let code = s[0];
+        if code == PAD {
+            return Head::Option {
+                own: false,
+                size: Octets(1),
+            };
         }
-        Carrier::Dhcp6 => head_in(c, s),
-        Carrier::Router => head_in(c, s),
-        Carrier::Ike4 => head_in(c, s),
-        Carrier::Ike6 => head_in(c, s),
+        if code == END {
+            return Head::End;
+        }
+        return head_in(c, s);
     }
+    head_in(c, s)
 }
 
 // What stands at an index of the area.
@@ -154,55 +180,34 @@ pub fn next_block(c: Carrier, area: &[u8], at: usize) -> Step
     }
 }
 
-// The carrier's code with the reserved bit of an IKEv2 attribute set, which is ignored when read (RFC 7296 §3.15.1); where there is no such
-// bit, the code itself.
-fn marked_code(c: Carrier) -> usize
-    requires { ⌜ Wide c ⌝ }
-    ensures { λ r. ⌜ r ≡ markedCode c ⌝ }
+// Passes over options of other codes, with 16-bit codes and lengths. A length below 256 is its lower octet alone, so that the walk does not
+// wait for the two to be put together: the next header is found sooner.
+fn skip_wide(code: usize, reserved: bool, area: &[u8], from: usize) -> usize
+    requires { ⌜ from ≤ length (now area) ⌝ }
+    ensures { λ r. ⌜ Passes code reserved (now (area .entry)) from r ⌝ }
 {
-    match c {
-        Carrier::Dhcp4 => Carrier::DHCP4,
-        Carrier::Dhcp6 => Carrier::DHCP6,
-        Carrier::Router => Carrier::ROUTER,
-        Carrier::Ike4 => RESERVED + Carrier::IKE4,
-        Carrier::Ike6 => RESERVED + Carrier::IKE6,
-    }
-}
-
-// Passes over foreign options with 16-bit lengths. A length below 256 is its lower octet alone, so that the walk does not wait for the two
-// to be put together: the next header is found sooner.
-fn skip_wide(c: Carrier, area: &[u8], from: usize) -> usize
-    requires { ⌜ Wide c × (from ≤ length (now area)) ⌝ }
-    ensures { λ r. ⌜ Skips c (now (area .entry)) from r ⌝ }
-{
-    let code = c.code();
-    let marked = marked_code(c);
     let mut at = from;
     loop {
-        if area.len() - at < 4 {
+        if area.len() - at < WIDE_HEADER {
             return at;
         }
-        let first = octets::get16(area, at);
-        if first == code {
+        let h = header_in(WIDE, &area[at..]);
+        if bare_code(reserved, h.code) == code {
             return at;
         }
-        if first == marked {
-            return at;
-        }
-        let start = at + 4;
-        let upper = area[at + 2];
-        let lower = octets::wide(area[at + 3]);
-        if upper == 0 {
-            if area.len() - start < lower {
+        let start = at + WIDE_HEADER;
+        if h.upper == 0 {
+            let n = octets::wide(h.lower);
+            if area.len() - start < n {
                 return at;
             }
-            at = start + lower;
+            at = start + n;
         } else {
-            let body = octets::wide(upper) * 256 + lower;
-            if area.len() - start < body {
+            let n = octets::wide16(h.upper, h.lower);
+            if area.len() - start < n {
                 return at;
             }
-            at = start + body;
+            at = start + n;
         }
     }
 }
@@ -212,13 +217,43 @@ pub fn skip_foreign(c: Carrier, area: &[u8], at: usize) -> usize
     requires { ⌜ at ≤ length (now area) ⌝ }
     ensures { λ r. ⌜ Skips c (now (area .entry)) at r ⌝ }
 {
-    match c {
-        Carrier::Dhcp4 => at,
-        Carrier::Dhcp6 => skip_wide(c, area, at),
-        Carrier::Router => at,
-        Carrier::Ike4 => skip_wide(c, area, at),
-        Carrier::Ike6 => skip_wide(c, area, at),
+    let f = c.facts();
+    if f.joined {
+        return at;
     }
+    if f.eights {
+        return at;
+    }
+    if f.width == WIDE {
+        return skip_wide(f.code, f.reserved, area, at);
+    }
+    at
+}
+
+// The length that says a body of n octets after a header of `header` octets.
+fn length_said(eights: bool, header: usize, n: usize) -> usize
+    requires { ⌜ (header ≤ 4) × (n < 524288) ⌝ }
+    ensures { λ r. ⌜ r ≡ lengthSaid eights header n ⌝ }
+{
+    if eights {
+        let units = carriers::eights_of(Octets(n + header));
+        units.0
+    } else {
+        n
+    }
+}
+
+// Writes the header of an own option whose body has n octets, and returns the index after it.
+pub fn put_header(out: &mut [u8], at: usize, c: Carrier, n: usize) -> usize
+    requires { ⌜ at + headerOf c ≤ length (now out) ⌝ }
+    requires { ⌜ CanSay (inEights c) (headerOf c) (headWidth c) n ⌝ }
+    ensures { λ r. ⌜ Wrote at (headOf c n) (now (out .entry)) r (now (out .exit)) ⌝ }
+{
+    let f = c.facts();
+    let width = f.width;
+    let said = length_said(f.eights, width + width, n);
+    let next = octets::put_number(out, at, width, f.code);
+    octets::put_number(out, next, width, said)
 }
 
 // The options 162 of an area of carrier 1.

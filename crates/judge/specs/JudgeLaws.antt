@@ -11,8 +11,8 @@ use borrow.Author.Tests.{eqb-true, eqb-false, ltb-false}
 use Rattle.numbers.specs.Fault as fault
 use Rattle.numbers.specs.Limit as limit
 use Rattle.carriers.specs.declared.Carrier.{Carrier}
-use Rattle.carriers.specs.declared.Carrier.the-variants.{Dhcp4, Dhcp6, Router, Ike4, Ike6}
 use Rattle.carriers.specs.Carriers.{addressWidth, asText}
+use Rattle.carriers.specs.CarriersLaws.{by-address}
 use Rattle.names.specs.declared.Name.{Name}
 use Rattle.names.specs.declared.Name.the-variants.{Good, Bad}
 use Rattle.names.specs.Names.{IsName}
@@ -31,11 +31,7 @@ use Rattle.judge.specs.Outcomes.{tail-parameters, judged-full, judged-na
 
 -- a carrier's addresses have 4 octets or 16
 pub carrier-width : (c : Carrier) → Width (addressWidth c)
-carrier-width Dhcp4 = four
-carrier-width Dhcp6 = sixteen
-carrier-width Router = sixteen
-carrier-width Ike4 = four
-carrier-width Ike6 = sixteen
+carrier-width = by-address Width four sixteen
 
 -- ---- 23 to 28
 

@@ -1,6 +1,6 @@
 -- The octets of a record's option in each carrier, and of the joined instances of carrier 1 (01, Block layouts). A record here is as a
 -- sheet holds it: the name in wire form. Assumes nothing: these are definitions.
-use mathlib.Core.Bool.{cond}
+use mathlib.Core.Bool.{Bool, cond}
 use mathlib.Core.List.{List, [], map}
 use Prim.Native.Nat.{ℕ}
 use Rattle.octets.specs.Lists.{flat}
@@ -13,15 +13,18 @@ use Rattle.blocks.specs.Block.{Fields, layout}
 use Rattle.frames.specs.Emit.{optionOf}
 
 -- the fields as the carrier has them: in carriers 4 and 5 the name is text
-abbrev pub carriedOf : Carrier → Fields → Fields
-carriedOf c r = record {
+abbrev pub carriedAs : Bool → Fields → Fields
+carriedAs text r = record {
   priority = r .priority;
   lifetime = r .lifetime;
   full = r .full;
-  name = cond (asText c) (textOf (r .name)) (r .name);
+  name = cond text (textOf (r .name)) (r .name);
   addresses = r .addresses;
   parameters = r .parameters;
 }
+
+abbrev pub carriedOf : Carrier → Fields → Fields
+carriedOf c r = carriedAs (asText c) r
 
 -- carriers 2 to 5: the option or attribute of a record
 abbrev pub ownOption : Carrier → Fields → List ℕ

@@ -1,15 +1,16 @@
--- Records whose fields have room in their carrier, the octets that they take by their lengths alone, and an option's header (01, "The record sheet", "Block
--- layouts", "Area walk"). Assumes nothing: these are definitions.
+-- Records whose fields have room in their carrier, and the octets that they take by their lengths alone (01, "The record sheet", "Block layouts").
+-- Assumes nothing: these are definitions.
 use mathlib.Core.Path.{_≡_}
 use mathlib.Core.Bool.{Bool, true, false, cond}
-use mathlib.Core.List.{List, [], _∷_, _++_}
+use mathlib.Core.List.{List, [], _∷_}
 use Prim.Native.Nat.{ℕ, _+_, _-_, _/_, _%_, _^_, _≤_, _<_}
 use lib.ListN.{length}
-use Rattle.octets.specs.Numbers.{be}
 use Rattle.numbers.specs.Limit as limit
 use Rattle.carriers.specs.declared.Carrier.{Carrier}
-use Rattle.carriers.specs.declared.Carrier.the-variants.{Dhcp4, Dhcp6, Router, Ike4, Ike6}
-use Rattle.carriers.specs.Carriers.{codeOf, headerOf, addressWidth, lifetimeWidth, asText}
+use Rattle.carriers.specs.declared.Carrier.the-variants.{Dhcp4, Router}
+use Rattle.carriers.specs.declared.Form.{Form}
+use Rattle.carriers.specs.declared.Form.the-variants.{Wire, Padded, Text}
+use Rattle.carriers.specs.Carriers.{headerOf, addressWidth, lengthWidth, formOf, lifetimeWidth, asText}
 use Rattle.blocks.specs.Block.{Fields, gap, optionSize}
 
 -- the record of these parts
@@ -47,12 +48,13 @@ abbrev pub unpaddedOctets : Bool → ℕ → ℕ → ℕ → ℕ
 unpaddedOctets full n a p = cond full (14 + n + a + p) (10 + n)
 
 -- the body; as text the name is 2 octets shorter
+abbrev pub bodyBy : Form → Carrier → Bool → ℕ → ℕ → ℕ → ℕ
+bodyBy Wire c full n a p = cond full (2 + lengthWidth c + lengthWidth c + n + a + p) (2 + lengthWidth c + n)
+bodyBy Padded c full n a p = unpaddedOctets full n a p + gap (unpaddedOctets full n a p) - headerOf Router
+bodyBy Text c full n a p = 4 + a + (n - 2) + p
+
 abbrev pub bodyOctets : Carrier → Bool → ℕ → ℕ → ℕ → ℕ
-bodyOctets Dhcp4 full n a p = cond full (4 + n + a + p) (3 + n)
-bodyOctets Dhcp6 full n a p = cond full (6 + n + a + p) (4 + n)
-bodyOctets Router full n a p = unpaddedOctets full n a p + gap (unpaddedOctets full n a p) - 2
-bodyOctets Ike4 full n a p = 4 + a + (n - 2) + p
-bodyOctets Ike6 full n a p = 4 + a + (n - 2) + p
+bodyOctets c full n a p = bodyBy (formOf c) c full n a p
 
 -- carriers 2 to 5: the option or attribute
 abbrev pub optionOctets : Carrier → Bool → ℕ → ℕ → ℕ → ℕ
@@ -66,21 +68,3 @@ instanceOctets full n a p = 2 + bodyOctets Dhcp4 full n a p
 abbrev pub joinedOctets : List Fields → ℕ
 joinedOctets [] = 0
 joinedOctets (r ∷ rs) = instanceOctets (r .full) (length (r .name)) (length (r .addresses)) (length (r .parameters)) + joinedOctets rs
-
--- ---- headers
-
--- code and length have half of the header each
-abbrev pub headWidth : Carrier → ℕ
-headWidth c = headerOf c / 2
-
--- the length that says a body of n octets: in carrier 3 with type and length, in units of eight
-abbrev pub lengthIn : Carrier → ℕ → ℕ
-lengthIn Dhcp4 n = n
-lengthIn Dhcp6 n = n
-lengthIn Router n = (n + 2) / 8
-lengthIn Ike4 n = n
-lengthIn Ike6 n = n
-
--- the header in front of a body of n octets
-abbrev pub headOf : Carrier → ℕ → List ℕ
-headOf c n = be (headWidth c) (codeOf c) ++ be (headWidth c) (lengthIn c n)

@@ -1,5 +1,5 @@
 -- What the functions that write a record's parts ask of each other, and how the parts make a layout. Assumes nothing.
-use mathlib.Core.Path.{_≡_, refl, sym, ap, _∙_}
+use mathlib.Core.Path.{_≡_, refl, sym, ap, _∙_, subst}
 use mathlib.Core.Bool.{Bool, true, false, cond, true≢false, false≢true}
 use mathlib.Core.List.{List, _∷_, _++_, append-assoc, append-nil}
 use Prim.Native.Nat.{ℕ, zero, suc, _+_, _-_, _/_, _^_, _≤_, _<_}
@@ -11,17 +11,20 @@ use Rattle.octets.specs.Fields.{putCounted}
 use Rattle.octets.specs.Over.{Wrote}
 use Rattle.octets.specs.OverLaws.{over-length, then}
 use Rattle.carriers.specs.declared.Carrier.{Carrier}
-use Rattle.carriers.specs.declared.Carrier.the-variants.{Dhcp4, Dhcp6, Router, Ike4, Ike6}
-use Rattle.carriers.specs.Carriers.{codeOf, addressWidth, lengthWidth, lifetimeWidth, asText}
+use Rattle.carriers.specs.declared.Carrier.the-variants.{Dhcp4, Router}
+use Rattle.carriers.specs.declared.Form.{Form}
+use Rattle.carriers.specs.declared.Form.the-variants.{Text}
+use Rattle.carriers.specs.Carriers.{addressWidth, lengthWidth, formOf, lifetimeIn, lifetimeWidth, textIn, asText}
 use Rattle.texts.specs.Texts.{textOf}
 use Rattle.texts.specs.Convert.{text-length}
-use Rattle.blocks.specs.Block.{Fields, putAfterName, gap, optionSize, layout, Fits}
+use Rattle.blocks.specs.Block.{Fields, putAfterName, gap, optionSize, layoutBy, layout, FitsBy, Fits}
+use Rattle.frames.specs.Emit.{headOf}
 use Rattle.blocks.specs.Places.{Named}
 use Rattle.blocks.specs.Sizes.{length-layout}
-use Rattle.blocks.specs.PlacesLaws.{length-width}
-use Rattle.layouts.specs.Layouts.{carriedOf, ownOption, instanceOf}
-use Rattle.layouts.specs.Writable.{fieldsOf, Writable, bodyOctets, headWidth, lengthIn, headOf}
-use Rattle.layouts.specs.LayoutsLaws.{option-head, body-length}
+use Rattle.carriers.specs.CarriersLaws.{length-width, text-width, wire-form, text-form}
+use Rattle.layouts.specs.Layouts.{carriedAs, carriedOf, ownOption, instanceOf}
+use Rattle.layouts.specs.Writable.{fieldsOf, Writable, bodyBy, bodyOctets}
+use Rattle.layouts.specs.LayoutsLaws.{body-length}
 
 -- the first of some zeros are zeros
 pub take-zeros : (n m : ℕ) → n ≤ m → take n (zeros m) ≡ zeros n
@@ -39,39 +42,23 @@ counted-length w x l = simp (length-append, length-be) (omega arith)
 pub counted-size : (w : ℕ) (x : List ℕ) → length (be w (length x) ++ x) ≡ w + length x
 counted-size w x = simp (length-append, length-be)
 
--- a number that has room in m octets, in as many
-pub room-in : {v v′ w m : ℕ} → w ≡ m → v ≡ v′ → v′ < 256 ^ m → v < 256 ^ w
-room-in e f h = rw (e, f) h
-
 -- what is written leaves room for what is to come
 room-after : {at r : ℕ} {bs l l′ : List ℕ} (m : ℕ) → Wrote at bs l r l′ → at + (length bs + m) ≤ length l → r + m ≤ length l′
 room-after {at} {r} {bs} {l} m w h =
     let same = ap length (w .laid) ∙ over-length at bs l (w .room) in
     omega (arith, w .next)
 
--- ---- headers
-
-pub wrote-header : (c : Carrier) (n w code said : ℕ) {at i j : ℕ} {l l₁ l₂ : List ℕ} → w ≡ headWidth c → code ≡ codeOf c → said ≡ lengthIn c n
-    → Wrote at (be w code) l i l₁ → Wrote i (be w said) l₁ j l₂ → Wrote at (headOf c n) l j l₂
-wrote-header c n w code said e f g x y = rw (← e, ← f, ← g) (then x y)
-
 -- ---- carriers 1 and 2
 
 named-layout : (c : Carrier) (r : Fields) → Named c → layout c r ≡ be 2 (r .priority) ++ putCounted (lengthWidth c) (r .name) (putAfterName c r)
 unfolding layout
-named-layout Dhcp4 r h = refl
-named-layout Dhcp6 r h = refl
-named-layout Router r h = absurd (omega (arith, h .0))
-named-layout Ike4 r h = absurd (true≢false (h .1))
-named-layout Ike6 r h = absurd (true≢false (h .1))
+named-layout c r h =
+    ap (λ (k : Form). layoutBy k c r) (wire-form (formOf c) (h .0) (h .1))
+    ∙ ap (λ (t : ℕ). be 2 (r .priority) ++ (be t (r .lifetime) ++ putCounted (lengthWidth c) (r .name) (putAfterName c r))) (h .0)
 
 -- in the full form the length of the addresses has room in its field
 named-asks : (c : Carrier) (r : Fields) → Named c → Fits c r → r .full ≡ true → length (r .addresses) < 256 ^ lengthWidth c
-named-asks Dhcp4 r h f e = rw e at (f .tail)
-named-asks Dhcp6 r h f e = rw e at (f .tail)
-named-asks Router r h f e = absurd (omega (arith, h .0))
-named-asks Ike4 r h f e = absurd (true≢false (h .1))
-named-asks Ike6 r h f e = absurd (true≢false (h .1))
+named-asks c r h f e = let t = subst (λ (k : Form). FitsBy k c r) (wire-form (formOf c) (h .0) (h .1)) (f .tail) in rw e at t
 
 -- with lengths of w octets
 module _ (c : Carrier) (r : Fields) (w : ℕ) (named : Named c) (is : w ≡ lengthWidth c) where
@@ -176,25 +163,17 @@ module _ (r : Fields) where
   attribute-layout : (c : Carrier) → asText c ≡ true → layout c (carriedOf c r)
       ≡ be 2 (r .priority) ++ (be 1 (length (r .addresses) / addressWidth c) ++ (be 1 (length (r .name) - 2) ++ (r .addresses ++ (textOf (r .name) ++ r .parameters))))
   unfolding layout
-  attribute-layout Dhcp4 e = absurd (false≢true e)
-  attribute-layout Dhcp6 e = absurd (false≢true e)
-  attribute-layout Router e = absurd (false≢true e)
-  attribute-layout Ike4 e = rw text-length
-  attribute-layout Ike6 e = rw text-length
+  attribute-layout c e = ap (λ (k : Form). layoutBy k c (carriedAs (textIn k) r)) (text-form (formOf c) e) ∙ rw (text-width c e, text-length)
 
   pub attribute-length : (c : Carrier) → asText c ≡ true → length (layout c (carriedOf c r)) ≡ 4 + length (r .addresses) + (length (r .name) - 2) + length (r .parameters)
-  attribute-length Dhcp4 e = absurd (false≢true e)
-  attribute-length Dhcp6 e = absurd (false≢true e)
-  attribute-length Router e = absurd (false≢true e)
-  attribute-length Ike4 e = body-length Ike4 r
-  attribute-length Ike6 e = body-length Ike6 r
+  attribute-length c e =
+      body-length c r ∙ ap (λ (k : Form). bodyBy k c (r .full) (length (r .name)) (length (r .addresses)) (length (r .parameters))) (text-form (formOf c) e)
 
   pub attribute-asks : (c : Carrier) → asText c ≡ true → Fits c (carriedOf c r) → (length (r .name) - 2 < 256) × (length (r .addresses) / addressWidth c < 256)
-  attribute-asks Dhcp4 e f = absurd (false≢true e)
-  attribute-asks Dhcp6 e f = absurd (false≢true e)
-  attribute-asks Router e f = absurd (false≢true e)
-  attribute-asks Ike4 e f = (omega (arith, f .name, text-length (r .name)), f .tail .2)
-  attribute-asks Ike6 e f = (omega (arith, f .name, text-length (r .name)), f .tail .2)
+  attribute-asks c e f =
+      let n : length (carriedAs true r .name) < 256 ^ 1 = rw (e, text-width c e) at (f .name) in
+      let t : FitsBy Text c (carriedAs true r) = subst (λ (k : Form). FitsBy k c (carriedAs (textIn k) r)) (text-form (formOf c) e) (f .tail) in
+      (omega (arith, text-length (r .name)), t .2)
 
   -- with `count` addresses
   module _ (c : Carrier) (count : ℕ) (text : asText c ≡ true) (is : count ≡ length (r .addresses) / addressWidth c) {at i j k m : ℕ}
@@ -217,11 +196,7 @@ module _ (r : Fields) where
 -- ---- the record of the parts that a carrier has
 
 text-no-lifetime : (c : Carrier) → asText c ≡ true → lifetimeWidth c ≡ 0
-text-no-lifetime Dhcp4 e = refl
-text-no-lifetime Dhcp6 e = refl
-text-no-lifetime Router e = absurd (false≢true e)
-text-no-lifetime Ike4 e = refl
-text-no-lifetime Ike6 e = refl
+text-no-lifetime c e = ap lifetimeIn (text-form (formOf c) e)
 
 module _ (c : Carrier) (p t : ℕ) (full : Bool) (n a q : List ℕ) (h : Writable c (fieldsOf p t full n a q)) where
   no-lifetime : lifetimeWidth c ≡ 0 → t ≡ 0
@@ -251,7 +226,7 @@ pub wrote-option : (c : Carrier) (r : Fields) (n : ℕ) {at i j : ℕ} {l l₁ l
     → Wrote at (headOf c n) l i l₁ → Wrote i (layout c (carriedOf c r)) l₁ j l₂ → Wrote at (ownOption c r) l j l₂
 wrote-option c r n e x y =
     let b : List ℕ = layout c (carriedOf c r) in
-    let same : ownOption c r ≡ headOf c n ++ b = option-head c b ∙ ap (λ (m : ℕ). headOf c m ++ b) (body-length c r ∙ sym e) in
+    let same : ownOption c r ≡ headOf c n ++ b = ap (λ (m : ℕ). headOf c m ++ b) (body-length c r ∙ sym e) in
     rw same (then x y)
 
 pub wrote-instance : (r : Fields) (n : ℕ) {at i j : ℕ} {l l₁ l₂ : List ℕ}

@@ -4,7 +4,7 @@
 ghost use mathlib.Core.Path.{_≡_};
 ghost use mathlib.Core.Bool.{true, cond};
 ghost use mathlib.Core.List.{_++_};
-ghost use Prim.Native.Nat.{_+_, _*_, _/_, _^_, _≤_, _<_};
+ghost use Prim.Native.Nat.{_+_, _^_, _≤_, _<_};
 ghost use lib.ListN.{length};
 ghost use Rattle.octets.specs.Numbers.{be, zeros};
 ghost use Rattle.octets.specs.Over.{Wrote};
@@ -14,9 +14,9 @@ ghost use Rattle.blocks.specs.Block.{gap, layout, Fits};
 ghost use Rattle.blocks.specs.Places.{Named};
 ghost use Rattle.frames.specs.Walk.{Plain};
 ghost use Rattle.layouts.specs.Layouts.{carriedOf, ownOption, instanceOf};
-ghost use Rattle.layouts.specs.Writable.{fieldsOf, Writable, unpaddedOctets, bodyOctets, optionOctets, instanceOctets, headWidth, lengthIn, headOf};
+ghost use Rattle.layouts.specs.Writable.{fieldsOf, Writable, unpaddedOctets, bodyOctets, optionOctets, instanceOctets};
 use carriers::Carrier;
-use carriers::Octets;
+use carriers::Form;
 
 // ---- sizes
 
@@ -35,13 +35,20 @@ fn gap_after(n: usize) -> usize
     (8 - n % 8) % 8
 }
 
-// Octets of a carrier 3 option before its padding, type and length counted.
+// Octets of a carrier 3 body before its padding.
 fn unpadded_size(full: bool, nlen: usize, alen: usize, plen: usize) -> usize
     requires { ⌜ nlen + alen + plen < 65536 ⌝ }
-    ensures { λ r. ⌜ r ≡ unpaddedOctets full nlen alen plen ⌝ }
-    ensures { λ r. ⌜ (2 ≤ r) × (r < 65550) ⌝ }
+    ensures { λ r. ⌜ (headerOf Router + r ≡ unpaddedOctets full nlen alen plen) × (r < 65548) ⌝ }
 {
-    by_form(full, 14 + nlen + alen + plen, 10 + nlen)
+    by_form(full, 12 + nlen + alen + plen, 8 + nlen)
+}
+
+// The zeros of a carrier 3 body of so many octets before them.
+fn padding_size(size: usize) -> usize
+    requires { ⌜ size < 65548 ⌝ }
+    ensures { λ r. ⌜ (r ≡ gap (headerOf Router + size)) × (r < 8) ⌝ }
+{
+    gap_after(Carrier::Router.header_size() + size)
 }
 
 // Octets of a carrier 3 body, its padding counted.
@@ -51,7 +58,7 @@ fn padded_size(full: bool, nlen: usize, alen: usize, plen: usize) -> usize
     ensures { λ r. ⌜ r < 65558 ⌝ }
 {
     let size = unpadded_size(full, nlen, alen, plen);
-    size + gap_after(size) - 2
+    size + padding_size(size)
 }
 
 // Octets of a record's body, with a name of `nlen` octets in wire form.
@@ -60,12 +67,17 @@ fn body_size(c: Carrier, full: bool, nlen: usize, alen: usize, plen: usize) -> u
     ensures { λ r. ⌜ r ≡ bodyOctets c full nlen alen plen ⌝ }
     ensures { λ r. ⌜ r < 65558 ⌝ }
 {
-    match c {
-        Carrier::Dhcp4 => by_form(full, 4 + nlen + alen + plen, 3 + nlen),
-        Carrier::Dhcp6 => by_form(full, 6 + nlen + alen + plen, 4 + nlen),
-        Carrier::Router => padded_size(full, nlen, alen, plen),
-        Carrier::Ike4 => 4 + alen + (nlen - 2) + plen,
-        Carrier::Ike6 => 4 + alen + (nlen - 2) + plen,
+    match c.form() {
+        Form::Wire => {
+            let width = c.length_width();
+            by_form(
+                full,
+                2 + width + width + nlen + alen + plen,
+                2 + width + nlen,
+            )
+        }
+        Form::Padded => padded_size(full, nlen, alen, plen),
+        Form::Text => 4 + alen + (nlen - 2) + plen,
     }
 }
 
@@ -89,25 +101,13 @@ pub fn instance_size(full: bool, nlen: usize, alen: usize, plen: usize) -> usize
 
 // ---- parts
 
-// Writes v in one or two octets at `at`, and returns the index after them.
-fn put_number(out: &mut [u8], at: usize, width: usize, v: usize) -> usize
-    requires { ⌜ at + width ≤ length (now out) ⌝ }
-    requires { ⌜ (0 < width) × (width ≤ 2) × (v < 256 ^ width) ⌝ }
-    ensures { λ r. ⌜ Wrote at (be width v) (now (out .entry)) r (now (out .exit)) ⌝ }
-{
-    if width == 1 {
-        return octets::put8(out, at, v as u8);
-    }
-    octets::put16(out, at, v)
-}
-
 // Writes src after its length, in one or two octets.
 fn put_counted(out: &mut [u8], at: usize, width: usize, src: &[u8]) -> usize
     requires { ⌜ at + width + length (now src) ≤ length (now out) ⌝ }
     requires { ⌜ (0 < width) × (width ≤ 2) × (length (now src) < 256 ^ width) ⌝ }
     ensures { λ r. ⌜ Wrote at (be width (length (now (src .entry))) ++ now (src .entry)) (now (out .entry)) r (now (out .exit)) ⌝ }
 {
-    let from = put_number(out, at, width, src.len());
+    let from = octets::put_number(out, at, width, src.len());
     octets::copy(out, from, src)
 }
 
@@ -118,37 +118,6 @@ fn put_zeros(out: &mut [u8], at: usize, n: usize) -> usize
 {
     let padding = [0u8; 8];
     octets::copy(out, at, &padding[..n])
-}
-
-// ---- headers
-
-// The length that a header says of a body of `size` octets.
-fn length_in(c: Carrier, size: usize) -> usize
-    requires { ⌜ (size < 65536) × (lengthIn c size < 256 ^ headWidth c) ⌝ }
-    ensures { λ r. ⌜ r ≡ lengthIn c size ⌝ }
-{
-    match c {
-        Carrier::Dhcp4 => size,
-        Carrier::Dhcp6 => size,
-        Carrier::Router => {
-            let units = carriers::eights_of(Octets(size + 2));
-            octets::wide(units.0)
-        }
-        Carrier::Ike4 => size,
-        Carrier::Ike6 => size,
-    }
-}
-
-// Writes the header of an option whose body has `size` octets.
-fn put_header(out: &mut [u8], at: usize, c: Carrier, size: usize) -> usize
-    requires { ⌜ at + headerOf c ≤ length (now out) ⌝ }
-    requires { ⌜ (size < 65536) × (lengthIn c size < 256 ^ headWidth c) ⌝ }
-    ensures { λ r. ⌜ Wrote at (headOf c size) (now (out .entry)) r (now (out .exit)) ⌝ }
-{
-    let width = c.header_size() / 2;
-    let length = length_in(c, size);
-    let next = put_number(out, at, width, c.code());
-    put_number(out, next, width, length)
 }
 
 // ---- bodies
@@ -197,7 +166,7 @@ fn put_router(
     ensures { λ r. ⌜ Wrote at (layout Router (fieldsOf priority lifetime full (now (name .entry)) (now (addresses .entry)) (now (parameters .entry))))
         (now (out .entry)) r (now (out .exit)) ⌝ }
 {
-    let zeros = gap_after(unpadded_size(full, name.len(), addresses.len(), parameters.len()));
+    let zeros = padding_size(unpadded_size(full, name.len(), addresses.len(), parameters.len()));
     let at_lifetime = octets::put16(out, at, priority);
     let at_name = octets::put32(out, at_lifetime, lifetime);
     let end = put_counted(out, at_name, 2, name);
@@ -252,10 +221,9 @@ fn put_body(
     ensures { λ r. ⌜ Wrote at (layout c (carriedOf c (fieldsOf priority lifetime full (now (name .entry)) (now (addresses .entry)) (now (parameters .entry)))))
         (now (out .entry)) r (now (out .exit)) ⌝ }
 {
-    match c {
-        Carrier::Dhcp4 => put_named(out, at, c, priority, full, name, addresses, parameters),
-        Carrier::Dhcp6 => put_named(out, at, c, priority, full, name, addresses, parameters),
-        Carrier::Router => put_router(
+    match c.form() {
+        Form::Wire => put_named(out, at, c, priority, full, name, addresses, parameters),
+        Form::Padded => put_router(
             out,
             at,
             priority,
@@ -265,8 +233,7 @@ fn put_body(
             addresses,
             parameters,
         ),
-        Carrier::Ike4 => put_attribute(out, at, c, priority, name, addresses, parameters),
-        Carrier::Ike6 => put_attribute(out, at, c, priority, name, addresses, parameters),
+        Form::Text => put_attribute(out, at, c, priority, name, addresses, parameters),
     }
 }
 
@@ -291,7 +258,7 @@ pub fn put_option(
         (now (out .entry)) r (now (out .exit)) ⌝ }
 {
     let size = body_size(c, full, name.len(), addresses.len(), parameters.len());
-    let from = put_header(out, at, c, size);
+    let from = frames::put_header(out, at, c, size);
     put_body(
         out,
         from,

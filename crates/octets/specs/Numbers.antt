@@ -4,7 +4,7 @@ use mathlib.Core.Bool.{Bool, true, _&&_}
 use mathlib.Core.List.{List, [], _∷_, _++_}
 use Prim.Native.Nat.{ℕ, zero, suc, _+_, _*_, _/_, _%_, _<_}
 use lib.Dec.{eqb}
-use lib.ListN.{getD, replicate}
+use lib.ListN.{getD, take, drop, replicate}
 
 -- v in w octets
 abbrev pub be : ℕ → ℕ → List ℕ
@@ -26,6 +26,10 @@ at16 s i = getD s i 0 * 256 + getD s (i + 1) 0
 
 abbrev pub at32 : List ℕ → ℕ → ℕ
 at32 s i = at16 s i * 65536 + at16 s (i + 2)
+
+-- the number of the w octets from an index on
+unfoldable pub numberAt : ℕ → ℕ → List ℕ → ℕ
+numberAt w i s = val (take w (drop i s))
 
 -- every element is an octet
 abbrev pub Bytes : List ℕ → Type 0

@@ -8,9 +8,9 @@ use native.Mathlib.Numerals.{add-one}
 use native.Mathlib.Omega.{arith}
 use borrow.Author.Tests.{eqb-true, ne-eqb}
 use lib.Dec.{eqb}
-use lib.ListN.{length, getD, take, drop, length-append, drop-of-length-le}
-use lib.Seq.{append-snoc, drop-cons}
-use Rattle.octets.specs.Numbers.{be, val, valFrom, at16, at32, Bytes, zeros, allZero}
+use lib.ListN.{length, getD, take, drop, length-append, length-drop, drop-of-length-le}
+use lib.Seq.{append-snoc, drop-cons, take-append-le, drop-append-le, take-at, drop-at}
+use Rattle.octets.specs.Numbers.{be, val, valFrom, at16, at32, numberAt, Bytes, zeros, allZero}
 
 pub bytes-at : (l : List ℕ) → ((i : ℕ) → getD l i 0 < 256) → Bytes l
 bytes-at [] h = tt
@@ -122,6 +122,35 @@ at32-val s i h =
     let q : i + 2 ≡ suc (suc i) = omega arith in
     let r : i + 2 + 1 ≡ suc (suc (suc i)) = omega arith in
     rw (e, f, g, k, p, r, q) (omega arith)
+
+-- ---- numbers of a width at an index
+
+pub number-8 : (s : List ℕ) (i : ℕ) → i < length s → getD s i 0 ≡ numberAt 1 i s
+unfolding numberAt
+number-8 s i h = rw (drop-cons s i 0 h) (omega arith)
+
+pub number-16 : (s : List ℕ) (i : ℕ) → i + 1 < length s → at16 s i ≡ numberAt 2 i s
+unfolding numberAt
+number-16 s i h = at16-val s i h
+
+pub number-32 : (s : List ℕ) (i : ℕ) → i + 3 < length s → at32 s i ≡ numberAt 4 i s
+unfolding numberAt
+number-32 s i h = at32-val s i h
+
+-- what follows is not looked at
+pub number-local : (w i : ℕ) (s t : List ℕ) → i + w ≤ length s → numberAt w i (s ++ t) ≡ numberAt w i s
+unfolding numberAt
+number-local w i s t h =
+    ap (λ (l : List ℕ). val (take w l)) (drop-append-le i s t (omega arith))
+    ∙ ap val (take-append-le w (drop i s) t (simp length-drop (omega arith)))
+
+-- a number after others is read at their length
+pub number-laid : (w i v : ℕ) (a b : List ℕ) → v < 256 ^ w → length a ≡ i → numberAt w i (a ++ (be w v ++ b)) ≡ v
+unfolding numberAt
+number-laid w i v a b h e =
+    ap (λ (l : List ℕ). val (take w l)) (drop-at a (be w v ++ b) i e)
+    ∙ ap val (take-at (be w v) b w (length-be w v))
+    ∙ val-be w v h
 
 -- ---- zeros
 

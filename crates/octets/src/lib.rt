@@ -3,7 +3,7 @@
 // (document 01: "All numbers are most significant octet first"). What a write leaves in the whole buffer is one record, `Wrote`.
 // Nothing here knows of carriers, records or limits.
 ghost use mathlib.Core.Path.{_≡_};
-ghost use Prim.Native.Nat.{_+_, _*_, _≤_, _<_};
+ghost use Prim.Native.Nat.{_+_, _*_, _^_, _≤_, _<_};
 ghost use lib.ListN.{length, take, drop};
 ghost use Rattle.octets.specs.Numbers.{be, at16, at32, allZero};
 ghost use Rattle.octets.specs.Over.{Wrote};
@@ -82,6 +82,18 @@ pub fn put16(out: &mut [u8], at: usize, v: usize) -> usize
     out[at] = (v / 256) as u8;
     out[at + 1] = (v % 256) as u8;
     at + 2
+}
+
+// Writes v in one or two octets at `at`, and returns the index after them.
+pub fn put_number(out: &mut [u8], at: usize, width: usize, v: usize) -> usize
+    requires { ⌜ at + width ≤ length (now out) ⌝ }
+    requires { ⌜ (0 < width) × (width ≤ 2) × (v < 256 ^ width) ⌝ }
+    ensures { λ r. ⌜ Wrote at (be width v) (now (out .entry)) r (now (out .exit)) ⌝ }
+{
+    if width == 1 {
+        return put8(out, at, v as u8);
+    }
+    put16(out, at, v)
 }
 
 // Writes v in four octets at `at`, and returns the index after them.

@@ -1,18 +1,16 @@
 -- The laws of joined octets cut within a buffer: what stands behind a write is left alone, and the turns of the loop that writes the
 -- options. Assumes nothing.
-use mathlib.Core.Path.{_≡_, refl, sym, ap, _∙_}
+use mathlib.Core.Path.{_≡_, refl, sym, ap, _∙_, subst}
 use mathlib.Core.List.{List, [], _∷_, _++_, append-assoc, append-nil}
 use Prim.Native.Nat.{ℕ, zero, suc, _+_, _-_, _≤_, _<_, min}
 use native.Mathlib.Numerals.{unary-clauses}
 use native.Mathlib.Omega.{arith}
 use lib.ListN.{length, take, drop, length-take, length-drop, drop-of-length-le}
 use lib.Seq.{take-nil, drop-drop, take-take}
-use Rattle.octets.specs.Numbers.{be}
 use Rattle.octets.specs.Over.{Wrote}
 use Rattle.octets.specs.OverLaws.{wrote-none, then, over-behind}
 use Rattle.carriers.specs.declared.Carrier.the-variants.{Dhcp4}
-use Rattle.carriers.specs.Carriers.{codeOf}
-use Rattle.frames.specs.Emit.{optionOf}
+use Rattle.frames.specs.Emit.{headOf, optionOf}
 use Rattle.frames.specs.EmitLaws.{option-length}
 use Rattle.pieces.specs.Pieces.{cutOf, cutOctets}
 use Rattle.pieces.specs.PiecesLaws.{cut-none, cut-step}
@@ -25,17 +23,13 @@ wrote-behind {at} {r} {bs} {l} {l′} k w h = ap (λ (m : List ℕ). drop k m) (
 
 -- ---- an option, by its header and its body
 
-option-written : (n : ℕ) (b : List ℕ) {at i k r : ℕ} {l l₁ l₂ l₃ : List ℕ} → n ≡ length b → Wrote at (be 1 (codeOf Dhcp4)) l i l₁ → Wrote i (be 1 n) l₁ k l₂
-    → Wrote k b l₂ r l₃ → Wrote at (optionOf Dhcp4 b) l r l₃
-option-written n b e x y z = rw e at (then x (then y z))
-
 -- the body stood in the same buffer, behind the header
-pub piece-written : (from n : ℕ) {at i k r : ℕ} {l l₁ l₂ l₃ : List ℕ} → from + n ≤ length l → k ≤ from → Wrote at (be 1 (codeOf Dhcp4)) l i l₁ → Wrote i (be 1 n) l₁ k l₂
-    → Wrote k (take n (drop from l₂)) l₂ r l₃ → Wrote at (optionOf Dhcp4 (take n (drop from l))) l r l₃
-piece-written from n {at} {i} {k} {r} {l} {l₁} {l₂} {l₃} h e x y z =
-    let behind : drop from l₂ ≡ drop from l = wrote-behind from (then x y) e in
+pub piece-written : (from n : ℕ) {at k r : ℕ} {l l₁ l₂ : List ℕ} → from + n ≤ length l → k ≤ from → Wrote at (headOf Dhcp4 n) l k l₁
+    → Wrote k (take n (drop from l₁)) l₁ r l₂ → Wrote at (optionOf Dhcp4 (take n (drop from l))) l r l₂
+piece-written from n {at} {k} {r} {l} {l₁} {l₂} h e x y =
+    let behind : drop from l₁ ≡ drop from l = wrote-behind from x e in
     let size : n ≡ length (take n (drop from l)) = simp (length-take, length-drop) (omega arith) in
-    option-written n (take n (drop from l)) size x y (rw behind at z)
+    subst (λ (m : ℕ). Wrote at (headOf Dhcp4 m ++ take n (drop from l)) l r l₂) size (then x (rw behind at y))
 
 -- ---- what is left
 

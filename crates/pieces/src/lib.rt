@@ -33,8 +33,7 @@ fn put_piece(out: &mut [u8], at: usize, from: usize, n: usize) -> usize
     requires { ⌜ (at + 2 ≤ from) × (from + n ≤ length (now out)) × (n < 256) ⌝ }
     ensures { λ r. ⌜ Wrote at (optionOf Dhcp4 (take n (drop from (now (out .entry))))) (now (out .entry)) r (now (out .exit)) ⌝ }
 {
-    let at_length = octets::put8(out, at, Carrier::DHCP4 as u8);
-    let body = octets::put8(out, at_length, n as u8);
+    let body = frames::put_header(out, at, Carrier::Dhcp4, n);
     octets::copy_within(out, body, from, n)
 }
 

@@ -3,7 +3,7 @@
 use mathlib.Core.Path.{_≡_, refl, sym, ap, ap₂, _∙_}
 use mathlib.Core.Logic.{_↔_}
 use mathlib.Core.List.{List, [], _∷_, _++_, map, map-append, append-assoc, append-cancel-left}
-use Prim.Native.Nat.{ℕ, _^_, _<_}
+use Prim.Native.Nat.{ℕ, _+_, _^_, _<_}
 use native.Mathlib.Omega.{arith}
 use lib.ListN.{length, take, drop, length-append}
 use lib.Seq.{take-at, drop-at}
@@ -13,11 +13,10 @@ use Rattle.octets.specs.Lists.{All, flat}
 use Rattle.octets.specs.ListsLaws.{flat-append}
 use Rattle.octets.specs.Fields.{putCounted}
 use Rattle.carriers.specs.declared.Carrier.{Carrier}
-use Rattle.carriers.specs.declared.Carrier.the-variants.{Dhcp4, Dhcp6, Router, Ike4, Ike6}
-use Rattle.carriers.specs.Carriers.{codeOf}
-use Rattle.frames.specs.Emit.{optionOf, Fits}
-use Rattle.layouts.specs.Writable.{headWidth, lengthIn, headOf}
-use Rattle.layouts.specs.LayoutsLaws.{option-head, head-fits}
+use Rattle.carriers.specs.Carriers.{codeOf, headWidth, headerOf, inEights}
+use Rattle.frames.specs.Emit.{lengthIn, headOf, optionOf, CanSay, Fits}
+use Rattle.frames.specs.Frame.{wholeSize}
+use Rattle.frames.specs.EmitLaws.{said}
 use Rattle.prefixes.specs.Prefix.{Leading, SelfDelimiting}
 
 -- ---- lists of what is encoded
@@ -63,18 +62,18 @@ counted-apart w a b x y ha hb q =
     let both = number-apart w (length a) (length b) (a ++ x) (b ++ y) ha hb q in
     part-apart a b x y (both .0) (both .1)
 
--- a header says how many octets follow; in carrier 3 in units of eight, and what follows is 6 more than a multiple of 8
+-- a header says how many octets follow
+saying : (c : Carrier) (b : List ℕ) → Fits c b → (lengthIn c (length b) < 256 ^ headWidth c) × (wholeSize (inEights c) (headerOf c) (lengthIn c (length b)) ≡ headerOf c + length b)
+saying c b f = said (inEights c) (headerOf c) (headWidth c) (length b) f
+
 said-length : (c : Carrier) (a b : List ℕ) → Fits c a → Fits c b → lengthIn c (length a) ≡ lengthIn c (length b) → length a ≡ length b
-said-length Dhcp4 a b f g e = e
-said-length Dhcp6 a b f g e = e
-said-length Router a b f g e = omega arith
-said-length Ike4 a b f g e = e
-said-length Ike6 a b f g e = e
+said-length c a b f g e =
+    let same : headerOf c + length a ≡ headerOf c + length b = sym (saying c a f .1) ∙ ap (wholeSize (inEights c) (headerOf c)) e ∙ saying c b g .1 in
+    omega arith
 
 option-open : (c : Carrier) (b x : List ℕ) → optionOf c b ++ x ≡ be (headWidth c) (codeOf c) ++ (be (headWidth c) (lengthIn c (length b)) ++ (b ++ x))
 option-open c b x =
-    ap (λ (l : List ℕ). l ++ x) (option-head c b)
-    ∙ append-assoc (headOf c (length b)) b x
+    append-assoc (headOf c (length b)) b x
     ∙ append-assoc (be (headWidth c) (codeOf c)) (be (headWidth c) (lengthIn c (length b))) (b ++ x)
 
 -- bodies that their header can say, each after it
@@ -85,5 +84,5 @@ option-apart c a b x y f g q =
     let n : ℕ = lengthIn c (length b) in
     let same : be w m ++ (a ++ x) ≡ be w n ++ (b ++ y) =
     append-cancel-left (be w (codeOf c)) (be w m ++ (a ++ x)) (be w n ++ (b ++ y)) (sym (option-open c a x) ∙ q ∙ option-open c b y) in
-    let both = number-apart w m n (a ++ x) (b ++ y) (head-fits c a f .1) (head-fits c b g .1) same in
+    let both = number-apart w m n (a ++ x) (b ++ y) (saying c a f .0) (saying c b g .0) same in
     part-apart a b x y (said-length c a b f g (both .0)) (both .1)

@@ -12,14 +12,16 @@ use Rattle.octets.specs.Numbers.{be}
 use Rattle.octets.specs.Lists.{All, flat}
 use Rattle.octets.specs.Fields.{putCounted}
 use Rattle.carriers.specs.declared.Carrier.{Carrier}
-use Rattle.carriers.specs.declared.Carrier.the-variants.{Dhcp4, Dhcp6, Router, Ike4, Ike6}
-use Rattle.carriers.specs.Carriers.{asText}
+use Rattle.carriers.specs.declared.Carrier.the-variants.{Dhcp4}
+use Rattle.carriers.specs.Carriers.{asText, isJoined}
+use Rattle.carriers.specs.CarriersLaws.{by-joined}
 use Rattle.names.specs.Names.{IsName}
 use Rattle.texts.specs.Texts.{wireOf, textOf}
 use Rattle.texts.specs.Convert.{wire-text}
 use Rattle.blocks.specs.Block.{Fields, layout}
 use Rattle.blocks.specs.Exactly.{layout-injective}
 use Rattle.frames.specs.Walk.{Plain}
+use Rattle.frames.specs.WalkLaws.{apart-false, false-apart}
 use Rattle.frames.specs.HeadLaws.{header-pos}
 use Rattle.frames.specs.EmitLaws.{option-length}
 use Rattle.judge.specs.JudgeLaws.{written-name}
@@ -90,20 +92,16 @@ own-exactly c p = flat-exactly (Sound c) (ownOption c) (own-some c p) (own-apart
 -- the octets of the first lead the second's exactly if the records do
 pub prefix-exactly : (c : Carrier) (s t : List ℕ) (rs qs : List Fields) → Accepted s c rs → Accepted t c qs
     → Leading (streamOf c rs) (streamOf c qs) ↔ Leading rs qs
-prefix-exactly Dhcp4 s t rs qs a b = flat-exactly (Sound Dhcp4) instanceOf instance-some instance-apart rs qs (a .sound) (b .sound)
-prefix-exactly Dhcp6 s t rs qs a b = own-exactly Dhcp6 tt rs qs (a .sound) (b .sound)
-prefix-exactly Router s t rs qs a b = own-exactly Router tt rs qs (a .sound) (b .sound)
-prefix-exactly Ike4 s t rs qs a b = own-exactly Ike4 tt rs qs (a .sound) (b .sound)
-prefix-exactly Ike6 s t rs qs a b = own-exactly Ike6 tt rs qs (a .sound) (b .sound)
+prefix-exactly =
+    by-joined
+    (λ c. (s t : List ℕ) (rs qs : List Fields) → Accepted s c rs → Accepted t c qs → (Leading (streamOf c rs) (streamOf c qs) ↔ Leading rs qs))
+    (λ s t rs qs a b. flat-exactly (Sound Dhcp4) instanceOf instance-some instance-apart rs qs (a .sound) (b .sound))
+    (λ c e s t rs qs a b. rw e (own-exactly c (false-apart e) rs qs (a .sound) (b .sound)))
 
 -- in carriers 2 to 5 these are the octets that are written
 stream-octets : (c : Carrier) → Plain c → (rs : List Fields) → streamOf c rs ≡ octetsOf c rs
 unfolding octetsOf
-stream-octets Dhcp4 p rs = absurd p
-stream-octets Dhcp6 p rs = refl
-stream-octets Router p rs = refl
-stream-octets Ike4 p rs = refl
-stream-octets Ike6 p rs = refl
+stream-octets c p rs = rw (apart-false (isJoined c) p)
 
 pub octets-exactly : (c : Carrier) → Plain c → (s t : List ℕ) (rs qs : List Fields) → Accepted s c rs → Accepted t c qs
     → Leading (octetsOf c rs) (octetsOf c qs) ↔ Leading rs qs

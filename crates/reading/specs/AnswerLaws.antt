@@ -1,6 +1,6 @@
 -- The answer by a tally is the answer of the definitions. Assumes nothing.
 use mathlib.Core.Path.{_≡_, refl, sym, ap, _∙_, subst, subst⁻¹}
-use mathlib.Core.Bool.{Bool, true, false}
+use mathlib.Core.Bool.{Bool, true, false, cond}
 use mathlib.Core.List.{List, [], _∷_, map}
 use Prim.Native.Nat.{ℕ, _+_, _≤_, _<_}
 use native.Mathlib.Omega.{arith}
@@ -14,12 +14,13 @@ use Rattle.octets.specs.AnswerLaws as answered
 use Rattle.numbers.specs.Refusal as refusal
 use Rattle.numbers.specs.Limit as limit
 use Rattle.carriers.specs.declared.Carrier.{Carrier}
-use Rattle.carriers.specs.declared.Carrier.the-variants.{Dhcp4, Dhcp6, Router, Ike4, Ike6}
+use Rattle.carriers.specs.declared.Carrier.the-variants.{Dhcp4}
 use Rattle.carriers.specs.declared.Chosen.{Chosen}
 use Rattle.carriers.specs.declared.Chosen.the-variants.{Known, Unknown}
-use Rattle.carriers.specs.Carriers.{chosenOf}
+use Rattle.carriers.specs.Carriers.{chosenOf, isJoined}
+use Rattle.carriers.specs.CarriersLaws.{other-joined}
 use Rattle.octets.specs.Lists.{flat}
-use Rattle.frames.specs.Frame.{Framed, framed, frame}
+use Rattle.frames.specs.Frame.{Framed, framed, frame, joined}
 use Rattle.frames.specs.declared.Joined.{Joined}
 use Rattle.frames.specs.Gather.{Several, Joins}
 use Rattle.frames.specs.GatherLaws.{joins-whole}
@@ -27,11 +28,11 @@ use Rattle.frames.specs.declared.Step.{Step}
 use Rattle.frames.specs.Step.{stepAt}
 use Rattle.frames.specs.WalkLaws.{walked-end, walked-fault}
 use Rattle.blocks.specs.Block.{Fields}
-use Rattle.records.specs.Records.{recordOf}
+use Rattle.records.specs.Records.{outcomeOf, recordOf}
 use Rattle.sheets.specs.Sheets.{sheetOf}
 use Rattle.sheets.specs.SheetsLaws.{length-sheet}
 use Rattle.reading.specs.declared.Reading.{Reading}
-use Rattle.reading.specs.Reading.{yieldOf, arrivals, inOrder, Answer, refuse, readBlocks, readFramed, readArea, readChosen, readOf, Reads}
+use Rattle.reading.specs.Reading.{single, joinedYield, yieldOf, arrivals, inOrder, Answer, refuse, readBlocks, readFramed, readArea, readChosen, readOf, Reads}
 use Rattle.reading.specs.Tally.{recordsAt, Tally, Shows, alone, answerOf, Gives}
 use Rattle.reading.specs.ListLaws.{sort-laid}
 use Rattle.reading.specs.Walks.{Tallying}
@@ -65,14 +66,14 @@ module _ (c : Carrier) (source : List ℕ) (room : ℕ) where
 module _ (c : Carrier) (area : List ℕ) (room : ℕ) {at : ℕ} {t : Tally} (g : Tallying c area at t) where
   -- at the area's end the tally answers for it
   pub answer-end : (c ≡ Dhcp4 → ⊥) → stepAt c area at ≡ Step.End → readFramed c (frame c area) room ≡ answerOf c area t room
-  answer-end n e = ap (λ (f : Framed). readFramed c f room) (walked-end c area (g .walked) e) ∙ go c n (g .shows)
+  answer-end n e =
+      let j = other-joined c n in
+      ap (λ (f : Framed). readFramed c f room) (walked-end c area (g .walked) e)
+      ∙ ap (λ (b : Bool). readBlocks c (cond b (joined (g .bodies)) (g .bodies)) room) j
+      ∙ sym (answer-blocks c area room (g .bodies) (shown j))
     where
-      go : (k : Carrier) → (k ≡ Dhcp4 → ⊥) → Shows k area (map (alone k) (g .bodies)) t → readFramed k (framed (g .bodies)) room ≡ answerOf k area t room
-      go Dhcp4 n s = absurd (n refl)
-      go Dhcp6 n s = sym (answer-blocks Dhcp6 area room (g .bodies) s)
-      go Router n s = sym (answer-blocks Router area room (g .bodies) s)
-      go Ike4 n s = sym (answer-blocks Ike4 area room (g .bodies) s)
-      go Ike6 n s = sym (answer-blocks Ike6 area room (g .bodies) s)
+      shown : isJoined c ≡ false → Shows c area (map (yieldOf c) (g .bodies)) t
+      shown j = subst⁻¹ (λ (b : Bool). Shows c area (map (λ l. cond b (joinedYield l) (single (outcomeOf c l))) (g .bodies)) t) j (g .shows)
 
   -- where the walk cannot go on, the area cannot be framed
   pub answer-fault : stepAt c area at ≡ Step.Fault → readFramed c (frame c area) room ≡ refuse refusal.framing

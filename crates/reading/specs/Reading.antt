@@ -12,10 +12,10 @@ use Rattle.numbers.specs.Refusal as refusal
 use Rattle.numbers.specs.Fault as fault
 use Rattle.numbers.specs.Limit as limit
 use Rattle.carriers.specs.declared.Carrier.{Carrier}
-use Rattle.carriers.specs.declared.Carrier.the-variants.{Dhcp4, Dhcp6, Router, Ike4, Ike6}
+use Rattle.carriers.specs.declared.Carrier.the-variants.{Dhcp4}
 use Rattle.carriers.specs.declared.Chosen.{Chosen}
 use Rattle.carriers.specs.declared.Chosen.the-variants.{Known, Unknown}
-use Rattle.carriers.specs.Carriers.{chosenOf}
+use Rattle.carriers.specs.Carriers.{chosenOf, isJoined}
 use Rattle.frames.specs.Frame.{Framed, framed, frame, blocksOf}
 use Rattle.frames.specs.Frame as area
 use Rattle.blocks.specs.Block.{Fields}
@@ -59,11 +59,7 @@ unfoldable pub joinedYield : List ℕ → Yield
 joinedYield b = cond (eqb (length b) 0) (discarded fault.field) (instancesFrom 0 b)
 
 abbrev pub yieldOf : Carrier → List ℕ → Yield
-yieldOf Dhcp4 b = joinedYield b
-yieldOf Dhcp6 b = single (outcomeOf Dhcp6 b)
-yieldOf Router b = single (outcomeOf Router b)
-yieldOf Ike4 b = single (outcomeOf Ike4 b)
-yieldOf Ike6 b = single (outcomeOf Ike6 b)
+yieldOf c b = cond (isJoined c) (joinedYield b) (single (outcomeOf c b))
 
 -- ---- what blocks yield together
 

@@ -9,8 +9,8 @@ use Rattle.octets.specs.Numbers.{be}
 use Rattle.octets.specs.Over.{Wrote}
 use Rattle.numbers.specs.Limit as limit
 use Rattle.carriers.specs.declared.Carrier.{Carrier}
-use Rattle.carriers.specs.declared.Carrier.the-variants.{Dhcp4, Dhcp6, Router, Ike4, Ike6}
 use Rattle.carriers.specs.Carriers.{addressWidth, asText}
+use Rattle.carriers.specs.CarriersLaws.{by-address}
 use Rattle.texts.specs.Texts.{wireOf}
 use Rattle.texts.specs.Convert.{wire-length}
 use Rattle.addresses.specs.Addresses.{listOf, keptOf}
@@ -83,11 +83,7 @@ module _ (c : Carrier) (p : ℕ) (name : List ℕ) {j : Judged} {n : ℕ} (e : j
 
 -- 63 addresses are few octets
 few-octets : (c : Carrier) (n : ℕ) → n / addressWidth c ≤ limit.addresses → n < 65536
-few-octets Dhcp4 n h = omega arith
-few-octets Dhcp6 n h = omega arith
-few-octets Router n h = omega arith
-few-octets Ike4 n h = omega arith
-few-octets Ike6 n h = omega arith
+few-octets c n = by-address (λ w. n / w ≤ limit.addresses → n < 65536) (λ h. omega arith) (λ h. omega arith) c
 
 pub full-few : (c : Carrier) (p : ℕ) (name a q : List ℕ) {j : Judged} → j ≡ judgedIn c (whole p 0 name a q) → j .fault ≡ 0 → length a < 65536
 full-few c p name a q e z =

@@ -7,11 +7,14 @@ use lib.ListN.{length, length-append}
 use Rattle.octets.specs.Lists.{All, flat}
 use Rattle.numbers.specs.Limit as limit
 use Rattle.carriers.specs.declared.Carrier.{Carrier}
-use Rattle.carriers.specs.declared.Carrier.the-variants.{Dhcp4, Dhcp6, Router, Ike4, Ike6}
+use Rattle.carriers.specs.declared.Carrier.the-variants.{Dhcp4}
+use Rattle.carriers.specs.Carriers.{isJoined}
+use Rattle.carriers.specs.CarriersLaws.{by-joined}
 use Rattle.frames.specs.Frame.{frame, framed}
 use Rattle.frames.specs.Emit as emit
 use Rattle.frames.specs.EmitLaws.{option-length, frame-options}
 use Rattle.frames.specs.Walk.{Plain}
+use Rattle.frames.specs.WalkLaws.{apart-false}
 use Rattle.blocks.specs.Block.{Fields}
 use Rattle.pieces.specs.PiecesLaws.{cut-length}
 use Rattle.layouts.specs.Layouts.{ownOption, instanceOf, joinedOf}
@@ -45,11 +48,10 @@ joined-few rs s few = omega (arith, flat-few instanceOf (Sound Dhcp4) 2323 rs in
 -- the octets of 16 accepted records are within the limit of input
 pub octets-few : (c : Carrier) (rs : List Fields) → All (Sound c) rs → length rs ≤ 16 → length (octetsOf c rs) ≤ limit.input
 unfolding octetsOf
-octets-few Dhcp4 rs s few = omega (arith, cut-length (joinedOf rs), joined-few rs s few)
-octets-few Dhcp6 rs s few = options-few Dhcp6 rs s few
-octets-few Router rs s few = options-few Router rs s few
-octets-few Ike4 rs s few = options-few Ike4 rs s few
-octets-few Ike6 rs s few = options-few Ike6 rs s few
+octets-few =
+    by-joined (λ c. (rs : List Fields) → All (Sound c) rs → length rs ≤ 16 → length (octetsOf c rs) ≤ limit.input)
+    (λ rs s few. omega (arith, cut-length (joinedOf rs), joined-few rs s few))
+    (λ c e rs s few. rw e (options-few c rs s few))
 
 -- ---- carriers 2 to 5: an option for each body
 
@@ -59,11 +61,7 @@ options-bodies c (r ∷ rs) = ap (λ (l : List ℕ). ownOption c r ++ l) (option
 
 pub plain-octets : (c : Carrier) → Plain c → (rs : List Fields) → octetsOf c rs ≡ emit.optionsOf c (bodiesOf c rs)
 unfolding octetsOf
-plain-octets Dhcp4 p rs = absurd p
-plain-octets Dhcp6 p rs = options-bodies Dhcp6 rs
-plain-octets Router p rs = options-bodies Router rs
-plain-octets Ike4 p rs = options-bodies Ike4 rs
-plain-octets Ike6 p rs = options-bodies Ike6 rs
+plain-octets c p rs = rw (apart-false (isJoined c) p) (options-bodies c rs)
 
 -- each body's length can be said in its header
 pub bodies-emit : (c : Carrier) → Plain c → (rs : List Fields) → All (Sound c) rs → All (emit.Fits c) (bodiesOf c rs)

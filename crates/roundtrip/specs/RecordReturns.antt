@@ -12,8 +12,7 @@ use Rattle.octets.specs.Lists.{All}
 use Rattle.numbers.specs.Refusal as refusal
 use Rattle.numbers.specs.Limit as limit
 use Rattle.carriers.specs.declared.Carrier.{Carrier}
-use Rattle.carriers.specs.declared.Carrier.the-variants.{Dhcp4, Dhcp6, Router, Ike4, Ike6}
-use Rattle.carriers.specs.Carriers.{addressWidth, asText}
+use Rattle.carriers.specs.Carriers.{addressWidth, asText, isJoined}
 use Rattle.names.specs.declared.Name.the-variants.{Good}
 use Rattle.names.specs.Names.{IsName}
 use Rattle.names.specs.Wire.{nameCheck}
@@ -26,6 +25,8 @@ use Rattle.addresses.specs.Addresses.{listOf, keptOf}
 use Rattle.addresses.specs.AddressesLaws.{wide-some, list-length, none-dropped, none-dropped-flat, kept-end}
 use Rattle.frames.specs.Frame.{framed, blocksOf}
 use Rattle.frames.specs.Walk.{Plain}
+use Rattle.frames.specs.WalkLaws.{apart-false}
+use Rattle.frames.specs.BodyLaws.{blocks-plain}
 use Rattle.blocks.specs.Block.{Fields}
 use Rattle.blocks.specs.Exactly.{parse-layout}
 use Rattle.order.specs.Order.{Leads, Sorted}
@@ -149,18 +150,7 @@ brings-answer c blocks rs room b rising few =
 -- ---- carriers 2 to 5
 
 plain-yield : (c : Carrier) → Plain c → (b : List ℕ) → yieldOf c b ≡ single (outcomeOf c b)
-plain-yield Dhcp4 p b = absurd p
-plain-yield Dhcp6 p b = refl
-plain-yield Router p b = refl
-plain-yield Ike4 p b = refl
-plain-yield Ike6 p b = refl
-
-plain-blocks : (c : Carrier) → Plain c → (bs : List (List ℕ)) → blocksOf c bs ≡ bs
-plain-blocks Dhcp4 p bs = absurd p
-plain-blocks Dhcp6 p bs = refl
-plain-blocks Router p bs = refl
-plain-blocks Ike4 p bs = refl
-plain-blocks Ike6 p bs = refl
+plain-yield c p b = rw (apart-false (isJoined c) p)
 
 module _ (c : Carrier) (plain : Plain c) where
   body-yields : (r : Fields) → Sound c r → yieldOf c (bodyOf c r) ≡ yields (r ∷ [])
@@ -178,7 +168,7 @@ module _ (c : Carrier) (plain : Plain c) where
     -- what reading their blocks answers, by the room
     pub blocks-answer : readFramed c (framed (bodiesOf c rs)) room ≡ answerKept c rs (length rs) room
     blocks-answer =
-        ap (λ (bs : List (List ℕ)). readBlocks c bs room) (plain-blocks c plain (bodiesOf c rs))
+        ap (λ (bs : List (List ℕ)). readBlocks c bs room) (blocks-plain c (bodiesOf c rs) plain)
         ∙ brings-answer c (bodiesOf c rs) rs room (bodies-bring rs sound) rising few
         ∙ ap (λ (n : ℕ). answerKept c rs n room) (length-map rs (bodyOf c))
 

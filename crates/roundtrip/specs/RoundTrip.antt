@@ -1,23 +1,23 @@
 -- What reading gives back of the octets that writing gave (00, demand 2: "with room for it reading those octets gives the sheet back").
 -- Assumes nothing: these are definitions.
 use mathlib.Core.Path.{_≡_}
+use mathlib.Core.Bool.{cond}
 use mathlib.Core.List.{List, [], _∷_}
 use Prim.Native.Nat.{ℕ}
 use lib.ListN.{length, take}
 use Rattle.carriers.specs.declared.Carrier.{Carrier}
-use Rattle.carriers.specs.declared.Carrier.the-variants.{Dhcp4, Dhcp6, Router, Ike4, Ike6}
+use Rattle.carriers.specs.Carriers.{isJoined}
 use Rattle.blocks.specs.Block.{Fields}
 use Rattle.reading.specs.Reading.{Done}
 use Rattle.written.specs.Accepted.{Accepted}
 
 -- the blocks of an accepted sheet's octets: in carrier 1 one, or none for no records; else one for each record
+abbrev pub blockIn : List Fields → ℕ
+blockIn [] = 0
+blockIn (r ∷ rs) = 1
+
 abbrev pub blocksIn : Carrier → List Fields → ℕ
-blocksIn Dhcp4 [] = 0
-blocksIn Dhcp4 (r ∷ rs) = 1
-blocksIn Dhcp6 rs = length rs
-blocksIn Router rs = length rs
-blocksIn Ike4 rs = length rs
-blocksIn Ike6 rs = length rs
+blocksIn c rs = cond (isJoined c) (blockIn rs) (length rs)
 
 -- what reading gives back: the sheet itself, its blocks, none discarded
 abbrev pub returned : Carrier → List Fields → List ℕ → Done

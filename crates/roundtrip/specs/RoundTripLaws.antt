@@ -17,9 +17,10 @@ use Rattle.numbers.specs.Refusal as refusal
 use Rattle.carriers.specs.declared.Carrier.{Carrier}
 use Rattle.carriers.specs.declared.Carrier.the-variants.{Dhcp4, Dhcp6, Router, Ike4, Ike6}
 use Rattle.carriers.specs.Carriers.{numberOf}
-use Rattle.carriers.specs.CarriersLaws.{chosen-number}
+use Rattle.carriers.specs.CarriersLaws.{chosen-number, by-joined}
 use Rattle.frames.specs.Frame.{Framed, frame}
 use Rattle.frames.specs.Walk.{Plain}
+use Rattle.frames.specs.WalkLaws.{false-apart}
 use Rattle.blocks.specs.Block.{Fields}
 use Rattle.sheets.specs.Sheets.{frontOf, sheetOf}
 use Rattle.reading.specs.Reading.{Answer, refuse, done, readFramed, readOf, sheetIn, Reads}
@@ -33,7 +34,7 @@ use Rattle.roundtrip.specs.Returns.{answerKept}
 use Rattle.roundtrip.specs.RecordReturns.{kept-room, kept-no-room, blocks-answer}
 use Rattle.roundtrip.specs.OctetsLaws.{octets-few, plain-framed}
 use Rattle.roundtrip.specs.JoinedReturns.{cut-answer}
-use Rattle.roundtrip.specs.RoundTrip.{blocksIn, returned, Restored}
+use Rattle.roundtrip.specs.RoundTrip.{blockIn, blocksIn, returned, Restored}
 
 -- ---- reading what was defined to be written
 
@@ -45,11 +46,13 @@ plain-answer c p rs room sound rising few =
 -- in every carrier the octets bring the records back
 octets-answer : (c : Carrier) (rs : List Fields) (room : ℕ) → All (Sound c) rs → NoneFalls 0 rs → length rs ≤ 16
     → readFramed c (frame c (octetsOf c rs)) room ≡ answerKept c rs (blocksIn c rs) room
-octets-answer Dhcp4 rs room sound rising few = cut-answer rs room sound rising few
-octets-answer Dhcp6 rs room sound rising few = plain-answer Dhcp6 tt rs room sound rising few
-octets-answer Router rs room sound rising few = plain-answer Router tt rs room sound rising few
-octets-answer Ike4 rs room sound rising few = plain-answer Ike4 tt rs room sound rising few
-octets-answer Ike6 rs room sound rising few = plain-answer Ike6 tt rs room sound rising few
+octets-answer =
+    by-joined
+    (λ c. (rs : List Fields) (room : ℕ) → All (Sound c) rs → NoneFalls 0 rs → length rs ≤ 16
+    → readFramed c (frame c (octetsOf c rs)) room ≡ answerKept c rs (blocksIn c rs) room)
+    cut-answer
+    (λ c e rs room sound rising few.
+    plain-answer c (false-apart e) rs room sound rising few ∙ ap (λ (j : Bool). answerKept c rs (cond j (blockIn rs) (length rs)) room) (sym e))
 
 module _ (s : List ℕ) (c : Carrier) (rs : List Fields) (room : ℕ) (a : Accepted s c rs) where
   read-answer : readOf (numberOf c) (octetsOf c rs) room ≡ answerKept c rs (blocksIn c rs) room

@@ -12,8 +12,8 @@ use Rattle.octets.specs.Numbers.{be, Bytes}
 use Rattle.octets.specs.Fields.{putCounted}
 use Rattle.octets.specs.FieldsLaws.{part-read, number-read, counted-read, part-says, number-says, counted-says}
 use Rattle.carriers.specs.declared.Carrier.{Carrier}
-use Rattle.carriers.specs.declared.Carrier.the-variants.{Dhcp4, Dhcp6, Router, Ike4, Ike6}
 use Rattle.carriers.specs.Carriers.{addressWidth, lifetimeWidth}
+use Rattle.carriers.specs.CarriersLaws.{address-width}
 use Rattle.blocks.specs.Block.{Fields, nameOnly, whole}
 use Rattle.records.specs.Records.{tailOf, recordOf}
 use Rattle.taking.specs.Taking.{Records, none, misplaced, fullFields, oneRecord}
@@ -37,13 +37,6 @@ not-misplaced c t h = go (eqb (lifetimeWidth c) 0) refl
     go false e = refl
 
 -- ---- a record's octets and what follows them
-
-width-some : (c : Carrier) → 0 < addressWidth c
-width-some Dhcp4 = omega arith
-width-some Dhcp6 = omega arith
-width-some Router = omega arith
-width-some Ike4 = omega arith
-width-some Ike6 = omega arith
 
 -- the octets before a name's length
 abbrev opening : ℕ → ℕ → ℕ → List ℕ → List ℕ
@@ -120,7 +113,7 @@ module _ (c : Carrier) (least : ℕ) (next : Fields → List ℕ → Records) (S
       number-says none 1 (λ l. S (opening p t 1 (putCounted 1 n l))) l _ hb (stop _) (λ count l hc hb.
       part-says none (count * w) (λ l. S (opening p t 1 (putCounted 1 n (be 1 count ++ l)))) l _ hb (stop _) (λ a l ea _ hb.
       counted-says none 2 (λ l. S (opening p t 1 (putCounted 1 n (be 1 count ++ (a ++ l))))) l _ hb (λ l. stop _) (λ q m hq _ hm.
-      let e : length a / w ≡ count = rw ea (mul-div-cancel count (width-some c)) in
+      let e : length a / w ≡ count = rw ea (mul-div-cancel count (address-width c .0)) in
       let z : length a % w ≡ 0 = rw ea (mul-mod-left count w) in
       let f : FitsRecord c (whole p t n a q) = record { priority = hp; lifetime = ht; placed = hz; name = hn; tail = (z, rw e hc, hq) } in
       let made = one (whole p t n a q) m f hl hm in

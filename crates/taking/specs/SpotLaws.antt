@@ -12,8 +12,8 @@ use lib.ListN.{length, getD}
 use Rattle.octets.specs.Numbers.{at16, at32, Bytes}
 use Rattle.octets.specs.NumbersLaws.{bytes-at, bytes-getD}
 use Rattle.carriers.specs.declared.Carrier.{Carrier}
-use Rattle.carriers.specs.declared.Carrier.the-variants.{Dhcp4, Dhcp6, Router, Ike4, Ike6}
 use Rattle.carriers.specs.Carriers.{addressWidth}
+use Rattle.carriers.specs.CarriersLaws.{address-width}
 use Rattle.taking.specs.declared.Spot.{Spot}
 use Rattle.taking.specs.Spot.{nowhere, namedAt, withParts, parametersAt, addressesAt, fullAt, byMode, spotOf, Inside, Sized}
 
@@ -84,13 +84,6 @@ spot-inside c s at h =
 
 -- ---- the numbers are of their widths
 
-pub width-small : (c : Carrier) → addressWidth c ≤ 16
-width-small Dhcp4 = omega arith
-width-small Dhcp6 = omega arith
-width-small Router = omega arith
-width-small Ike4 = omega arith
-width-small Ike6 = omega arith
-
 module _ (s : List ℕ) (bytes : Bytes s) where
   at16-small : (i : ℕ) → at16 s i < 65536
   at16-small i = omega (arith, bytes-getD s i bytes, bytes-getD s (i + 1) bytes)
@@ -117,7 +110,7 @@ module _ (s : List ℕ) (bytes : Bytes s) where
         priority = at16-small at;
         lifetime = at32-small (at + 2);
         nlen = rw e (bytes-getD s (at + 7) bytes);
-        alen = rw j (mul-le-mul x (width-small c));
+        alen = rw j (mul-le-mul x (address-width c .1));
         plen = rw g (at16-small (a + b));
       }) k)
       h

@@ -1,12 +1,13 @@
 -- What holds while a sheet's octets are laid, and what the call gives back. Assumes nothing: these are definitions.
 use mathlib.Core.Path.{_≡_}
+use mathlib.Core.Bool.{cond}
 use mathlib.Core.List.{List, _++_}
 use Prim.Native.Nat.{ℕ, _+_, _≤_}
 use lib.ListN.{length}
 use Rattle.octets.specs.Lists.{All}
 use Rattle.octets.specs.Over.{Wrote}
 use Rattle.carriers.specs.declared.Carrier.{Carrier}
-use Rattle.carriers.specs.declared.Carrier.the-variants.{Dhcp4, Dhcp6, Router, Ike4, Ike6}
+use Rattle.carriers.specs.Carriers.{isJoined}
 use Rattle.blocks.specs.Block.{Fields}
 use Rattle.pieces.specs.Pieces.{cutOctets}
 use Rattle.taking.specs.Standing.{Standing}
@@ -32,11 +33,7 @@ pub record Laying (c : Carrier) (s : List ℕ) (rs : List Fields) (from : ℕ) (
 
 -- octets of the result, by those of the records one after another: in carrier 1 they are cut into options
 abbrev pub totalOf : Carrier → ℕ → ℕ
-totalOf Dhcp4 n = cutOctets n
-totalOf Dhcp6 n = n
-totalOf Router n = n
-totalOf Ike4 n = n
-totalOf Ike6 n = n
+totalOf c n = cond (isJoined c) (cutOctets n) n
 
 -- the sheet's records have `size` octets one after another, the result has `total`, and there is room for it
 pub record Measured (c : Carrier) (s : List ℕ) (size total room : ℕ) : Type 0 where

@@ -1,7 +1,7 @@
 -- Each turn of the pass that lays a sheet's records one after another, and that instances joined at the end of the result's place and then
 -- cut are the octets defined. Assumes nothing.
 use mathlib.Core.Path.{_≡_, refl, sym, ap, _∙_, subst, subst⁻¹}
-use mathlib.Core.Bool.{Bool}
+use mathlib.Core.Bool.{Bool, true, false, cond}
 use mathlib.Core.List.{List, [], _∷_, _++_, append-assoc, append-nil}
 use Prim.Native.Nat.{ℕ, _+_, _-_, _≤_, _<_}
 use native.Mathlib.Omega.{arith}
@@ -11,9 +11,12 @@ use Rattle.octets.specs.Lists.{All}
 use Rattle.octets.specs.Over.{over, Wrote}
 use Rattle.octets.specs.OverLaws.{over-length, then, wrote-none}
 use Rattle.carriers.specs.declared.Carrier.{Carrier}
-use Rattle.carriers.specs.declared.Carrier.the-variants.{Dhcp4, Dhcp6, Router, Ike4, Ike6}
+use Rattle.carriers.specs.declared.Carrier.the-variants.{Dhcp4}
+use Rattle.carriers.specs.Carriers.{isJoined}
+use Rattle.carriers.specs.CarriersLaws.{other-joined}
 use Rattle.blocks.specs.Block.{Fields}
 use Rattle.frames.specs.Walk.{Plain}
+use Rattle.frames.specs.WalkLaws.{false-apart}
 use Rattle.pieces.specs.Pieces.{cutOf, cutOctets}
 use Rattle.pieces.specs.PiecesLaws.{cut-length}
 use Rattle.layouts.specs.Layouts.{ownOption, instanceOf}
@@ -31,38 +34,31 @@ use Rattle.writing.specs.WeighingLaws.{stream-none, stream-one, step-fie
 
 -- ---- carriers 2 to 5
 
-by-plain : (P : Carrier → Type 0) → P Dhcp6 → P Router → P Ike4 → P Ike6 → (c : Carrier) → (c ≡ Dhcp4 → ⊥) → P c
-by-plain P d r i j Dhcp4 n = absurd (n refl)
-by-plain P d r i j Dhcp6 n = d
-by-plain P d r i j Router n = r
-by-plain P d r i j Ike4 n = i
-by-plain P d r i j Ike6 n = j
-
 module _ (c : Carrier) (n : c ≡ Dhcp4 → ⊥) where
   other-plain : Plain c
-  other-plain = by-plain Plain tt tt tt tt c n
+  other-plain = false-apart (other-joined c n)
 
   other-share : (r : Fields) → ownOption c r ≡ shareOf c r
-  other-share r = by-plain (λ d. ownOption d r ≡ shareOf d r) refl refl refl refl c n
+  other-share r = rw (other-joined c n)
 
   pub other-size : (full : Bool) (m a p : ℕ) → optionOctets c full m a p ≡ shareOctets c full m a p
-  other-size full m a p = by-plain (λ d. optionOctets d full m a p ≡ shareOctets d full m a p) refl refl refl refl c n
+  other-size full m a p = rw (other-joined c n)
 
   pub other-total : (m : ℕ) → totalOf c m ≡ m
-  other-total m = by-plain (λ d. totalOf d m ≡ m) refl refl refl refl c n
+  other-total m = rw (other-joined c n)
 
   other-octets : (rs : List Fields) → octetsOf c rs ≡ streamOf c rs
   unfolding octetsOf
-  other-octets rs = by-plain (λ d. octetsOf d rs ≡ streamOf d rs) refl refl refl refl c n
+  other-octets rs = rw (other-joined c n)
 
 -- how many octets the result has
 pub total-octets : (c : Carrier) (rs : List Fields) → totalOf c (length (streamOf c rs)) ≡ length (octetsOf c rs)
 unfolding octetsOf
-total-octets Dhcp4 rs = sym (cut-length (streamOf Dhcp4 rs))
-total-octets Dhcp6 rs = refl
-total-octets Router rs = refl
-total-octets Ike4 rs = refl
-total-octets Ike6 rs = refl
+total-octets c rs = go (isJoined c) (streamOf c rs)
+  where
+    go : (j : Bool) (l : List ℕ) → cond j (cutOctets (length l)) (length l) ≡ length (cond j (cutOf l) l)
+    go true l = sym (cut-length l)
+    go false l = refl
 
 -- ---- one record: what its writer asks, and what it lays
 

@@ -2,7 +2,7 @@
 -- and how many octets they are one after another (01, Numbers given back: "Writing checks .. 21 to 28 record by record, then 44, then
 -- 5"). Assumes nothing: these are definitions.
 use mathlib.Core.Path.{_≡_}
-use mathlib.Core.Bool.{Bool, false, _||_}
+use mathlib.Core.Bool.{Bool, false, cond, _||_}
 use mathlib.Core.List.{List, []}
 use Prim.Native.Nat.{ℕ, _+_, _-_, _*_, _≤_}
 use lib.Dec.{ltb}
@@ -10,7 +10,7 @@ use lib.ListN.{length, take, drop}
 use Rattle.octets.specs.Lists.{All}
 use Rattle.numbers.specs.Limit as limit
 use Rattle.carriers.specs.declared.Carrier.{Carrier}
-use Rattle.carriers.specs.declared.Carrier.the-variants.{Dhcp4, Dhcp6, Router, Ike4, Ike6}
+use Rattle.carriers.specs.Carriers.{inEights, isJoined}
 use Rattle.blocks.specs.Block.{Fields}
 use Rattle.judge.specs.declared.Side.the-variants.{Writing}
 use Rattle.judge.specs.declared.Judged.{Judged}
@@ -54,30 +54,18 @@ judgedBy c r = judgedOf Writing c (r .priority) (r .name) (r .full) (r .addresse
 
 -- a record's share of the octets: in carrier 1 its instance, else its option or attribute
 abbrev pub shareOf : Carrier → Fields → List ℕ
-shareOf Dhcp4 r = instanceOf r
-shareOf Dhcp6 r = ownOption Dhcp6 r
-shareOf Router r = ownOption Router r
-shareOf Ike4 r = ownOption Ike4 r
-shareOf Ike6 r = ownOption Ike6 r
+shareOf c r = cond (isJoined c) (instanceOf r) (ownOption c r)
 
 -- how many octets it has, by the lengths of a name in wire form, of addresses and of parameters
 abbrev pub shareOctets : Carrier → Bool → ℕ → ℕ → ℕ → ℕ
-shareOctets Dhcp4 full n a p = instanceOctets full n a p
-shareOctets Dhcp6 full n a p = optionOctets Dhcp6 full n a p
-shareOctets Router full n a p = optionOctets Router full n a p
-shareOctets Ike4 full n a p = optionOctets Ike4 full n a p
-shareOctets Ike6 full n a p = optionOctets Ike6 full n a p
+shareOctets c full n a p = cond (isJoined c) (instanceOctets full n a p) (optionOctets c full n a p)
 
 abbrev pub weightOf : Carrier → Fields → ℕ
 weightOf c r = shareOctets c (r .full) (length (r .name)) (length (r .addresses)) (length (r .parameters))
 
 -- 44, by the octets of an option
 abbrev pub largeBy : Carrier → ℕ → Bool
-largeBy Dhcp4 n = false
-largeBy Dhcp6 n = false
-largeBy Router n = ltb limit.option n
-largeBy Ike4 n = false
-largeBy Ike6 n = false
+largeBy c n = cond (inEights c) (ltb limit.option n) false
 
 -- the lengths of a name, of addresses and of parameters without a fault
 pub record Light (n a p : ℕ) : Type 0 where

@@ -1,26 +1,30 @@
 -- The octets of a record and of records, and each turn of the first pass. Assumes nothing.
 use mathlib.Core.Path.{_≡_, refl, sym, ap, _∙_, subst, subst⁻¹}
-use mathlib.Core.Bool.{Bool, true, false, _||_}
-use mathlib.Core.List.{List, [], _∷_, _++_}
+use mathlib.Core.Bool.{Bool, true, false, cond, _||_}
+use mathlib.Core.List.{List, [], _∷_, _++_, map}
 use Prim.Native.Nat.{ℕ, suc, _+_, _-_, _/_, _≤_, _<_}
 use native.Mathlib.Omega.{arith}
 use borrow.Author.Tests.{eq-eqb, ne-eqb}
 use lib.ListN.{length, take, drop, length-append, length-drop}
 use lib.Seq.{length-take-le}
-use Rattle.octets.specs.Lists.{All}
+use lib.Dec.{ltb}
+use Rattle.numbers.specs.Limit as limit
+use Rattle.octets.specs.Lists.{All, flat}
 use Rattle.octets.specs.Numbers.{Bytes}
 use Rattle.carriers.specs.declared.Carrier.{Carrier}
-use Rattle.carriers.specs.declared.Carrier.the-variants.{Dhcp4, Dhcp6, Router, Ike4, Ike6}
-use Rattle.carriers.specs.Carriers.{addressWidth}
+use Rattle.carriers.specs.declared.Carrier.the-variants.{Dhcp4, Router}
+use Rattle.carriers.specs.Carriers.{addressWidth, inEights, isJoined}
+use Rattle.carriers.specs.CarriersLaws.{by-address, eights-router}
 use Rattle.names.specs.Right.{three}
-use Rattle.blocks.specs.Block.{Fields, gap}
+use Rattle.blocks.specs.Block.{Fields, gap, optionSize}
 use Rattle.judge.specs.declared.Side.the-variants.{Writing}
 use Rattle.judge.specs.declared.Judged.{Judged}
 use Rattle.judge.specs.Judge.{faultOf}
 use Rattle.judge.specs.Passed.{Passed}
 use Rattle.judge.specs.JudgeLaws.{fault-passed, written-name}
-use Rattle.layouts.specs.Writable.{unpaddedOctets}
-use Rattle.layouts.specs.LayoutsLaws.{own-length, instance-length, body-small}
+use Rattle.layouts.specs.Writable.{unpaddedOctets, optionOctets, instanceOctets}
+use Rattle.layouts.specs.Layouts.{ownOption, instanceOf, joinedOf}
+use Rattle.layouts.specs.LayoutsLaws.{header-small, own-length, instance-length, body-small}
 use Rattle.taking.specs.declared.Spot.{Spot}
 use Rattle.taking.specs.Sheet.{FitsTail, FitsRecord, IsSheet}
 use Rattle.taking.specs.Spot.{spotOf, fieldsAt, Inside}
@@ -34,65 +38,64 @@ use Rattle.writing.specs.Weighing.{recordsOf, TakenAs, cutAt, judgedBy, 
 -- ---- octets
 
 share-length : (c : Carrier) (r : Fields) → length (shareOf c r) ≡ weightOf c r
-share-length Dhcp4 r = instance-length r
-share-length Dhcp6 r = own-length Dhcp6 r
-share-length Router r = own-length Router r
-share-length Ike4 r = own-length Ike4 r
-share-length Ike6 r = own-length Ike6 r
+share-length c r = go (isJoined c)
+  where
+    go : (j : Bool) → length (cond j (instanceOf r) (ownOption c r)) ≡ (let k = length (r .name) in let a = length (r .addresses) in let p = length (r .parameters) in
+        cond j (instanceOctets (r .full) k a p) (optionOctets c (r .full) k a p))
+    go true = instance-length r
+    go false = own-length c r
 
 pub stream-none : (c : Carrier) → streamOf c [] ≡ []
-stream-none Dhcp4 = refl
-stream-none Dhcp6 = refl
-stream-none Router = refl
-stream-none Ike4 = refl
-stream-none Ike6 = refl
+stream-none c = go (isJoined c)
+  where
+    go : (j : Bool) → cond j (joinedOf []) (flat (map (ownOption c) [])) ≡ []
+    go true = refl
+    go false = refl
 
 pub stream-one : (c : Carrier) (r : Fields) (rs : List Fields) → streamOf c (r ∷ rs) ≡ shareOf c r ++ streamOf c rs
-stream-one Dhcp4 r rs = refl
-stream-one Dhcp6 r rs = refl
-stream-one Router r rs = refl
-stream-one Ike4 r rs = refl
-stream-one Ike6 r rs = refl
+stream-one c r rs = go (isJoined c)
+  where
+    go : (j : Bool) → cond j (joinedOf (r ∷ rs)) (flat (map (ownOption c) (r ∷ rs)))
+        ≡ cond j (instanceOf r) (ownOption c r) ++ cond j (joinedOf rs) (flat (map (ownOption c) rs))
+    go true = refl
+    go false = refl
 
 stream-length : (c : Carrier) (r : Fields) (rs : List Fields) → length (streamOf c (r ∷ rs)) ≡ length (shareOf c r) + length (streamOf c rs)
 stream-length c r rs = ap length (stream-one c r rs) ∙ length-append (shareOf c r) (streamOf c rs)
 
 -- in carrier 3 they are those of the option, rounded up
 large-by : (c : Carrier) (r : Fields) → largeBy c (weightOf c r) ≡ large c r
-large-by Dhcp4 r = refl
-large-by Dhcp6 r = refl
-large-by Router r = go (r .full) (length (r .name)) (length (r .addresses)) (length (r .parameters))
+large-by c r = go (inEights c) refl
   where
-    go : (full : Bool) (n a p : ℕ)
-        → largeBy Router (shareOctets Router full n a p) ≡ largeBy Router (unpaddedOctets full n a p + gap (unpaddedOctets full n a p))
-    go true n a p = let e : 2 + (14 + n + a + p + gap (14 + n + a + p) - 2) ≡ 14 + n + a + p + gap (14 + n + a + p) = omega arith in ap (largeBy Router) e
-    go false n a p = let e : 2 + (10 + n + gap (10 + n) - 2) ≡ 10 + n + gap (10 + n) = omega arith in ap (largeBy Router) e
-large-by Ike4 r = refl
-large-by Ike6 r = refl
+    weight : (full : Bool) (n a p : ℕ) → shareOctets Router full n a p ≡ unpaddedOctets full n a p + gap (unpaddedOctets full n a p)
+    weight true n a p = omega arith
+    weight false n a p = omega arith
+
+    go : (b : Bool) → inEights c ≡ b → cond b (ltb limit.option (weightOf c r)) false ≡ cond b (ltb limit.option (optionSize r + gap (optionSize r))) false
+    go true e =
+        ap (λ (d : Carrier). ltb limit.option (weightOf d r)) (eights-router c e)
+        ∙ ap (ltb limit.option) (weight (r .full) (length (r .name)) (length (r .addresses)) (length (r .parameters)))
+    go false e = refl
 
 -- only carrier 3 has a limit
 pub other-limit : (c : Carrier) (n : ℕ) → (c ≡ Router → ⊥) → largeBy c n ≡ false
-other-limit Dhcp4 n h = refl
-other-limit Dhcp6 n h = refl
-other-limit Router n h = absurd (h refl)
-other-limit Ike4 n h = refl
-other-limit Ike6 n h = refl
+other-limit c n h = go (inEights c) refl
+  where
+    go : (b : Bool) → inEights c ≡ b → cond b (ltb limit.option n) false ≡ false
+    go true e = absurd (h (eights-router c e))
+    go false e = refl
 
 share-small : (c : Carrier) (full : Bool) (n a p : ℕ) → shareOctets c full n a p ≤ 23 + (n + a + p)
-share-small Dhcp4 full n a p = omega (arith, body-small Dhcp4 full n a p)
-share-small Dhcp6 full n a p = omega (arith, body-small Dhcp6 full n a p)
-share-small Router full n a p = omega (arith, body-small Router full n a p)
-share-small Ike4 full n a p = omega (arith, body-small Ike4 full n a p)
-share-small Ike6 full n a p = omega (arith, body-small Ike6 full n a p)
+share-small c full n a p = go (isJoined c)
+  where
+    go : (j : Bool) → cond j (instanceOctets full n a p) (optionOctets c full n a p) ≤ 23 + (n + a + p)
+    go true = omega (arith, body-small Dhcp4 full n a p)
+    go false = omega (arith, header-small c, body-small c full n a p)
 
 -- ---- a record without a fault is small
 
 few-octets : (c : Carrier) (n : ℕ) → n / addressWidth c ≤ 63 → n ≤ 1023
-few-octets Dhcp4 n h = omega arith
-few-octets Dhcp6 n h = omega arith
-few-octets Router n h = omega arith
-few-octets Ike4 n h = omega arith
-few-octets Ike6 n h = omega arith
+few-octets c n = by-address (λ w. n / w ≤ 63 → n ≤ 1023) (λ h. omega arith) (λ h. omega arith) c
 
 passed-light : (c : Carrier) (r : Fields) → FitsRecord c r → faultOf Writing c r ≡ 0
     → Light (length (r .name)) (length (r .addresses)) (length (r .parameters))

@@ -14,8 +14,11 @@ use Rattle.octets.specs.Lists.{All}
 use Rattle.numbers.specs.Refusal as refusal
 use Rattle.numbers.specs.Limit as limit
 use Rattle.carriers.specs.declared.Carrier.{Carrier}
-use Rattle.carriers.specs.declared.Carrier.the-variants.{Dhcp4, Dhcp6, Router, Ike4, Ike6}
-use Rattle.carriers.specs.Carriers.{lifetimeWidth, addressWidth}
+use Rattle.carriers.specs.declared.Carrier.the-variants.{Router}
+use Rattle.carriers.specs.declared.Form.{Form}
+use Rattle.carriers.specs.declared.Form.the-variants.{Wire, Padded, Text}
+use Rattle.carriers.specs.Carriers.{lifetimeWidth, addressWidth, inEights, formOf, lifetimeIn}
+use Rattle.carriers.specs.CarriersLaws.{eights-router}
 use Rattle.names.specs.Right.{three}
 use Rattle.blocks.specs.Block.{Fields, optionSize, gap}
 use Rattle.judge.specs.declared.Side.the-variants.{Writing}
@@ -34,11 +37,12 @@ use Rattle.written.specs.Accepted.{Sound, Accepted}
 -- ---- an accepted record has room in its carrier
 
 lifetime-room : (c : Carrier) (n : ℕ) → n < 4294967296 → (lifetimeWidth c ≡ 0 → n ≡ 0) → n < 256 ^ lifetimeWidth c
-lifetime-room Dhcp4 n h z = let e : n ≡ 0 = z refl in omega arith
-lifetime-room Dhcp6 n h z = let e : n ≡ 0 = z refl in omega arith
-lifetime-room Router n h z = h
-lifetime-room Ike4 n h z = let e : n ≡ 0 = z refl in omega arith
-lifetime-room Ike6 n h z = let e : n ≡ 0 = z refl in omega arith
+lifetime-room c n h = go (formOf c)
+  where
+    go : (k : Form) → (lifetimeIn k ≡ 0 → n ≡ 0) → n < 256 ^ lifetimeIn k
+    go Wire z = let e : n ≡ 0 = z refl in omega arith
+    go Padded z = h
+    go Text z = let e : n ≡ 0 = z refl in omega arith
 
 module _ (c : Carrier) (r : Fields) (s : Sound c r) where
   tail-writable : r .full ≡ true → WritableTail (addressWidth c) r
@@ -68,18 +72,14 @@ module _ (c : Carrier) (r : Fields) (s : Sound c r) where
 -- 44
 module _ (r : Fields) where
   small-units : (c : Carrier) → large c r ≡ false → c ≡ Router → optionSize r + gap (optionSize r) ≤ limit.option
-  small-units Dhcp4 e i = let z : _≡_ {A = ℕ} 0 1 = cc in absurd (omega arith)
-  small-units Dhcp6 e i = let z : _≡_ {A = ℕ} 0 1 = cc in absurd (omega arith)
-  small-units Router e i = ltb-false _ _ e
-  small-units Ike4 e i = let z : _≡_ {A = ℕ} 0 1 = cc in absurd (omega arith)
-  small-units Ike6 e i = let z : _≡_ {A = ℕ} 0 1 = cc in absurd (omega arith)
+  small-units c e i = let q = rw i at e in ltb-false _ _ q
 
   units-small : (c : Carrier) → (c ≡ Router → optionSize r + gap (optionSize r) ≤ limit.option) → large c r ≡ false
-  units-small Dhcp4 h = refl
-  units-small Dhcp6 h = refl
-  units-small Router h = le-ltb limit.option (optionSize r + gap (optionSize r)) (h refl)
-  units-small Ike4 h = refl
-  units-small Ike6 h = refl
+  units-small c h = go (inEights c) refl
+    where
+      go : (b : Bool) → inEights c ≡ b → cond b (ltb limit.option (optionSize r + gap (optionSize r))) false ≡ false
+      go true e = le-ltb limit.option (optionSize r + gap (optionSize r)) (h (eights-router c e))
+      go false e = refl
 
 -- records that fit a sheet, none with a fault and none large, are those accepted
 module _ (c : Carrier) where

@@ -10,7 +10,7 @@ use Rattle.octets.specs.Answer.{Answered}
 use Rattle.numbers.specs.Refusal as refusal
 use Rattle.numbers.specs.Limit as limit
 use Rattle.carriers.specs.declared.Carrier.{Carrier}
-use Rattle.carriers.specs.declared.Carrier.the-variants.{Dhcp4, Dhcp6, Router, Ike4, Ike6}
+use Rattle.carriers.specs.Carriers.{inEights, isJoined}
 use Rattle.blocks.specs.Block.{Fields, optionSize, gap}
 use Rattle.judge.specs.declared.Side.the-variants.{Writing}
 use Rattle.judge.specs.Judge.{faultOf}
@@ -23,19 +23,11 @@ use Rattle.taking.specs.Taking as taking
 
 -- the records one after another, in sheet order: in carrier 1 the instances joined, else an option or attribute each
 abbrev pub streamOf : Carrier → List Fields → List ℕ
-streamOf Dhcp4 rs = joinedOf rs
-streamOf Dhcp6 rs = flat (map (ownOption Dhcp6) rs)
-streamOf Router rs = flat (map (ownOption Router) rs)
-streamOf Ike4 rs = flat (map (ownOption Ike4) rs)
-streamOf Ike6 rs = flat (map (ownOption Ike6) rs)
+streamOf c rs = cond (isJoined c) (joinedOf rs) (flat (map (ownOption c) rs))
 
 -- the one set of octets defined: in carrier 1 the joined instances are cut into options
 unfoldable pub octetsOf : Carrier → List Fields → List ℕ
-octetsOf Dhcp4 rs = cutOf (streamOf Dhcp4 rs)
-octetsOf Dhcp6 rs = streamOf Dhcp6 rs
-octetsOf Router rs = streamOf Router rs
-octetsOf Ike4 rs = streamOf Ike4 rs
-octetsOf Ike6 rs = streamOf Ike6 rs
+octetsOf c rs = cond (isJoined c) (cutOf (streamOf c rs)) (streamOf c rs)
 
 -- ---- the tests on records
 
@@ -46,11 +38,7 @@ firstFault c (r ∷ rs) = cond (eqb (faultOf Writing c r) 0) (firstFault c rs) (
 
 -- 44: a carrier 3 record above 2,040 octets when rounded
 abbrev pub large : Carrier → Fields → Bool
-large Dhcp4 r = false
-large Dhcp6 r = false
-large Router r = ltb limit.option (optionSize r + gap (optionSize r))
-large Ike4 r = false
-large Ike6 r = false
+large c r = cond (inEights c) (ltb limit.option (optionSize r + gap (optionSize r))) false
 
 unfoldable pub anyLarge : Carrier → List Fields → Bool
 anyLarge c [] = false

@@ -1,7 +1,8 @@
 -- `blocks::after_name` meets its contract: a law of `PlacesLaws` for each way out. Assumes nothing.
 use native.Mathlib.Omega.{arith}
 use borrow.Author.Needs.{needs}
-use Rattle.blocks.specs.PlacesLaws.{length-width, after-name-length-cut, after-name-addresses-cut, after-name-whole, named-whole-ranged}
+use Rattle.carriers.specs.CarriersLaws.{length-width}
+use Rattle.blocks.specs.PlacesLaws.{after-name-length-cut, after-name-addresses-cut, after-name-whole, named-whole-ranged}
 use Rattle.blocks.proofs.after_name.Statement.{statement}
 use Rattle.blocks.proofs.after_name.Tie as tie
 

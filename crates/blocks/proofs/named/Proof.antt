@@ -1,7 +1,8 @@
 -- `blocks::named` meets its contract: a law of `PlacesLaws` for each way out. Assumes nothing.
 use native.Mathlib.Omega.{arith}
 use borrow.Author.Needs.{needs}
-use Rattle.blocks.specs.PlacesLaws.{length-width, named-fixed-cut, named-name-cut, named-alone, named-followed, named-alone-ranged}
+use Rattle.carriers.specs.CarriersLaws.{length-width}
+use Rattle.blocks.specs.PlacesLaws.{named-fixed-cut, named-name-cut, named-alone, named-followed, named-alone-ranged}
 use Rattle.blocks.proofs.named.Statement.{statement}
 use Rattle.blocks.proofs.named.Tie as tie
 

@@ -1,45 +1,74 @@
 -- `frames::head_in` meets its contract: each return is one of the laws of `headIn`, at what the calls before it ensure. Assumes nothing.
-use mathlib.Core.Path.{sym}
+use mathlib.Core.Path.{_≡_, sym, ap, ap₂, _∙_}
+use mathlib.Core.Bool.{Bool}
+use Prim.Native.Nat.{ℕ, _+_, _≤_}
 use native.Mathlib.Omega.{arith}
+use lib.ListN.{length}
+use lib.Dec.{eqb}
 use denote.Ref.{now}
+use Rattle.octets.specs.Numbers.{numberAt}
+use Rattle.carriers.specs.declared.Facts.{Facts}
+use Rattle.carriers.specs.Carriers.{headerOf, headWidth, bareCode, octets}
+use Rattle.carriers.specs.CarriersLaws.{headed}
+use Rattle.frames.specs.declared.Head.{Head}
+use Rattle.frames.specs.Frame.{wholeSize, codeIn, sizeIn}
 use Rattle.frames.specs.HeadLaws.{head-short, head-none, head-option}
 use borrow.Author.Needs.{needs}
 use Rattle.frames.proofs.head_in.Statement.{statement}
 use Rattle.frames.proofs.head_in.Tie as tie
 
-header-size-requires : tie.Need-header-size-requires
-header-size-requires c κs = search needs
+-- the row is the carrier's
+width : (c : tie.After-facts) → (c .facts .result .width ≡ headWidth (c .before .before .args .c)) × (headWidth (c .before .before .args .c) ≤ 2)
+width c = (ap (λ (f : Facts). f .width) (c .facts .ensures), headed (c .before .before .args .c) .few)
+
+room : (c : tie.Else1) → headerOf (c .before .before .before .args .c) ≤ length (now (c .before .before .before .args .s))
+room c = omega (arith, width (c .before))
+
+size : (c : tie.After-whole-size) → let k = c .before .before .before .before in
+    c .whole-size .result .0 ≡ sizeIn (k .before .before .args .c) (now (k .before .before .args .s))
+size c =
+    let w = c .before in
+    let k = w .before .before .before in
+    let f = k .facts .result in
+    let s = now (k .before .before .args .s) in
+    c .whole-size .ensures
+    ∙ ap (wholeSize (f .eights) (f .width + f .width)) (w .wide16 .ensures .0 ∙ w .before .header-in .ensures .1)
+    ∙ ap (λ (f : Facts). wholeSize (f .eights) (f .width + f .width) (numberAt (f .width) (f .width) s)) (k .facts .ensures)
 
 returns : tie.Need-returns
-returns c = let a = c .before .before .before .args in sym (head-short (a .c) (now (a .s)) (omega arith))
-
-size-in-requires : tie.Need-size-in-requires
-size-in-requires c κs = search needs
+returns c = let a = c .before .before .before .args in sym (head-short (a .c) (now (a .s)) (omega (arith, width (c .before))))
 
 returns-2 : tie.Need-returns-2
-returns-2 c = let a = c .before .before .before .before .before .args in sym (head-none (a .c) (now (a .s)) (omega arith) (omega arith))
-
-code-in-requires : tie.Need-code-in-requires
-code-in-requires c κs = search needs
-
-code-requires : tie.Need-code-requires
-code-requires c κs = search needs
+returns-2 c =
+    let e = c .before .before .before .before in
+    let a = e .before .before .before .args in
+    sym (head-none (a .c) (now (a .s)) (room e) (sym (size (c .before)) ∙ c .if2 .taken))
 
 returns-3 : tie.Need-returns-3
 returns-3 c =
-    let a = c .before .before .before .before .before .before .before .args in
-    let size = c .before .before .before .size-in .ensures in
-    rw (c .before .code-in .ensures, c .code .ensures, size)
-    (sym (head-option (a .c) (now (a .s)) (omega arith) (rw size at (c .before .before .if2 .left))))
+    let b = c .before in
+    let n = b .before .before in
+    let e = n .before .before .before in
+    let k = e .before in
+    let f = k .facts .result in
+    let a = k .before .before .args in
+    let s = now (a .s) in
+    let code : b .bare-code .result ≡ codeIn (a .c) s =
+    b .bare-code .ensures ∙ ap (bareCode (f .reserved)) (n .before .before .header-in .ensures .0)
+    ∙ ap (λ (f : Facts). bareCode (f .reserved) (numberAt (f .width) 0 s)) (k .facts .ensures) in
+    ap₂ (λ (own : Bool) (n : ℕ). Head.Option own (octets n)) (ap₂ eqb code (ap (λ (f : Facts). f .code) (k .facts .ensures))) (size n)
+    ∙ sym (head-option (a .c) s (room e) (λ z. b .before .if2 .left (size n ∙ z)))
 
 pub head-in-spec : {M : Type 1} → statement M
 head-in-spec =
     tie.close
     (tie.spec
-    header-size-requires
+    (λ c κs. search needs)
+    (λ c. omega (arith, width c))
     returns
-    size-in-requires
+    (λ c κs. let w = width (c .before) in let p = headed (c .before .before .before .args .c) .some in (omega arith, omega arith, omega arith))
+    (λ c κs. search needs)
+    (λ c κs. omega (arith, width (c .before .before .before)))
     returns-2
-    code-in-requires
-    code-requires
+    (λ c κs. search needs)
     returns-3)

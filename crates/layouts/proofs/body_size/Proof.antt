@@ -1,135 +1,65 @@
--- `layouts::body_size` meets its contract: that of each carrier's layout. Assumes nothing.
+-- `layouts::body_size` meets its contract: that of each form. Assumes nothing.
 use borrow.Author.Needs.{needs}
 use native.Mathlib.Omega.{arith}
-use mathlib.Core.Path.{_≡_, refl}
+use mathlib.Core.Path.{_≡_, sym, ap, _∙_}
 use Prim.Native.Nat.{ℕ, _<_}
-use Rattle.layouts.specs.Writable.{bodyOctets}
+use Rattle.carriers.specs.declared.Form.{Form}
+use Rattle.carriers.specs.Carriers.{formOf}
+use Rattle.carriers.specs.CarriersLaws.{length-width}
+use Rattle.layouts.specs.Writable.{bodyBy}
 use Rattle.layouts.specs.LayoutsLaws.{body-small}
 use Rattle.layouts.proofs.body_size.Statement.{statement}
 use Rattle.layouts.proofs.body_size.Tie as tie
 
--- a size that is the body's is small
-sized : (s : tie.Start) (n : ℕ) → n ≡ bodyOctets (s .args .c) (s .args .full) (s .args .nlen) (s .args .alen) (s .args .plen)
-    → (n ≡ bodyOctets (s .args .c) (s .args .full) (s .args .nlen) (s .args .alen) (s .args .plen)) × (n < 65558)
-sized s n e = (e, omega (arith, body-small (s .args .c) (s .args .full) (s .args .nlen) (s .args .alen) (s .args .plen)))
-
-enum-told : tie.Need-enum-told
-enum-told c = search needs
-
-add-by-form : tie.Need-add-by-form
-add-by-form c = search needs
-
-add-by-form-2 : tie.Need-add-by-form-2
-add-by-form-2 c = search needs
-
-add-by-form-3 : tie.Need-add-by-form-3
-add-by-form-3 c = search needs
-
-add-by-form-4 : tie.Need-add-by-form-4
-add-by-form-4 c = search needs
-
-by-form-requires : tie.Need-by-form-requires
-by-form-requires c κs = search needs
-
-enum-told-2 : tie.Need-enum-told-2
-enum-told-2 c = search needs
-
-add-by-form-5 : tie.Need-add-by-form-5
-add-by-form-5 c = search needs
-
-add-by-form-6 : tie.Need-add-by-form-6
-add-by-form-6 c = search needs
-
-add-by-form-7 : tie.Need-add-by-form-7
-add-by-form-7 c = search needs
-
-add-by-form-8 : tie.Need-add-by-form-8
-add-by-form-8 c = search needs
-
-by-form-requires-2 : tie.Need-by-form-requires-2
-by-form-requires-2 c κs = search needs
-
-enum-told-3 : tie.Need-enum-told-3
-enum-told-3 c = search needs
-
-padded-size-requires : tie.Need-padded-size-requires
-padded-size-requires c κs = search needs
-
-enum-told-4 : tie.Need-enum-told-4
-enum-told-4 c = search needs
-
-add-result : tie.Need-add-result
-add-result c = search needs
-
-sub-result : tie.Need-sub-result
-sub-result c = search needs
-
-add-result-2 : tie.Need-add-result-2
-add-result-2 c = search needs
-
-add-result-3 : tie.Need-add-result-3
-add-result-3 c = search needs
-
-enum-told-5 : tie.Need-enum-told-5
-enum-told-5 c = search needs
-
-add-result-4 : tie.Need-add-result-4
-add-result-4 c = search needs
-
-sub-result-2 : tie.Need-sub-result-2
-sub-result-2 c = search needs
-
-add-result-5 : tie.Need-add-result-5
-add-result-5 c = search needs
-
-add-result-6 : tie.Need-add-result-6
-add-result-6 c = search needs
+-- a size that is the body's in the carrier's form is small
+sized : (c : tie.After-form) {k : Form} {n : ℕ} → c .form .result ≡ k
+    → let a = c .before .args in
+    n ≡ bodyBy k (a .c) (a .full) (a .nlen) (a .alen) (a .plen)
+    → (n ≡ bodyBy (formOf (a .c)) (a .c) (a .full) (a .nlen) (a .alen) (a .plen)) × (n < 65558)
+sized c {k} {n} e q =
+    let a = c .before .args in
+    let all = q ∙ ap (λ (k : Form). bodyBy k (a .c) (a .full) (a .nlen) (a .alen) (a .plen)) (sym e ∙ c .form .ensures) in
+    (all, omega (arith, body-small (a .c) (a .full) (a .nlen) (a .alen) (a .plen)))
 
 returns : tie.Need-returns
-returns c = let t = c .before in sized (t .before .before) (c .by-form .result) (rw (t .enum-told .given .1) (c .by-form .ensures))
+returns c =
+    let w = c .before in
+    let t = w .before in
+    let k = t .before .before in
+    let a = k .before .args in
+    sized k (t .enum-told .given .1) (rw (w .length-width .ensures) at (c .by-form .ensures))
 
 returns-2 : tie.Need-returns-2
-returns-2 c = let t = c .before in sized (t .before .before) (c .by-form2 .result) (rw (t .enum-told2 .given .1) (c .by-form2 .ensures))
+returns-2 c = let t = c .before in sized (t .before .before) (t .enum-told2 .given .1) (c .padded-size .ensures .0)
 
 returns-3 : tie.Need-returns-3
-returns-3 c = let t = c .before in sized (t .before .before) (c .padded-size .result) (rw (t .enum-told3 .given .1) (c .padded-size .ensures .0))
+returns-3 c = sized (c .before .before) (c .enum-told3 .given .1) (omega arith)
 
-returns-4 : tie.Need-returns-4
-returns-4 c = sized (c .before .before) _ (rw (c .enum-told4 .given .1) refl)
-
-returns-5 : tie.Need-returns-5
-returns-5 c = sized (c .before .before) _ (rw (c .enum-told5 .given .1) refl)
+width : (c : tie.After-length-width) → c .length-width .result < 3
+width c = omega (arith, length-width (c .before .before .before .before .args .c), c .length-width .ensures)
 
 pub body-size-spec : {M : Type 1} → statement M
 body-size-spec =
     tie.close
     (tie.spec
-    enum-told
-    add-by-form
-    add-by-form-2
-    add-by-form-3
-    add-by-form-4
-    by-form-requires
-    enum-told-2
-    add-by-form-5
-    add-by-form-6
-    add-by-form-7
-    add-by-form-8
-    by-form-requires-2
-    enum-told-3
-    padded-size-requires
-    enum-told-4
-    add-result
-    sub-result
-    add-result-2
-    add-result-3
-    enum-told-5
-    add-result-4
-    sub-result-2
-    add-result-5
-    add-result-6
+    (λ c κs. search needs)
+    (λ c. search needs)
+    (λ c κs. search needs)
+    (λ c. omega (arith, width c))
+    (λ c. omega (arith, width c))
+    (λ c. omega (arith, width c))
+    (λ c. omega (arith, width c))
+    (λ c. omega (arith, width c))
+    (λ c. omega (arith, width c))
+    (λ c. omega (arith, width c))
+    (λ c κs. search needs)
+    (λ c. search needs)
+    (λ c κs. search needs)
+    (λ c. search needs)
+    (λ c. search needs)
+    (λ c. search needs)
+    (λ c. search needs)
+    (λ c. search needs)
     returns
     returns-2
-    returns-3
-    returns-4
-    returns-5)
+    returns-3)

@@ -6,7 +6,7 @@ use mathlib.Core.Bool.{true}
 use Prim.Native.Nat.{ℕ, _+_, _-_, _/_, _≤_}
 use lib.ListN.{length}
 use Rattle.carriers.specs.Carriers.{addressWidth}
-use Rattle.blocks.specs.PlacesLaws.{address-width}
+use Rattle.carriers.specs.CarriersLaws.{address-width}
 use Rattle.blocks.specs.Block.{Fields}
 use Rattle.layouts.specs.Writable.{fieldsOf}
 use Rattle.layouts.specs.Writes.{attribute-length, attribute-asks, text-room, after-text-room, wrote-attribute}

@@ -4,10 +4,10 @@ use native.Mathlib.Omega.{arith}
 use mathlib.Core.Path.{_≡_, sym, _∙_}
 use lib.ListN.{length}
 use Rattle.blocks.specs.Block.{Fields, layout}
-use Rattle.frames.specs.EmitLaws.{option-length}
+use Rattle.frames.specs.EmitLaws.{head-length, option-length}
 use Rattle.layouts.specs.Layouts.{carriedOf}
 use Rattle.layouts.specs.Writable.{fieldsOf}
-use Rattle.layouts.specs.LayoutsLaws.{head-length, head-fits, body-length, writable-small, writable-emits}
+use Rattle.layouts.specs.LayoutsLaws.{body-length, writable-small, writable-emits}
 use Rattle.layouts.specs.Writes.{wrote-option}
 use Rattle.layouts.proofs.put_option.Statement.{statement}
 use Rattle.layouts.proofs.put_option.Tie as tie
@@ -34,7 +34,7 @@ put-header-requires c κs =
     let s = start k in
     let b = layout (s .args .c) (carriedOf (s .args .c) (written s)) in (
       omega (arith, option-length (s .args .c) b, s .pre .1 .1),
-      rw (sized k) (head-fits (s .args .c) b (writable-emits (s .args .c) (written s) (s .pre .0) (s .pre .1 .0))),
+      rw (sized k) (writable-emits (s .args .c) (written s) (s .pre .0) (s .pre .1 .0)),
     )
 
 put-body-requires : tie.Need-put-body-requires

@@ -12,15 +12,15 @@ use Rattle.layouts.proofs.put_router.Tie as tie
 abbrev written : tie.Start → Fields
 written s = fieldsOf (s .args .priority) (s .args .lifetime) (s .args .full) (s .args .name .now) (s .args .addresses .now) (s .args .parameters .now)
 
-abbrev start : tie.After-gap-after → tie.Start
+abbrev start : tie.After-padding-size → tie.Start
 start c = c .before .before .before .before .before .before
 
 -- the zeros are those that the record asks for
-padding : (c : tie.After-gap-after) → c .gap-after .result ≡ gap (optionSize (written (start c)))
-padding c = c .gap-after .ensures .0 ∙ ap gap (c .before .unpadded-size .ensures .0)
+padding : (c : tie.After-padding-size) → c .padding-size .result ≡ gap (optionSize (written (start c)))
+padding c = c .padding-size .ensures .0 ∙ ap gap (c .before .unpadded-size .ensures .0)
 
 -- from each call back to the one before
-abbrev before-put16 : tie.After-put16 → tie.After-gap-after
+abbrev before-put16 : tie.After-put16 → tie.After-padding-size
 before-put16 c = c .before .before
 
 abbrev before-put32 : tie.After-put32 → tie.After-put16
@@ -29,14 +29,14 @@ before-put32 c = c .before .before .before .before
 abbrev before-name : tie.After-put-counted → tie.After-put32
 before-name c = c .before .before .before .before
 
-abbrev zeros-known : tie.After-put-counted → tie.After-gap-after
+abbrev zeros-known : tie.After-put-counted → tie.After-padding-size
 zeros-known c = before-put16 (before-put32 (before-name c))
 
 unpadded-size-requires : tie.Need-unpadded-size-requires
 unpadded-size-requires c κs = search needs
 
-gap-after-requires : tie.Need-gap-after-requires
-gap-after-requires c κs = search needs
+padding-size-requires : tie.Need-padding-size-requires
+padding-size-requires c κs = search needs
 
 put16-requires : tie.Need-put16-requires
 put16-requires c κs = let s = start (c .before) in (omega (arith, router-least (written s), s .pre .1 .1), s .pre .0 .priority)
@@ -57,7 +57,7 @@ put-counted-requires-2 c κs =
     let p = t .before .before .before in
     let k = zeros-known p in
     let s = start k in (
-      addresses-room (written s) (k .gap-after .result) (padding k) (before-put32 (before-name p) .put16 .ensures) (before-name p .put32 .ensures)
+      addresses-room (written s) (k .padding-size .result) (padding k) (before-put32 (before-name p) .put16 .ensures) (before-name p .put32 .ensures)
           (p .put-counted .ensures) (t .if1 .taken) (s .pre .1 .1),
       (omega arith, omega arith, router-asks (written s) (s .pre .0) (t .if1 .taken) .0),
     )
@@ -69,7 +69,7 @@ put-counted-requires-3 c κs =
     let p = t .before .before .before in
     let k = zeros-known p in
     let s = start k in (
-      parameters-room (written s) (k .gap-after .result) (padding k) (before-put32 (before-name p) .put16 .ensures) (before-name p .put32 .ensures)
+      parameters-room (written s) (k .padding-size .result) (padding k) (before-put32 (before-name p) .put16 .ensures) (before-name p .put32 .ensures)
           (p .put-counted .ensures) (t .if1 .taken) (q .put-counted2 .ensures) (s .pre .1 .1),
       (omega arith, omega arith, router-asks (written s) (s .pre .0) (t .if1 .taken) .1),
     )
@@ -82,9 +82,9 @@ put-zeros-requires c κs =
     let p = t .before .before .before in
     let k = zeros-known p in
     let s = start k in (
-      zeros-room-full (written s) (k .gap-after .result) (padding k) (before-put32 (before-name p) .put16 .ensures) (before-name p .put32 .ensures)
+      zeros-room-full (written s) (k .padding-size .result) (padding k) (before-put32 (before-name p) .put16 .ensures) (before-name p .put32 .ensures)
           (p .put-counted .ensures) (t .if1 .taken) (q .put-counted2 .ensures) (r .put-counted3 .ensures) (s .pre .1 .1),
-      k .gap-after .ensures .1,
+      k .padding-size .ensures .1,
     )
 
 same-length : tie.Need-same-length
@@ -98,7 +98,7 @@ returns c =
     let t = q .before .before in
     let p = t .before .before .before in
     let k = zeros-known p in
-    wrote-router-full (written (start k)) (k .gap-after .result) (padding k) (before-put32 (before-name p) .put16 .ensures) (before-name p .put32 .ensures)
+    wrote-router-full (written (start k)) (k .padding-size .result) (padding k) (before-put32 (before-name p) .put16 .ensures) (before-name p .put32 .ensures)
     (p .put-counted .ensures) (t .if1 .taken) (q .put-counted2 .ensures) (r .put-counted3 .ensures) (z .put-zeros .ensures)
 
 put-zeros-requires-2 : tie.Need-put-zeros-requires-2
@@ -107,9 +107,9 @@ put-zeros-requires-2 c κs =
     let p = t .before .before .before in
     let k = zeros-known p in
     let s = start k in (
-      zeros-room-name-only (written s) (k .gap-after .result) (padding k) (before-put32 (before-name p) .put16 .ensures) (before-name p .put32 .ensures)
+      zeros-room-name-only (written s) (k .padding-size .result) (padding k) (before-put32 (before-name p) .put16 .ensures) (before-name p .put32 .ensures)
           (p .put-counted .ensures) (t .if1 .left) (s .pre .1 .1),
-      k .gap-after .ensures .1,
+      k .padding-size .ensures .1,
     )
 
 same-length-2 : tie.Need-same-length-2
@@ -121,7 +121,7 @@ returns-2 c =
     let t = z .before .before in
     let p = t .before .before .before in
     let k = zeros-known p in
-    wrote-router-name-only (written (start k)) (k .gap-after .result) (padding k) (before-put32 (before-name p) .put16 .ensures)
+    wrote-router-name-only (written (start k)) (k .padding-size .result) (padding k) (before-put32 (before-name p) .put16 .ensures)
     (before-name p .put32 .ensures) (p .put-counted .ensures) (t .if1 .left) (z .put-zeros2 .ensures)
 
 pub put-router-spec : {M : Type 1} → statement M
@@ -129,7 +129,7 @@ put-router-spec =
     tie.close
     (tie.spec
     unpadded-size-requires
-    gap-after-requires
+    padding-size-requires
     put16-requires
     put32-requires
     put-counted-requires

@@ -3,7 +3,8 @@ use Prim.Native.Nat.{_≤_}
 use native.Mathlib.Nat.{mul-le-mul}
 use native.Mathlib.Omega.{arith}
 use borrow.Author.Needs.{needs}
-use Rattle.taking.specs.SpotLaws.{width-small, full-1, full-2, full-3, full-4, full-5}
+use Rattle.carriers.specs.CarriersLaws.{address-width}
+use Rattle.taking.specs.SpotLaws.{full-1, full-2, full-3, full-4, full-5}
 use Rattle.taking.proofs.full_at.Statement.{statement}
 use Rattle.taking.proofs.full_at.Tie as tie
 
@@ -31,7 +32,7 @@ address-width-requires c κs = search needs
 mul-alen : tie.Need-mul-alen
 mul-alen c =
     let h : c .before .wide .result ≤ 255 = omega arith in
-    let k : c .address-width .result ≤ 16 = rw (c .address-width .ensures) (width-small (c .before .before .before .before .before .args .c)) in
+    let k : c .address-width .result ≤ 16 = rw (c .address-width .ensures) (address-width (c .before .before .before .before .before .args .c) .1) in
     omega (arith, mul-le-mul h k)
 
 sub-if2 : tie.Need-sub-if2

@@ -1,10 +1,10 @@
--- `layouts::put_number` meets its contract: one octet, or two. Assumes nothing.
+-- `octets::put_number` meets its contract: one octet, or two. Assumes nothing.
 use borrow.Author.Needs.{needs}
 use native.Mathlib.Omega.{arith}
 use mathlib.Core.Path.{_≡_}
 use Prim.Native.Nat.{ℕ, _^_, _<_}
-use Rattle.layouts.proofs.put_number.Statement.{statement}
-use Rattle.layouts.proofs.put_number.Tie as tie
+use Rattle.octets.proofs.put_number.Statement.{statement}
+use Rattle.octets.proofs.put_number.Tie as tie
 
 cast-put8 : tie.Need-cast-put8
 cast-put8 c =
