@@ -87,6 +87,13 @@ impl Limit {
     // Octets of a record's parameters.
     pub const PARAMETERS: usize = 1024;
 
+    // Octets of a record in a sheet: a head of 8, a name of 255, an address count of 1, 63 addresses of 16, a parameter length of 2 and
+    // 1,024 octets of parameters.
+    pub const RECORD: usize = 2298;
+
+    // Octets of a sheet: a head of 7 and 16 such records.
+    pub const SHEET: usize = 36775;
+
     // Octets of a carrier 3 record when rounded: 255 units of 8.
     pub const OPTION: usize = 2040;
 }

@@ -46,6 +46,23 @@ outcomeOf c body =
 
 -- ---- a record's octets
 
+-- octets before the name: priority 2, lifetime 4, mode 1, name length 1; and where lifetime, mode and name length stand among them
+abbrev pub headSize : ℕ
+headSize = 8
+
+abbrev pub lifetimeAt : ℕ
+lifetimeAt = 2
+
+abbrev pub modeAt : ℕ
+modeAt = 6
+
+abbrev pub nameLengthAt : ℕ
+nameLengthAt = 7
+
+-- octets that mode 1 adds beside addresses and parameters: address count 1, parameter length 2
+abbrev pub tailSize : ℕ
+tailSize = 3
+
 -- mode 0 name only, 1 full
 abbrev pub modeOf : Bool → ℕ
 modeOf full = cond full 1 0

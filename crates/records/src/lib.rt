@@ -24,11 +24,17 @@ pub struct Examined {
     pub clean: bool,
 }
 
-// Octets of a record before its name: priority, lifetime, mode and name length.
-const HEAD: usize = 8;
+// Octets of a record before its name: priority, lifetime, mode and name length; and where lifetime, mode and name length stand among them.
+pub const HEAD: usize = 8;
 
-// Octets that mode 1 adds to addresses and parameters: address count and parameter length.
-const TAIL: usize = 3;
+pub const LIFETIME_AT: usize = 2;
+
+pub const MODE_AT: usize = 6;
+
+pub const NAME_LENGTH_AT: usize = 7;
+
+// Octets that mode 1 adds beside addresses and parameters: address count and parameter length.
+pub const TAIL: usize = 3;
 
 // What is answered of a body with a fault.
 fn faulty(fault: usize) -> Examined

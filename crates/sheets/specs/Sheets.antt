@@ -17,6 +17,19 @@ letters = 82 ∷ 83 ∷ 86 ∷ []
 abbrev pub edition : ℕ
 edition = 1
 
+-- octets of the header, and where version, carrier and record count stand in it
+abbrev pub frontSize : ℕ
+frontSize = 7
+
+abbrev pub versionAt : ℕ
+versionAt = 3
+
+abbrev pub carrierAt : ℕ
+carrierAt = 5
+
+abbrev pub countAt : ℕ
+countAt = 6
+
 -- header, 7 octets: letters, 16-bit version, carrier, record count
 unfoldable pub frontOf : Carrier → ℕ → List ℕ
 frontOf c count = letters ++ (be 2 edition ++ (be 1 (numberOf c) ++ be 1 count))

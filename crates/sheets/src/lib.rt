@@ -4,7 +4,7 @@ ghost use mathlib.Core.Path.{_≡_};
 ghost use Prim.Native.Nat.{_≤_, _<_};
 ghost use lib.ListN.{length};
 ghost use Rattle.octets.specs.Over.{Wrote};
-ghost use Rattle.sheets.specs.Sheets.{frontOf};
+ghost use Rattle.sheets.specs.Sheets.{frontSize, frontOf};
 use carriers::Carrier;
 
 // The three letters at a sheet's head.
@@ -13,12 +13,18 @@ pub const LETTERS: [u8; 3] = [0x52, 0x53, 0x56];
 // The version of the house edition.
 pub const EDITION: usize = 1;
 
-// Octets of a sheet's head.
+// Octets of a sheet's head, and where version, carrier and record count stand in it.
 pub const FRONT: usize = 7;
+
+pub const VERSION_AT: usize = 3;
+
+pub const CARRIER_AT: usize = 5;
+
+pub const COUNT_AT: usize = 6;
 
 // Writes the head of a sheet of `count` records at the front of `out`, and returns the index after it.
 pub fn put_front(out: &mut [u8], c: Carrier, count: u8) -> usize
-    requires { ⌜ 7 ≤ length (now out) ⌝ }
+    requires { ⌜ frontSize ≤ length (now out) ⌝ }
     ensures { λ r. ⌜ Wrote 0 (frontOf c count) (now (out .entry)) r (now (out .exit)) ⌝ }
 {
     let letters = LETTERS;

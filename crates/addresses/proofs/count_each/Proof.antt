@@ -19,29 +19,8 @@ abbrev μ-loop : tie.MeasureT-loop
 loop-holds : tie.Need-loop-holds Inv-loop μ-loop
 loop-holds c = count-start _ _
 
-sub-loop : tie.Need-sub-loop Inv-loop μ-loop
-sub-loop c = omega arith
-
-add-next : tie.Need-add-next Inv-loop μ-loop
-add-next c = omega arith
-
-sub-dropped : tie.Need-sub-dropped Inv-loop μ-loop
-sub-dropped c = omega arith
-
-part-dropped-start : tie.Need-part-dropped-start Inv-loop μ-loop
-part-dropped-start c = omega arith
-
-part-dropped-end : tie.Need-part-dropped-end Inv-loop μ-loop
-part-dropped-end c = omega arith
-
 dropped-requires : tie.Need-dropped-requires Inv-loop μ-loop
 dropped-requires c κs = search (needs, part-wide)
-
-add-n : tie.Need-add-n Inv-loop μ-loop
-add-n c = omega arith
-
-loop-less : tie.Need-loop-less Inv-loop μ-loop
-loop-less c = omega arith
 
 loop-again : tie.Need-loop-again Inv-loop μ-loop
 loop-again c =
@@ -50,18 +29,12 @@ loop-again c =
     let kept = kept-keep _ _ (at-loop .loop .at) (at-loop .before .before .pre .0) (in-loop .loop-test .taken) (c .before .dropped .ensures) (c .if1 .taken) in
     record { within = omega arith; few = omega arith; whole = omega (arith, ap length kept) }
 
-loop-less-2 : tie.Need-loop-less-2 Inv-loop μ-loop
-loop-less-2 c = omega arith
-
 loop-again-2 : tie.Need-loop-again-2 Inv-loop μ-loop
 loop-again-2 c =
     let in-loop = c .before .before .before in
     let at-loop = in-loop .before in
     let kept = kept-drop _ _ (at-loop .loop .at) (at-loop .before .before .pre .0) (in-loop .loop-test .taken) (c .before .dropped .ensures) (c .if1 .left) in
     record { within = omega arith; few = omega arith; whole = omega (arith, ap length kept) }
-
-cast-result : tie.Need-cast-result Inv-loop μ-loop
-cast-result c = omega arith
 
 returns : tie.Need-returns Inv-loop μ-loop
 returns c =
@@ -75,16 +48,16 @@ count-each-spec =
     Inv-loop
     μ-loop
     loop-holds
-    sub-loop
-    add-next
-    sub-dropped
-    part-dropped-start
-    part-dropped-end
+    (λ c. omega arith)
+    (λ c. omega arith)
+    (λ c. omega arith)
+    (λ c. omega arith)
+    (λ c. omega arith)
     dropped-requires
-    add-n
-    loop-less
+    (λ c. omega arith)
+    (λ c. omega arith)
     loop-again
-    loop-less-2
+    (λ c. omega arith)
     loop-again-2
-    cast-result
+    (λ c. omega arith)
     returns)

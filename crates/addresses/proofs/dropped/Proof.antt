@@ -5,18 +5,9 @@ use Rattle.addresses.specs.Addresses.{unusable}
 use Rattle.addresses.proofs.dropped.Statement.{statement}
 use Rattle.addresses.proofs.dropped.Tie as tie
 
-shared-slice-read-unusable4 : tie.Need-shared-slice-read-unusable4
-shared-slice-read-unusable4 c = search needs
-
-unusable4-requires : tie.Need-unusable4-requires
-unusable4-requires c κs = search needs
-
 returns : tie.Need-returns
 unfolding unusable
 returns c = rw (eq-eqb _ _ (c .before .before .if1 .taken)) (c .unusable4 .ensures)
-
-unusable16-requires : tie.Need-unusable16-requires
-unusable16-requires c κs = search needs
 
 returns-2 : tie.Need-returns-2
 unfolding unusable
@@ -25,4 +16,4 @@ returns-2 c = rw (ne-eqb _ _ (c .before .if1 .left)) (c .unusable16 .ensures)
 pub dropped-spec : {M : Type 1} → statement M
 dropped-spec =
     tie.close
-    (tie.spec shared-slice-read-unusable4 unusable4-requires returns unusable16-requires returns-2)
+    (tie.spec (λ c. search needs) (λ c κs. search needs) returns (λ c κs. search needs) returns-2)

@@ -15,29 +15,11 @@ abbrev μ-loop : tie.MeasureT-loop
 loop-holds : tie.Need-loop-holds Inv-loop μ-loop
 loop-holds c = look-start _ _ _
 
-sub-loop : tie.Need-sub-loop Inv-loop μ-loop
-sub-loop c = search needs
-
-add-next : tie.Need-add-next Inv-loop μ-loop
-add-next c = search needs
-
-sub-dropped : tie.Need-sub-dropped Inv-loop μ-loop
-sub-dropped c = search needs
-
-part-dropped-start : tie.Need-part-dropped-start Inv-loop μ-loop
-part-dropped-start c = search needs
-
-part-dropped-end : tie.Need-part-dropped-end Inv-loop μ-loop
-part-dropped-end c = search needs
-
 dropped-requires : tie.Need-dropped-requires Inv-loop μ-loop
 dropped-requires c κs = search (needs, part-wide)
 
 returns : tie.Need-returns Inv-loop μ-loop
 returns c = search (needs, look-found)
-
-loop-less : tie.Need-loop-less Inv-loop μ-loop
-loop-less c = search needs
 
 loop-again : tie.Need-loop-again Inv-loop μ-loop
 loop-again c = search (needs, look-next)
@@ -52,13 +34,13 @@ has-spec =
     Inv-loop
     μ-loop
     loop-holds
-    sub-loop
-    add-next
-    sub-dropped
-    part-dropped-start
-    part-dropped-end
+    (λ c. search needs)
+    (λ c. search needs)
+    (λ c. search needs)
+    (λ c. search needs)
+    (λ c. search needs)
     dropped-requires
     returns
-    loop-less
+    (λ c. search needs)
     loop-again
     returns-2)

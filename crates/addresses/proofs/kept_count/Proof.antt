@@ -5,15 +5,6 @@ use mathlib.Core.Path.{_≡_}
 use Rattle.addresses.proofs.kept_count.Statement.{statement}
 use Rattle.addresses.proofs.kept_count.Tie as tie
 
-count-each-requires : tie.Need-count-each-requires
-count-each-requires c κs = search needs
-
-returns : tie.Need-returns
-returns c = search needs
-
-count-fours-requires : tie.Need-count-fours-requires
-count-fours-requires c κs = search needs
-
 returns-2 : tie.Need-returns-2
 returns-2 c =
     let wide = c .before .before .before .pre .0 in
@@ -21,4 +12,4 @@ returns-2 c =
     rw long (c .count-fours .ensures)
 
 pub kept-count-spec : {M : Type 1} → statement M
-kept-count-spec = tie.close (tie.spec count-each-requires returns count-fours-requires returns-2)
+kept-count-spec = tie.close (tie.spec (λ c κs. search needs) (λ c. search needs) (λ c κs. search needs) returns-2)

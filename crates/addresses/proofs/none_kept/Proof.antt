@@ -6,11 +6,8 @@ use Rattle.addresses.specs.AddressesLaws.{none-has}
 use Rattle.addresses.proofs.none_kept.Statement.{statement}
 use Rattle.addresses.proofs.none_kept.Tie as tie
 
-has-requires : tie.Need-has-requires
-has-requires c κs = search needs
-
 returns : tie.Need-returns
 returns c = ap not (c .has .ensures) ∙ none-has _ _
 
 pub none-kept-spec : {M : Type 1} → statement M
-none-kept-spec = tie.close (tie.spec has-requires returns)
+none-kept-spec = tie.close (tie.spec (λ c κs. search needs) returns)

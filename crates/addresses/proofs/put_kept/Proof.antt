@@ -78,41 +78,17 @@ abbrev μ-loop : tie.MeasureT-loop
 loop-holds : tie.Need-loop-holds Inv-loop μ-loop
 loop-holds c = keeping-start (c .before .before .pre .1)
 
-sub-loop : tie.Need-sub-loop Inv-loop μ-loop
-sub-loop c = omega arith
-
-add-next : tie.Need-add-next Inv-loop μ-loop
-add-next c = omega arith
-
-sub-a : tie.Need-sub-a Inv-loop μ-loop
-sub-a c = omega arith
-
-part-a-start : tie.Need-part-a-start Inv-loop μ-loop
-part-a-start c = omega arith
-
-part-a-end : tie.Need-part-a-end Inv-loop μ-loop
-part-a-end c = omega arith
-
 dropped-requires : tie.Need-dropped-requires Inv-loop μ-loop
 dropped-requires c κs = search (needs, part-wide)
 
 copy-requires : tie.Need-copy-requires Inv-loop μ-loop
 copy-requires c κs = search (needs, keeping-room)
 
-loop-less : tie.Need-loop-less Inv-loop μ-loop
-loop-less c = omega arith
-
 loop-again : tie.Need-loop-again Inv-loop μ-loop
 loop-again c = search (needs, keeping-keep)
 
-loop-less-2 : tie.Need-loop-less-2 Inv-loop μ-loop
-loop-less-2 c = omega arith
-
 loop-again-2 : tie.Need-loop-again-2 Inv-loop μ-loop
 loop-again-2 c = search (needs, keeping-drop)
-
-same-length : tie.Need-same-length Inv-loop μ-loop
-same-length c = omega arith
 
 returns : tie.Need-returns Inv-loop μ-loop
 returns c = keeping-done (c .loop-test .left) (c .before .loop .inv)
@@ -124,16 +100,16 @@ put-kept-spec =
     Inv-loop
     μ-loop
     loop-holds
-    sub-loop
-    add-next
-    sub-a
-    part-a-start
-    part-a-end
+    (λ c. omega arith)
+    (λ c. omega arith)
+    (λ c. omega arith)
+    (λ c. omega arith)
+    (λ c. omega arith)
     dropped-requires
     copy-requires
-    loop-less
+    (λ c. omega arith)
     loop-again
-    loop-less-2
+    (λ c. omega arith)
     loop-again-2
-    same-length
+    (λ c. omega arith)
     returns)

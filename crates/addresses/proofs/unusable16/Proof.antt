@@ -7,20 +7,11 @@ use Rattle.addresses.specs.AddressesLaws.{unusable16-first, unusable16-o
 use Rattle.addresses.proofs.unusable16.Statement.{statement}
 use Rattle.addresses.proofs.unusable16.Tie as tie
 
-shared-slice-read-first : tie.Need-shared-slice-read-first
-shared-slice-read-first c = search needs
-
 returns : tie.Need-returns
 returns c = search (needs, unusable16-first)
 
-shared-slice-read-if2 : tie.Need-shared-slice-read-if2
-shared-slice-read-if2 c = search needs
-
 slice-aggregate-zeros : tie.Need-slice-aggregate-zeros
 slice-aggregate-zeros c = sym (length-take-le 15 (c .before .before .before .before .before .before .args .a .now) (omega arith))
-
-zeros-requires : tie.Need-zeros-requires
-zeros-requires c κs = search needs
 
 returns-2 : tie.Need-returns-2
 returns-2 c = search (needs, unusable16-one)
@@ -32,10 +23,10 @@ pub unusable16-spec : {M : Type 1} → statement M
 unusable16-spec =
     tie.close
     (tie.spec
-    shared-slice-read-first
+    (λ c. search needs)
     returns
-    shared-slice-read-if2
+    (λ c. search needs)
     slice-aggregate-zeros
-    zeros-requires
+    (λ c κs. search needs)
     returns-2
     returns-3)

@@ -6,38 +6,14 @@ use Rattle.blocks.specs.PlacesLaws.{after-name-length-cut, after-name-ad
 use Rattle.blocks.proofs.after_name.Statement.{statement}
 use Rattle.blocks.proofs.after_name.Tie as tie
 
-length-width-requires : tie.Need-length-width-requires
-length-width-requires c κs = search needs
-
-add-name : tie.Need-add-name
-add-name c = search needs
-
-add-a : tie.Need-add-a
-add-a c = search needs
-
-sub-left : tie.Need-sub-left
-sub-left c = search needs
-
 returns : tie.Need-returns
 returns c = search (needs, after-name-length-cut)
 
 number-requires : tie.Need-number-requires
 number-requires c κs = (omega arith, omega (arith, length-width (c .before .before .before .args .carrier)))
 
-add-addresses : tie.Need-add-addresses
-add-addresses c = search needs
-
-sub-if2 : tie.Need-sub-if2
-sub-if2 c = search needs
-
 returns-2 : tie.Need-returns-2
 returns-2 c = search (needs, after-name-addresses-cut)
-
-add-parameters : tie.Need-add-parameters
-add-parameters c = search needs
-
-sub-plen : tie.Need-sub-plen
-sub-plen c = search needs
 
 returns-3 : tie.Need-returns-3
 returns-3 c =
@@ -48,15 +24,15 @@ pub after-name-spec : {M : Type 1} → statement M
 after-name-spec =
     tie.close
     (tie.spec
-    length-width-requires
-    add-name
-    add-a
-    sub-left
+    (λ c κs. search needs)
+    (λ c. search needs)
+    (λ c. search needs)
+    (λ c. search needs)
     returns
     number-requires
-    add-addresses
-    sub-if2
+    (λ c. search needs)
+    (λ c. search needs)
     returns-2
-    add-parameters
-    sub-plen
+    (λ c. search needs)
+    (λ c. search needs)
     returns-3)

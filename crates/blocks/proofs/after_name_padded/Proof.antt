@@ -5,53 +5,11 @@ use Rattle.blocks.specs.PlacesLaws.{padded-addresses-cut, padded-paramet
 use Rattle.blocks.proofs.after_name_padded.Statement.{statement}
 use Rattle.blocks.proofs.after_name_padded.Tie as tie
 
-add-a : tie.Need-add-a
-add-a c = search needs
-
-get16-requires : tie.Need-get16-requires
-get16-requires c κs = search needs
-
-add-addresses : tie.Need-add-addresses
-add-addresses c = search needs
-
-sub-if1 : tie.Need-sub-if1
-sub-if1 c = search needs
-
-add-if1 : tie.Need-add-if1
-add-if1 c = search needs
-
 returns : tie.Need-returns
 returns c = search (needs, padded-addresses-cut)
 
-add-b : tie.Need-add-b
-add-b c = search needs
-
-get16-requires-2 : tie.Need-get16-requires-2
-get16-requires-2 c κs = search needs
-
-add-parameters : tie.Need-add-parameters
-add-parameters c = search needs
-
-sub-if2 : tie.Need-sub-if2
-sub-if2 c = search needs
-
 returns-2 : tie.Need-returns-2
 returns-2 c = search (needs, padded-parameters-cut)
-
-add-end : tie.Need-add-end
-add-end c = search needs
-
-sub-padding : tie.Need-sub-padding
-sub-padding c = search needs
-
-part-padding-start : tie.Need-part-padding-start
-part-padding-start c = search needs
-
-part-padding-end : tie.Need-part-padding-end
-part-padding-end c = search needs
-
-padding-requires : tie.Need-padding-requires
-padding-requires c κs = search needs
 
 returns-3 : tie.Need-returns-3
 returns-3 c =
@@ -69,21 +27,21 @@ pub after-name-padded-spec : {M : Type 1} → statement M
 after-name-padded-spec =
     tie.close
     (tie.spec
-    add-a
-    get16-requires
-    add-addresses
-    sub-if1
-    add-if1
+    (λ c. search needs)
+    (λ c κs. search needs)
+    (λ c. search needs)
+    (λ c. search needs)
+    (λ c. search needs)
     returns
-    add-b
-    get16-requires-2
-    add-parameters
-    sub-if2
+    (λ c. search needs)
+    (λ c κs. search needs)
+    (λ c. search needs)
+    (λ c. search needs)
     returns-2
-    add-end
-    sub-padding
-    part-padding-start
-    part-padding-end
-    padding-requires
+    (λ c. search needs)
+    (λ c. search needs)
+    (λ c. search needs)
+    (λ c. search needs)
+    (λ c κs. search needs)
     returns-3
     returns-4)

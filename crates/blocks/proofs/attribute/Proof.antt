@@ -8,24 +8,6 @@ use Rattle.blocks.proofs.attribute.Tie as tie
 returns : tie.Need-returns
 returns c = search (needs, attribute-fixed-cut)
 
-get16-requires : tie.Need-get16-requires
-get16-requires c κs = search needs
-
-shared-slice-read-wide : tie.Need-shared-slice-read-wide
-shared-slice-read-wide c = search needs
-
-wide-requires : tie.Need-wide-requires
-wide-requires c κs = search needs
-
-shared-slice-read-wide-2 : tie.Need-shared-slice-read-wide-2
-shared-slice-read-wide-2 c = search needs
-
-wide-requires-2 : tie.Need-wide-requires-2
-wide-requires-2 c κs = search needs
-
-address-width-requires : tie.Need-address-width-requires
-address-width-requires c κs = search needs
-
 mul-alen : tie.Need-mul-alen
 mul-alen c =
     let k = c .before .before .before in
@@ -39,15 +21,6 @@ add-if2 c =
 returns-2 : tie.Need-returns-2
 returns-2 c = search (needs, attribute-fields-cut)
 
-add-name : tie.Need-add-name
-add-name c = search needs
-
-add-parameters : tie.Need-add-parameters
-add-parameters c = search needs
-
-sub-t15 : tie.Need-sub-t15
-sub-t15 c = search needs
-
 returns-3 : tie.Need-returns-3
 returns-3 c =
     let k = c .before in
@@ -58,16 +31,16 @@ attribute-spec =
     tie.close
     (tie.spec
     returns
-    get16-requires
-    shared-slice-read-wide
-    wide-requires
-    shared-slice-read-wide-2
-    wide-requires-2
-    address-width-requires
+    (λ c κs. search needs)
+    (λ c. search needs)
+    (λ c κs. search needs)
+    (λ c. search needs)
+    (λ c κs. search needs)
+    (λ c κs. search needs)
     mul-alen
     add-if2
     returns-2
-    add-name
-    add-parameters
-    sub-t15
+    (λ c. search needs)
+    (λ c. search needs)
+    (λ c. search needs)
     returns-3)

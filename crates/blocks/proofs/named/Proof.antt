@@ -6,17 +6,11 @@ use Rattle.blocks.specs.PlacesLaws.{named-fixed-cut, named-name-cut, nam
 use Rattle.blocks.proofs.named.Statement.{statement}
 use Rattle.blocks.proofs.named.Tie as tie
 
-length-width-requires : tie.Need-length-width-requires
-length-width-requires c κs = search needs
-
 add-name : tie.Need-add-name
 add-name c = omega (arith, length-width (c .before .before .args .carrier))
 
 returns : tie.Need-returns
 returns c = search (needs, named-fixed-cut)
-
-get16-requires : tie.Need-get16-requires
-get16-requires c κs = search needs
 
 number-requires : tie.Need-number-requires
 number-requires c κs = (omega arith, omega (arith, length-width (c .before .before .before .before .args .carrier)))
@@ -24,19 +18,10 @@ number-requires c κs = (omega arith, omega (arith, length-width (c .before .bef
 returns-2 : tie.Need-returns-2
 returns-2 c = search (needs, named-name-cut)
 
-add-a : tie.Need-add-a
-add-a c = search needs
-
-sub-left : tie.Need-sub-left
-sub-left c = search needs
-
 returns-3 : tie.Need-returns-3
 returns-3 c =
     let k = c .before .before .before .before .before in
     (search (needs, named-alone), (omega arith, named-alone-ranged _ (k .before .before .pre) (k .length-width .ensures) (omega arith)))
-
-after-name-requires : tie.Need-after-name-requires
-after-name-requires c κs = search needs
 
 returns-4 : tie.Need-returns-4
 returns-4 c = search (needs, named-followed)
@@ -45,14 +30,14 @@ pub named-spec : {M : Type 1} → statement M
 named-spec =
     tie.close
     (tie.spec
-    length-width-requires
+    (λ c κs. search needs)
     add-name
     returns
-    get16-requires
+    (λ c κs. search needs)
     number-requires
     returns-2
-    add-a
-    sub-left
+    (λ c. search needs)
+    (λ c. search needs)
     returns-3
-    after-name-requires
+    (λ c κs. search needs)
     returns-4)

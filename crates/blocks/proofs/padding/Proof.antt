@@ -4,9 +4,6 @@ use Rattle.blocks.specs.PlacesLaws.{padding-few, padding-many}
 use Rattle.blocks.proofs.padding.Statement.{statement}
 use Rattle.blocks.proofs.padding.Tie as tie
 
-zeros-requires : tie.Need-zeros-requires
-zeros-requires c κs = search needs
-
 returns : tie.Need-returns
 returns c = search (needs, padding-few)
 
@@ -14,4 +11,4 @@ returns-2 : tie.Need-returns-2
 returns-2 c = search (needs, padding-many)
 
 pub padding-spec : {M : Type 1} → statement M
-padding-spec = tie.close (tie.spec zeros-requires returns returns-2)
+padding-spec = tie.close (tie.spec (λ c κs. search needs) returns returns-2)

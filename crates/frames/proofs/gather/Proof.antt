@@ -43,12 +43,6 @@ loop-holds c = gathering-start _
 next-block-requires : tie.Need-next-block-requires Inv-loop μ-loop
 next-block-requires c κs = c .loop .inv .walked .within
 
-enum-known-start : tie.Need-enum-known-start Inv-loop μ-loop
-enum-known-start c = search needs
-
-enum-told : tie.Need-enum-told Inv-loop μ-loop
-enum-told c = search needs
-
 returns : tie.Need-returns Inv-loop μ-loop
 returns c = gathering-second (block (c .before .before)) (c .before .before .before .before .before .loop .inv) (other c)
 
@@ -60,23 +54,14 @@ loop-again c =
     let k = c .before .before .before in
     gathering-first (block k) (subst (Gathering _ _ _) (c .enum-told .given .1) (k .before .before .before .loop .inv))
 
-enum-known-end : tie.Need-enum-known-end Inv-loop μ-loop
-enum-known-end c = search needs
-
 loop-less-2 : tie.Need-loop-less-2 Inv-loop μ-loop
 loop-less-2 c = let m = step-skipped _ _ _ (skipped (c .before)) in omega arith
 
 loop-again-2 : tie.Need-loop-again-2 Inv-loop μ-loop
 loop-again-2 c = gathering-skipped (c .before .before .before .before .loop .inv) (skipped (c .before))
 
-enum-told-2 : tie.Need-enum-told-2 Inv-loop μ-loop
-enum-told-2 c = search needs
-
 returns-2 : tie.Need-returns-2 Inv-loop μ-loop
 returns-2 c = gathering-end (c .before .before .before .loop .inv) (sym (c .before .before .next-block .ensures) ∙ c .enum-told2 .given .1)
-
-enum-told-3 : tie.Need-enum-told-3 Inv-loop μ-loop
-enum-told-3 c = search needs
 
 returns-3 : tie.Need-returns-3 Inv-loop μ-loop
 returns-3 c = gathering-fault (c .before .before .before .loop .inv) (sym (c .before .before .next-block .ensures) ∙ c .enum-told3 .given .1)
@@ -89,15 +74,15 @@ gather-spec =
     μ-loop
     loop-holds
     next-block-requires
-    enum-known-start
-    enum-told
+    (λ c. search needs)
+    (λ c. search needs)
     returns
     loop-less
     loop-again
-    enum-known-end
+    (λ c. search needs)
     loop-less-2
     loop-again-2
-    enum-told-2
+    (λ c. search needs)
     returns-2
-    enum-told-3
+    (λ c. search needs)
     returns-3)

@@ -37,9 +37,6 @@ loop-holds c = joining-start _ _
 next-block-requires : tie.Need-next-block-requires Inv-loop μ-loop
 next-block-requires c κs = c .loop .inv .walked .within
 
-enum-known-start : tie.Need-enum-known-start Inv-loop μ-loop
-enum-known-start c = search needs
-
 sub-copy : tie.Need-sub-copy Inv-loop μ-loop
 sub-copy c = let m = step-block _ _ _ (block (c .before .before)) in omega arith
 
@@ -63,17 +60,11 @@ loop-again c =
     let k = c .before .before .before .before .before .before in
     joining-block (k .before .before .before .loop .inv) (block k) (c .before .before .copy .ensures)
 
-enum-known-end : tie.Need-enum-known-end Inv-loop μ-loop
-enum-known-end c = search needs
-
 loop-less-2 : tie.Need-loop-less-2 Inv-loop μ-loop
 loop-less-2 c = let m = step-skipped _ _ _ (skipped (c .before)) in omega arith
 
 loop-again-2 : tie.Need-loop-again-2 Inv-loop μ-loop
 loop-again-2 c = joining-skipped (c .before .before .before .before .loop .inv) (skipped (c .before))
-
-enum-told : tie.Need-enum-told Inv-loop μ-loop
-enum-told c = search needs
 
 same-length : tie.Need-same-length Inv-loop μ-loop
 same-length c = joining-length (c .before .before .before .loop .inv)
@@ -82,9 +73,6 @@ returns : tie.Need-returns Inv-loop μ-loop
 returns c =
     let l = c .before .before .before in
     (joining-end (l .loop .inv) (sym (c .before .before .next-block .ensures) ∙ c .enum-told .given .1), omega (arith, l .loop .inv .behind, l .loop .inv .walked .within))
-
-enum-told-2 : tie.Need-enum-told-2 Inv-loop μ-loop
-enum-told-2 c = search needs
 
 same-length-2 : tie.Need-same-length-2 Inv-loop μ-loop
 same-length-2 c = joining-length (c .before .before .before .loop .inv)
@@ -100,19 +88,19 @@ join-spec =
     μ-loop
     loop-holds
     next-block-requires
-    enum-known-start
+    (λ c. search needs)
     sub-copy
     part-copy-start
     part-copy-end
     copy-requires
     loop-less
     loop-again
-    enum-known-end
+    (λ c. search needs)
     loop-less-2
     loop-again-2
-    enum-told
+    (λ c. search needs)
     same-length
     returns
-    enum-told-2
+    (λ c. search needs)
     same-length-2
     returns-2)

@@ -29,36 +29,6 @@ read c = sym (c .own .given .1) ∙ c .before .before .first .ensures
 returns : tie.Need-returns
 returns c = sym (step-at-end _ _ _ (c .if1 .taken))
 
-sub-first : tie.Need-sub-first
-sub-first c = search needs
-
-part-first-start : tie.Need-part-first-start
-part-first-start c = search needs
-
-part-first-end : tie.Need-part-first-end
-part-first-end c = search needs
-
-first-requires : tie.Need-first-requires
-first-requires c κs = search needs
-
-enum-told : tie.Need-enum-told
-enum-told c = search needs
-
-enum-told-2 : tie.Need-enum-told-2
-enum-told-2 c = search needs
-
-enum-known-own : tie.Need-enum-known-own
-enum-known-own c = search needs
-
-sub-if2 : tie.Need-sub-if2
-sub-if2 c = search needs
-
-add-end : tie.Need-add-end
-add-end c = search needs
-
-header-size-requires : tie.Need-header-size-requires
-header-size-requires c κs = search needs
-
 add-start : tie.Need-add-start
 add-start c =
     let k = c .before .before .before .before in
@@ -108,16 +78,16 @@ next-block-spec =
     tie.close
     (tie.spec
     returns
-    sub-first
-    part-first-start
-    part-first-end
-    first-requires
-    enum-told
-    enum-told-2
-    enum-known-own
-    sub-if2
-    add-end
-    header-size-requires
+    (λ c. search needs)
+    (λ c. search needs)
+    (λ c. search needs)
+    (λ c κs. search needs)
+    (λ c. search needs)
+    (λ c. search needs)
+    (λ c. search needs)
+    (λ c. search needs)
+    (λ c. search needs)
+    (λ c κs. search needs)
     add-start
     returns-2
     returns-3

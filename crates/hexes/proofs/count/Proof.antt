@@ -17,17 +17,8 @@ abbrev μ-loop : tie.MeasureT-loop
 loop-holds : tie.Need-loop-holds Inv-loop μ-loop
 loop-holds c = count-start
 
-add-next : tie.Need-add-next Inv-loop μ-loop
-add-next c = omega arith
-
-shared-slice-read-is-separator : tie.Need-shared-slice-read-is-separator Inv-loop μ-loop
-shared-slice-read-is-separator c = omega arith
-
 is-separator-requires : tie.Need-is-separator-requires Inv-loop μ-loop
 is-separator-requires c κs = tt
-
-loop-less : tie.Need-loop-less Inv-loop μ-loop
-loop-less c = omega arith
 
 loop-again : tie.Need-loop-again Inv-loop μ-loop
 loop-again c =
@@ -42,9 +33,6 @@ returns c =
     let turn = tested .before .before in
     count-single (turn .before .loop .inv) (turn .loop-test .taken) (c .if2 .taken) (sym (tested .is-separator .ensures) ∙ other .if1 .left)
 
-shared-slice-read-is-digit : tie.Need-shared-slice-read-is-digit Inv-loop μ-loop
-shared-slice-read-is-digit c = omega arith
-
 is-digit-requires : tie.Need-is-digit-requires Inv-loop μ-loop
 is-digit-requires c κs = tt
 
@@ -57,9 +45,6 @@ returns-2 c =
     let turn = tested .before .before in
     count-first (turn .before .loop .inv) (two .if2 .left) (sym (tested .is-separator .ensures) ∙ other .if1 .left)
     (sym (high .is-digit .ensures) ∙ not-true _ (c .if3 .taken))
-
-shared-slice-read-is-digit-2 : tie.Need-shared-slice-read-is-digit-2 Inv-loop μ-loop
-shared-slice-read-is-digit-2 c = omega arith
 
 is-digit-requires-2 : tie.Need-is-digit-requires-2 Inv-loop μ-loop
 is-digit-requires-2 c κs = tt
@@ -74,15 +59,6 @@ returns-3 c =
     let turn = tested .before .before in
     count-second (turn .before .loop .inv) (two .if2 .left) (sym (tested .is-separator .ensures) ∙ other .if1 .left)
     (sym (high .before .is-digit .ensures) ∙ not-false _ (high .if3 .left)) (sym (low .is-digit2 .ensures) ∙ not-true _ (c .if4 .taken))
-
-add-i : tie.Need-add-i Inv-loop μ-loop
-add-i c = omega arith
-
-add-n : tie.Need-add-n Inv-loop μ-loop
-add-n c = omega arith
-
-loop-less-2 : tie.Need-loop-less-2 Inv-loop μ-loop
-loop-less-2 c = omega arith
 
 loop-again-2 : tie.Need-loop-again-2 Inv-loop μ-loop
 loop-again-2 c =
@@ -105,20 +81,20 @@ count-spec =
     Inv-loop
     μ-loop
     loop-holds
-    add-next
-    shared-slice-read-is-separator
+    (λ c. omega arith)
+    (λ c. omega arith)
     is-separator-requires
-    loop-less
+    (λ c. omega arith)
     loop-again
     returns
-    shared-slice-read-is-digit
+    (λ c. omega arith)
     is-digit-requires
     returns-2
-    shared-slice-read-is-digit-2
+    (λ c. omega arith)
     is-digit-requires-2
     returns-3
-    add-i
-    add-n
-    loop-less-2
+    (λ c. omega arith)
+    (λ c. omega arith)
+    (λ c. omega arith)
     loop-again-2
     returns-4)

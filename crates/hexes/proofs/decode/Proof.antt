@@ -5,20 +5,11 @@ use Rattle.hexes.specs.DecodingLaws.{no-hex, no-room, read-in}
 use Rattle.hexes.proofs.decode.Statement.{statement}
 use Rattle.hexes.proofs.decode.Tie as tie
 
-count-requires : tie.Need-count-requires
-count-requires c κs = search needs
-
 returns : tie.Need-returns
 returns c = no-hex (c .before .count .ensures) (c .if1 .taken)
 
 returns-2 : tie.Need-returns-2
 returns-2 c = no-room (c .before .before .count .ensures) (omega arith)
-
-lay-requires : tie.Need-lay-requires
-lay-requires c κs = search needs
-
-same-length : tie.Need-same-length
-same-length c = search needs
 
 returns-3 : tie.Need-returns-3
 returns-3 c =
@@ -27,4 +18,4 @@ returns-3 c =
     read-in (fits .before .before .count .ensures) (fits .before .if1 .left) (fits .if2 .left) (laid .lay .ensures)
 
 pub decode-spec : {M : Type 1} → statement M
-decode-spec = tie.close (tie.spec count-requires returns returns-2 lay-requires same-length returns-3)
+decode-spec = tie.close (tie.spec (λ c κs. search needs) returns returns-2 (λ c κs. search needs) (λ c. search needs) returns-3)

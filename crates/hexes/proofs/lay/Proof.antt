@@ -18,17 +18,8 @@ abbrev μ-loop : tie.MeasureT-loop
 loop-holds : tie.Need-loop-holds Inv-loop μ-loop
 loop-holds c = let s = c .before .before in (refl, lay-start (s .pre .0) (s .pre .1))
 
-add-next : tie.Need-add-next Inv-loop μ-loop
-add-next c = omega arith
-
-shared-slice-read-is-separator : tie.Need-shared-slice-read-is-separator Inv-loop μ-loop
-shared-slice-read-is-separator c = omega arith
-
 is-separator-requires : tie.Need-is-separator-requires Inv-loop μ-loop
 is-separator-requires c κs = tt
-
-loop-less : tie.Need-loop-less Inv-loop μ-loop
-loop-less c = omega arith
 
 loop-again : tie.Need-loop-again Inv-loop μ-loop
 loop-again c =
@@ -48,9 +39,6 @@ pair c =
     let turn = tested .before .before in
     lay-digits (turn .before .loop .inv .1) (turn .loop-test .taken) (sym (tested .is-separator .ensures) ∙ c .if1 .left)
 
-shared-slice-read-value : tie.Need-shared-slice-read-value Inv-loop μ-loop
-shared-slice-read-value c = omega arith
-
 value-requires : tie.Need-value-requires Inv-loop μ-loop
 value-requires c κs = pair (c .before) .high
 
@@ -59,12 +47,6 @@ shared-slice-read-value-2 c = pair (c .before .before .before) .both
 
 value-requires-2 : tie.Need-value-requires-2 Inv-loop μ-loop
 value-requires-2 c κs = pair (c .before .before .before) .low
-
-mul-out : tie.Need-mul-out Inv-loop μ-loop
-mul-out c = omega arith
-
-add-out : tie.Need-add-out Inv-loop μ-loop
-add-out c = omega arith
 
 slice-write-out : tie.Need-slice-write-out Inv-loop μ-loop
 slice-write-out c = let p = pair (c .before .before .before .before) in omega arith
@@ -87,9 +69,6 @@ loop-again-2 c =
     let low = c .value2 .ensures .0 in
     (simp length-set (inv .0), rw (high, low) (lay-pair (inv .1) (pair other) (sym (tested .is-separator .ensures) ∙ other .if1 .left)))
 
-same-length : tie.Need-same-length Inv-loop μ-loop
-same-length c = search needs
-
 returns : tie.Need-returns Inv-loop μ-loop
 returns c = lay-done (c .before .loop .inv .1) (c .loop-test .left)
 
@@ -100,21 +79,21 @@ lay-spec =
     Inv-loop
     μ-loop
     loop-holds
-    add-next
-    shared-slice-read-is-separator
+    (λ c. omega arith)
+    (λ c. omega arith)
     is-separator-requires
-    loop-less
+    (λ c. omega arith)
     loop-again
-    shared-slice-read-value
+    (λ c. omega arith)
     value-requires
     shared-slice-read-value-2
     value-requires-2
-    mul-out
-    add-out
+    (λ c. omega arith)
+    (λ c. omega arith)
     slice-write-out
     add-at
     add-n
     loop-less-2
     loop-again-2
-    same-length
+    (λ c. search needs)
     returns)

@@ -13,16 +13,10 @@ returns c =
     let e = value-decimal (c .before .args .x) (c .if1 .taken) in
     by-digit (c .before .args .x) (c .before .pre) (λ h k. (omega arith, omega arith)) (λ h k. absurd (omega arith)) (λ h k. absurd (omega arith))
 
-add-result : tie.Need-add-result
-add-result c = search needs
-
 returns-2 : tie.Need-returns-2
 returns-2 c =
     let e = value-upper (c .before .before .args .x) (c .before .if1 .left) (c .if2 .taken) in
     by-digit (c .before .before .args .x) (c .before .before .pre) (λ h k. absurd (omega arith)) (λ h k. (omega arith, omega arith)) (λ h k. absurd (omega arith))
-
-add-result-2 : tie.Need-add-result-2
-add-result-2 c = search needs
 
 returns-3 : tie.Need-returns-3
 returns-3 c =
@@ -30,4 +24,4 @@ returns-3 c =
     by-digit (c .before .before .args .x) (c .before .before .pre) (λ h k. absurd (omega arith)) (λ h k. absurd (omega arith)) (λ h k. (omega arith, omega arith))
 
 pub value-spec : {M : Type 1} → statement M
-value-spec = tie.close (tie.spec sub-result returns add-result returns-2 add-result-2 returns-3)
+value-spec = tie.close (tie.spec sub-result returns (λ c. search needs) returns-2 (λ c. search needs) returns-3)

@@ -4,18 +4,6 @@ use Rattle.ips.specs.Writes.{digit-low, digit-high}
 use Rattle.ips.proofs.digit_of.Statement.{statement}
 use Rattle.ips.proofs.digit_of.Tie as tie
 
-add-result : tie.Need-add-result
-add-result c = search needs
-
-cast-result : tie.Need-cast-result
-cast-result c = search needs
-
-add-result-2 : tie.Need-add-result-2
-add-result-2 c = search needs
-
-cast-result-2 : tie.Need-cast-result-2
-cast-result-2 c = search needs
-
 returns : tie.Need-returns
 returns c = search (needs, digit-low)
 
@@ -23,4 +11,4 @@ returns-2 : tie.Need-returns-2
 returns-2 c = search (needs, digit-high)
 
 pub digit-of-spec : {M : Type 1} → statement M
-digit-of-spec = tie.close (tie.spec add-result cast-result add-result-2 cast-result-2 returns returns-2)
+digit-of-spec = tie.close (tie.spec (λ c. search needs) (λ c. search needs) (λ c. search needs) (λ c. search needs) returns returns-2)

@@ -10,12 +10,6 @@ use Rattle.ips.proofs.is_mapped.Tie as tie
 slice-aggregate-zeros : tie.Need-slice-aggregate-zeros
 slice-aggregate-zeros c = sym (length-take-le 10 (c .before .before .args .a .now) (omega arith))
 
-zeros-requires : tie.Need-zeros-requires
-zeros-requires c κs = search needs
-
-get16-requires : tie.Need-get16-requires
-get16-requires c κs = search needs
-
 returns : tie.Need-returns
 returns c =
     let z = c .before .before in
@@ -27,4 +21,4 @@ returns-2 c =
     not-mapped (z .before .before .before .args .a .now) (z .zeros .result) (z .zeros .ensures) (c .if1 .left)
 
 pub is-mapped-spec : {M : Type 1} → statement M
-is-mapped-spec = tie.close (tie.spec slice-aggregate-zeros zeros-requires get16-requires returns returns-2)
+is-mapped-spec = tie.close (tie.spec slice-aggregate-zeros (λ c κs. search needs) (λ c κs. search needs) returns returns-2)

@@ -10,20 +10,11 @@ use Rattle.ips.proofs.put4.Tie as tie
 abbrev first : tie.After-put-decimal → tie.Start
 first p = p .before .before .before .before .before
 
-shared-slice-read-put-decimal : tie.Need-shared-slice-read-put-decimal
-shared-slice-read-put-decimal c = search needs
-
 put-decimal-requires : tie.Need-put-decimal-requires
 put-decimal-requires c κs = let s = c .before .before .before .before in omega (arith, four-length (s .args .a .now) (s .pre .0))
 
-shared-slice-read-put-dotted : tie.Need-shared-slice-read-put-dotted
-shared-slice-read-put-dotted c = search needs
-
 put-dotted-requires : tie.Need-put-dotted-requires
 put-dotted-requires c κs = let s = first (c .before .before .before .before) in omega (arith, four-length (s .args .a .now) (s .pre .0))
-
-shared-slice-read-put-dotted-2 : tie.Need-shared-slice-read-put-dotted-2
-shared-slice-read-put-dotted-2 c = search needs
 
 put-dotted-requires-2 : tie.Need-put-dotted-requires-2
 put-dotted-requires-2 c κs =
@@ -31,18 +22,12 @@ put-dotted-requires-2 c κs =
     let s = first (q .before .before .before .before .before) in
     omega (arith, four-length (s .args .a .now) (s .pre .0))
 
-shared-slice-read-put-dotted-3 : tie.Need-shared-slice-read-put-dotted-3
-shared-slice-read-put-dotted-3 c = search needs
-
 put-dotted-requires-3 : tie.Need-put-dotted-requires-3
 put-dotted-requires-3 c κs =
     let r = c .before .before .before .before in
     let q = r .before .before .before .before .before in
     let s = first (q .before .before .before .before .before) in
     omega (arith, four-length (s .args .a .now) (s .pre .0))
-
-same-length : tie.Need-same-length
-same-length c = search needs
 
 returns : tie.Need-returns
 returns c =
@@ -57,13 +42,13 @@ pub put4-spec : {M : Type 1} → statement M
 put4-spec =
     tie.close
     (tie.spec
-    shared-slice-read-put-decimal
+    (λ c. search needs)
     put-decimal-requires
-    shared-slice-read-put-dotted
+    (λ c. search needs)
     put-dotted-requires
-    shared-slice-read-put-dotted-2
+    (λ c. search needs)
     put-dotted-requires-2
-    shared-slice-read-put-dotted-3
+    (λ c. search needs)
     put-dotted-requires-3
-    same-length
+    (λ c. search needs)
     returns)

@@ -4,18 +4,12 @@ use Rattle.ips.specs.Writes.{text6-mixed, text6-fields}
 use Rattle.ips.proofs.put6.Statement.{statement}
 use Rattle.ips.proofs.put6.Tie as tie
 
-is-mapped-requires : tie.Need-is-mapped-requires
-is-mapped-requires c κs = search needs
-
 put-mixed-requires : tie.Need-put-mixed-requires
 put-mixed-requires c κs =
     let t = c .before in
     let m = t .before in
     let s = m .before .before .before in
     (s .pre .0, rw (text6-mixed (s .args .a .now) (m .is-mapped .result) (m .is-mapped .ensures) (t .if1 .taken)) at (s .pre .1))
-
-same-length : tie.Need-same-length
-same-length c = search needs
 
 returns : tie.Need-returns
 returns c =
@@ -32,9 +26,6 @@ put-shortened-requires c κs =
     let s = m .before .before .before in
     (s .pre .0, rw (text6-fields (s .args .a .now) (m .is-mapped .result) (m .is-mapped .ensures) (e .if1 .left)) at (s .pre .1))
 
-same-length-2 : tie.Need-same-length-2
-same-length-2 c = search needs
-
 returns-2 : tie.Need-returns-2
 returns-2 c =
     let p = c .before .before in
@@ -47,10 +38,10 @@ pub put6-spec : {M : Type 1} → statement M
 put6-spec =
     tie.close
     (tie.spec
-    is-mapped-requires
+    (λ c κs. search needs)
     put-mixed-requires
-    same-length
+    (λ c. search needs)
     returns
     put-shortened-requires
-    same-length-2
+    (λ c. search needs)
     returns-2)

@@ -13,15 +13,6 @@ use Rattle.ips.proofs.put_around.Tie as tie
 abbrev first : tie.After-put-fields-arg2 → tie.Start
 first c = c .before .before .before .before
 
-mul-before : tie.Need-mul-before
-mul-before c = search needs
-
-add-after : tie.Need-add-after
-add-after c = search needs
-
-mul-after : tie.Need-mul-after
-mul-after c = search needs
-
 slice-aggregate-put-fields : tie.Need-slice-aggregate-put-fields
 slice-aggregate-put-fields c = let s = first c in sym (length-take-le (2 * s .args .start) (s .args .a .now) (omega arith))
 
@@ -41,15 +32,6 @@ put-code-requires-2 c κs =
     let s = first (p .before) in
     omega (arith, around-length (s .args .a .now) (s .args .start) (s .args .count))
 
-sub-put-fields : tie.Need-sub-put-fields
-sub-put-fields c = search needs
-
-part-put-fields-start : tie.Need-part-put-fields-start
-part-put-fields-start c = search needs
-
-part-put-fields-end : tie.Need-part-put-fields-end
-part-put-fields-end c = search needs
-
 put-fields-requires-2 : tie.Need-put-fields-requires-2
 put-fields-requires-2 c κs =
     let r = c .before .before .before .before in
@@ -58,9 +40,6 @@ put-fields-requires-2 c κs =
     let s = first (p .before) in
     let size = around-length (s .args .a .now) (s .args .start) (s .args .count) in
     rw take-rest (omega arith)
-
-same-length : tie.Need-same-length
-same-length c = search needs
 
 returns : tie.Need-returns
 returns c =
@@ -76,16 +55,16 @@ pub put-around-spec : {M : Type 1} → statement M
 put-around-spec =
     tie.close
     (tie.spec
-    mul-before
-    add-after
-    mul-after
+    (λ c. search needs)
+    (λ c. search needs)
+    (λ c. search needs)
     slice-aggregate-put-fields
     put-fields-requires
     put-code-requires
     put-code-requires-2
-    sub-put-fields
-    part-put-fields-start
-    part-put-fields-end
+    (λ c. search needs)
+    (λ c. search needs)
+    (λ c. search needs)
     put-fields-requires-2
-    same-length
+    (λ c. search needs)
     returns)

@@ -6,17 +6,8 @@ use Rattle.octets.specs.OverLaws.{over-set}
 use Rattle.ips.proofs.put_code.Statement.{statement}
 use Rattle.ips.proofs.put_code.Tie as tie
 
-slice-write-out : tie.Need-slice-write-out
-slice-write-out c = search needs
-
-add-result : tie.Need-add-result
-add-result c = search needs
-
-same-length : tie.Need-same-length
-same-length c = search needs
-
 returns : tie.Need-returns
 returns c = record { room = omega arith; next = refl; laid = over-set (c .args .at) (c .args .code) (c .args .out .now) (omega arith) }
 
 pub put-code-spec : {M : Type 1} → statement M
-put-code-spec = tie.close (tie.spec slice-write-out add-result same-length returns)
+put-code-spec = tie.close (tie.spec (λ c. search needs) (λ c. search needs) (λ c. search needs) returns)

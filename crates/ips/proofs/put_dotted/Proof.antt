@@ -4,15 +4,6 @@ use Rattle.octets.specs.OverLaws.{then}
 use Rattle.ips.proofs.put_dotted.Statement.{statement}
 use Rattle.ips.proofs.put_dotted.Tie as tie
 
-put-code-requires : tie.Need-put-code-requires
-put-code-requires c κs = search needs
-
-put-decimal-requires : tie.Need-put-decimal-requires
-put-decimal-requires c κs = search needs
-
-same-length : tie.Need-same-length
-same-length c = search needs
-
 returns : tie.Need-returns
 returns c =
     let h = c .before .before in
@@ -20,4 +11,4 @@ returns c =
     then (p .put-code .ensures) (h .put-decimal .ensures)
 
 pub put-dotted-spec : {M : Type 1} → statement M
-put-dotted-spec = tie.close (tie.spec put-code-requires put-decimal-requires same-length returns)
+put-dotted-spec = tie.close (tie.spec (λ c κs. search needs) (λ c κs. search needs) (λ c. search needs) returns)

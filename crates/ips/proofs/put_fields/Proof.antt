@@ -12,24 +12,12 @@ returns c =
     let s = c .before .before .before in
     rw (no-colons (s .args .s .now) (c .if1 .taken)) (wrote-none (omega arith))
 
-get16-requires : tie.Need-get16-requires
-get16-requires c κs = search needs
-
 put-hex-requires : tie.Need-put-hex-requires
 put-hex-requires c κs =
     let e = c .before .before in
     let s = e .before .before .before in
     let size = some-length (s .args .s .now) (c .get16 .result) (e .if1 .left) (c .get16 .ensures .0) in
     (omega arith, omega arith)
-
-sub-put-led : tie.Need-sub-put-led
-sub-put-led c = search needs
-
-part-put-led-start : tie.Need-part-put-led-start
-part-put-led-start c = search needs
-
-part-put-led-end : tie.Need-part-put-led-end
-part-put-led-end c = search needs
 
 put-led-requires : tie.Need-put-led-requires
 put-led-requires c κs =
@@ -39,9 +27,6 @@ put-led-requires c κs =
     let s = e .before .before .before in
     let size = some-length (s .args .s .now) (g .get16 .result) (e .if1 .left) (g .get16 .ensures .0) in
     rw (take-rest 2 (s .args .s .now)) (omega arith)
-
-same-length : tie.Need-same-length
-same-length c = search needs
 
 returns-2 : tie.Need-returns-2
 returns-2 c =
@@ -57,11 +42,11 @@ put-fields-spec =
     tie.close
     (tie.spec
     returns
-    get16-requires
+    (λ c κs. search needs)
     put-hex-requires
-    sub-put-led
-    part-put-led-start
-    part-put-led-end
+    (λ c. search needs)
+    (λ c. search needs)
+    (λ c. search needs)
     put-led-requires
-    same-length
+    (λ c. search needs)
     returns-2)

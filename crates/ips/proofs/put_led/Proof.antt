@@ -21,23 +21,11 @@ abbrev μ-loop : tie.MeasureT-loop
 loop-holds : tie.Need-loop-holds Inv-loop μ-loop
 loop-holds c = (omega arith, refl, wrote-none (omega arith))
 
-mul-get16 : tie.Need-mul-get16 Inv-loop μ-loop
-mul-get16 c = omega arith
-
-get16-requires : tie.Need-get16-requires Inv-loop μ-loop
-get16-requires c κs = omega arith
-
 put-next-requires : tie.Need-put-next-requires Inv-loop μ-loop
 put-next-requires c κs =
     let l = c .before .before .before in
     let room = led-room (l .before .before .before .args .s .now) (l .loop .k) (omega arith) (c .get16 .result) (c .get16 .ensures .0) in
     (omega arith, omega arith)
-
-add-k : tie.Need-add-k Inv-loop μ-loop
-add-k c = omega arith
-
-loop-less : tie.Need-loop-less Inv-loop μ-loop
-loop-less c = omega arith
 
 loop-again : tie.Need-loop-again Inv-loop μ-loop
 loop-again c =
@@ -45,9 +33,6 @@ loop-again c =
     let g = n .before in
     let l = g .before .before .before in
     (omega arith, omega arith, wrote-next (l .before .before .before .args .s .now) (l .loop .k) (omega arith) (g .get16 .ensures .0) (l .loop .inv .2) (n .put-next .ensures))
-
-same-length : tie.Need-same-length Inv-loop μ-loop
-same-length c = search needs
 
 returns : tie.Need-returns Inv-loop μ-loop
 returns c =
@@ -61,11 +46,11 @@ put-led-spec =
     Inv-loop
     μ-loop
     loop-holds
-    mul-get16
-    get16-requires
+    (λ c. omega arith)
+    (λ c κs. omega arith)
     put-next-requires
-    add-k
-    loop-less
+    (λ c. omega arith)
+    (λ c. omega arith)
     loop-again
-    same-length
+    (λ c. search needs)
     returns)

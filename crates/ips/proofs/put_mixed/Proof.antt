@@ -12,20 +12,8 @@ use Rattle.ips.proofs.put_mixed.Tie as tie
 abbrev first : tie.After-copy → tie.Start
 first p = p .before .before .before .before .before
 
-slice-aggregate-copy : tie.Need-slice-aggregate-copy
-slice-aggregate-copy c = search needs
-
 copy-requires : tie.Need-copy-requires
 copy-requires c κs = let s = c .before .before .before .before in omega (arith, mixed-length (s .args .a .now))
-
-sub-put4 : tie.Need-sub-put4
-sub-put4 c = search needs
-
-part-put4-start : tie.Need-part-put4-start
-part-put4-start c = search needs
-
-part-put4-end : tie.Need-part-put4-end
-part-put4-end c = search needs
 
 put4-requires : tie.Need-put4-requires
 put4-requires c κs =
@@ -34,9 +22,6 @@ put4-requires c κs =
     let four : length (drop 12 (s .args .a .now)) ≡ 4 = omega (arith, length-drop 12 (s .args .a .now)) in
     let size = mixed-length (s .args .a .now) in
     rw (take-rest 12 (s .args .a .now)) (four, omega arith)
-
-same-length : tie.Need-same-length
-same-length c = search needs
 
 returns : tie.Need-returns
 returns c =
@@ -49,11 +34,11 @@ pub put-mixed-spec : {M : Type 1} → statement M
 put-mixed-spec =
     tie.close
     (tie.spec
-    slice-aggregate-copy
+    (λ c. search needs)
     copy-requires
-    sub-put4
-    part-put4-start
-    part-put4-end
+    (λ c. search needs)
+    (λ c. search needs)
+    (λ c. search needs)
     put4-requires
-    same-length
+    (λ c. search needs)
     returns)

@@ -4,15 +4,6 @@ use Rattle.octets.specs.OverLaws.{then}
 use Rattle.ips.proofs.put_next.Statement.{statement}
 use Rattle.ips.proofs.put_next.Tie as tie
 
-put-code-requires : tie.Need-put-code-requires
-put-code-requires c κs = search needs
-
-put-hex-requires : tie.Need-put-hex-requires
-put-hex-requires c κs = search needs
-
-same-length : tie.Need-same-length
-same-length c = search needs
-
 returns : tie.Need-returns
 returns c =
     let h = c .before .before in
@@ -20,4 +11,4 @@ returns c =
     then (p .put-code .ensures) (h .put-hex .ensures)
 
 pub put-next-spec : {M : Type 1} → statement M
-put-next-spec = tie.close (tie.spec put-code-requires put-hex-requires same-length returns)
+put-next-spec = tie.close (tie.spec (λ c κs. search needs) (λ c κs. search needs) (λ c. search needs) returns)

@@ -21,17 +21,11 @@ whole c e = shortened-whole (fieldsOf (octets c)) (c .run-in .result) (c .run-in
 part : (c : tie.After-run-in) → (c .run-in .result .count ≡ 0 → ⊥) → shortened (runOf (fieldsOf (octets c))) (fieldsOf (octets c)) ≡ around (c .run-in .result) (fieldsOf (octets c))
 part c h = shortened-around (fieldsOf (octets c)) (c .run-in .result) (c .run-in .ensures) h
 
-run-in-requires : tie.Need-run-in-requires
-run-in-requires c κs = search needs
-
 put-fields-requires : tie.Need-put-fields-requires
 put-fields-requires c κs =
     let t = c .before in
     let k = t .before .before in
     rw (whole k (t .if1 .taken)) at (k .before .before .before .pre .1)
-
-same-length : tie.Need-same-length
-same-length c = search needs
 
 returns : tie.Need-returns
 returns c =
@@ -48,9 +42,6 @@ put-around-requires c κs =
     let inside = within-fields (fieldsOf (octets k)) (k .run-in .result) (k .run-in .ensures) in
     ((s .pre .0, omega (arith, fields-length (octets k))), rw (part k (e .if1 .left)) at (s .pre .1))
 
-same-length-2 : tie.Need-same-length-2
-same-length-2 c = search needs
-
 returns-2 : tie.Need-returns-2
 returns-2 c =
     let p = c .before .before in
@@ -62,10 +53,10 @@ pub put-shortened-spec : {M : Type 1} → statement M
 put-shortened-spec =
     tie.close
     (tie.spec
-    run-in-requires
+    (λ c κs. search needs)
     put-fields-requires
-    same-length
+    (λ c. search needs)
     returns
     put-around-requires
-    same-length-2
+    (λ c. search needs)
     returns-2)

@@ -23,26 +23,11 @@ loop-holds : tie.Need-loop-holds Inv-loop μ-loop
 unfolding zerosAhead longestFrom
 loop-holds c = let e = no-fields (c .before .args .a .now) (c .before .pre) in (omega arith, rw e, rw e)
 
-sub-i : tie.Need-sub-i Inv-loop μ-loop
-sub-i c = omega arith
-
-mul-get16 : tie.Need-mul-get16 Inv-loop μ-loop
-mul-get16 c = omega arith
-
-get16-requires : tie.Need-get16-requires Inv-loop μ-loop
-get16-requires c κs = omega arith
-
 zeros-from-requires : tie.Need-zeros-from-requires Inv-loop μ-loop
 zeros-from-requires c κs =
     let l = c .before .before in
     let a = l .before .before .args .a .now in
     omega (arith, ahead-few (fieldsOf a) (l .loop .i), fields-length a)
-
-longer-of-requires : tie.Need-longer-of-requires Inv-loop μ-loop
-longer-of-requires c κs = search needs
-
-loop-less : tie.Need-loop-less Inv-loop μ-loop
-loop-less c = omega arith
 
 loop-again : tie.Need-loop-again Inv-loop μ-loop
 loop-again c =
@@ -56,9 +41,6 @@ loop-again c =
     let best : c .longer-of .result ≡ longestFrom (i - 1) (drop (i - 1) (fieldsOf a)) =
     c .longer-of .ensures ∙ longest-turn (fieldsOf a) (i - 1) (c .before .zeros-from .result) (l .loop .best) (omega (arith, fields-length a)) turn (rw e (l .loop .inv .2)) in
     (omega arith, turn, best)
-
-shortening-of-requires : tie.Need-shortening-of-requires Inv-loop μ-loop
-shortening-of-requires c κs = search needs
 
 returns : tie.Need-returns Inv-loop μ-loop
 unfolding runOf
@@ -74,12 +56,12 @@ run-in-spec =
     Inv-loop
     μ-loop
     loop-holds
-    sub-i
-    mul-get16
-    get16-requires
+    (λ c. omega arith)
+    (λ c. omega arith)
+    (λ c κs. omega arith)
     zeros-from-requires
-    longer-of-requires
-    loop-less
+    (λ c κs. search needs)
+    (λ c. omega arith)
     loop-again
-    shortening-of-requires
+    (λ c κs. search needs)
     returns)

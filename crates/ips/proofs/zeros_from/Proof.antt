@@ -4,9 +4,6 @@ use Rattle.ips.specs.Writes.{one-zero, no-zero}
 use Rattle.ips.proofs.zeros_from.Statement.{statement}
 use Rattle.ips.proofs.zeros_from.Tie as tie
 
-add-result : tie.Need-add-result
-add-result c = search needs
-
 returns : tie.Need-returns
 returns c = search (needs, one-zero)
 
@@ -14,4 +11,4 @@ returns-2 : tie.Need-returns-2
 returns-2 c = search (needs, no-zero)
 
 pub zeros-from-spec : {M : Type 1} → statement M
-zeros-from-spec = tie.close (tie.spec add-result returns returns-2)
+zeros-from-spec = tie.close (tie.spec (λ c. search needs) returns returns-2)

@@ -19,32 +19,8 @@ Inv-loop out₀ at w list o₀ i₀ out o i = (i ≤ length list) × (length out
 abbrev μ-loop : tie.MeasureT-loop
 μ-loop out₀ at w list o₀ i₀ out o i = length list - i
 
-least-requires : tie.Need-least-requires Inv-loop μ-loop
-least-requires c κs = search needs
-
 loop-holds : tie.Need-loop-holds Inv-loop μ-loop
 loop-holds c = (omega arith, refl, items-start _ _ _ (c .least .ensures))
-
-sub-loop : tie.Need-sub-loop Inv-loop μ-loop
-sub-loop c = omega arith
-
-add-next : tie.Need-add-next Inv-loop μ-loop
-add-next c = omega arith
-
-sub-put-address-item : tie.Need-sub-put-address-item Inv-loop μ-loop
-sub-put-address-item c = omega arith
-
-part-put-address-item-start : tie.Need-part-put-address-item-start Inv-loop μ-loop
-part-put-address-item-start c = omega arith
-
-part-put-address-item-end : tie.Need-part-put-address-item-end Inv-loop μ-loop
-part-put-address-item-end c = omega arith
-
-put-address-item-requires : tie.Need-put-address-item-requires Inv-loop μ-loop
-put-address-item-requires c κs = search needs
-
-loop-less : tie.Need-loop-less Inv-loop μ-loop
-loop-less c = omega arith
 
 loop-again : tie.Need-loop-again Inv-loop μ-loop
 loop-again c =
@@ -59,9 +35,6 @@ loop-again c =
           (w .put-address-item .ensures),
     )
 
-same-length : tie.Need-same-length Inv-loop μ-loop
-same-length c = search needs
-
 returns : tie.Need-returns Inv-loop μ-loop
 unfolding addressesOf
 returns c =
@@ -74,15 +47,15 @@ put-addresses-spec =
     (tie.spec
     Inv-loop
     μ-loop
-    least-requires
+    (λ c κs. search needs)
     loop-holds
-    sub-loop
-    add-next
-    sub-put-address-item
-    part-put-address-item-start
-    part-put-address-item-end
-    put-address-item-requires
-    loop-less
+    (λ c. omega arith)
+    (λ c. omega arith)
+    (λ c. omega arith)
+    (λ c. omega arith)
+    (λ c. omega arith)
+    (λ c κs. search needs)
+    (λ c. omega arith)
     loop-again
-    same-length
+    (λ c. search needs)
     returns)

@@ -4,22 +4,10 @@ use Rattle.chars.specs.PutsLaws.{puts-then}
 use Rattle.json.proofs.put_key_list.Statement.{statement}
 use Rattle.json.proofs.put_key_list.Tie as tie
 
-put-requires : tie.Need-put-requires
-put-requires c κs = search needs
-
-put-keys-requires : tie.Need-put-keys-requires
-put-keys-requires c κs = search needs
-
-put-requires-2 : tie.Need-put-requires-2
-put-requires-2 c κs = search needs
-
-same-length : tie.Need-same-length
-same-length c = search needs
-
 returns : tie.Need-returns
 returns c =
     puts-then (c .before .before .before .before .before .before .before .before .before .before .put .ensures .1) (puts-then (c .before .before .before .before .before .before .put-keys .ensures) (c .before .before .put2 .ensures .1))
 
 pub put-key-list-spec : {M : Type 1} → statement M
 put-key-list-spec =
-    tie.close (tie.spec put-requires put-keys-requires put-requires-2 same-length returns)
+    tie.close (tie.spec (λ c κs. search needs) (λ c κs. search needs) (λ c κs. search needs) (λ c. search needs) returns)

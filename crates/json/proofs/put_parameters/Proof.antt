@@ -20,56 +20,14 @@ Inv-loop out₀ at p o₀ i₀ out o i = (i ≤ length p) × (length out ≡ len
 abbrev μ-loop : tie.MeasureT-loop
 μ-loop out₀ at p o₀ i₀ out o i = length p - i
 
-least-requires : tie.Need-least-requires Inv-loop μ-loop
-least-requires c κs = search needs
-
 loop-holds : tie.Need-loop-holds Inv-loop μ-loop
 loop-holds c = (omega arith, refl, items-start _ _ _ (c .least .ensures))
-
-sub-loop : tie.Need-sub-loop Inv-loop μ-loop
-sub-loop c = omega arith
-
-add-start : tie.Need-add-start Inv-loop μ-loop
-add-start c = omega arith
-
-add-get16 : tie.Need-add-get16 Inv-loop μ-loop
-add-get16 c = omega arith
-
-get16-requires : tie.Need-get16-requires Inv-loop μ-loop
-get16-requires c κs = search needs
-
-sub-if1 : tie.Need-sub-if1 Inv-loop μ-loop
-sub-if1 c = omega arith
-
-same-length : tie.Need-same-length Inv-loop μ-loop
-same-length c = search needs
 
 returns : tie.Need-returns Inv-loop μ-loop
 unfolding parametersOf
 returns c =
     let l = c .before .before .before in
     items-end (l .loop .inv .2) (ap (map parameterOf) (params-cut _ (l .loop .i) (omega arith) (c .before .get16 .ensures .0) (c .if1 .taken)))
-
-add-end : tie.Need-add-end Inv-loop μ-loop
-add-end c = omega arith
-
-get16-requires-2 : tie.Need-get16-requires-2 Inv-loop μ-loop
-get16-requires-2 c κs = search needs
-
-sub-put-parameter : tie.Need-sub-put-parameter Inv-loop μ-loop
-sub-put-parameter c = omega arith
-
-part-put-parameter-start : tie.Need-part-put-parameter-start Inv-loop μ-loop
-part-put-parameter-start c = omega arith
-
-part-put-parameter-end : tie.Need-part-put-parameter-end Inv-loop μ-loop
-part-put-parameter-end c = omega arith
-
-put-parameter-requires : tie.Need-put-parameter-requires Inv-loop μ-loop
-put-parameter-requires c κs = search needs
-
-loop-less : tie.Need-loop-less Inv-loop μ-loop
-loop-less c = omega arith
 
 loop-again : tie.Need-loop-again Inv-loop μ-loop
 loop-again c =
@@ -84,9 +42,6 @@ loop-again c =
           (w .put-parameter .ensures),
     )
 
-same-length-2 : tie.Need-same-length-2 Inv-loop μ-loop
-same-length-2 c = search needs
-
 returns-2 : tie.Need-returns-2 Inv-loop μ-loop
 unfolding parametersOf
 returns-2 c =
@@ -99,22 +54,22 @@ put-parameters-spec =
     (tie.spec
     Inv-loop
     μ-loop
-    least-requires
+    (λ c κs. search needs)
     loop-holds
-    sub-loop
-    add-start
-    add-get16
-    get16-requires
-    sub-if1
-    same-length
+    (λ c. omega arith)
+    (λ c. omega arith)
+    (λ c. omega arith)
+    (λ c κs. search needs)
+    (λ c. omega arith)
+    (λ c. search needs)
     returns
-    add-end
-    get16-requires-2
-    sub-put-parameter
-    part-put-parameter-start
-    part-put-parameter-end
-    put-parameter-requires
-    loop-less
+    (λ c. omega arith)
+    (λ c κs. search needs)
+    (λ c. omega arith)
+    (λ c. omega arith)
+    (λ c. omega arith)
+    (λ c κs. search needs)
+    (λ c. omega arith)
     loop-again
-    same-length-2
+    (λ c. search needs)
     returns-2)

@@ -4,22 +4,10 @@ use Rattle.chars.specs.PutsLaws.{puts-then}
 use Rattle.json.proofs.put_protocol_list.Statement.{statement}
 use Rattle.json.proofs.put_protocol_list.Tie as tie
 
-put-requires : tie.Need-put-requires
-put-requires c κs = search needs
-
-put-protocols-requires : tie.Need-put-protocols-requires
-put-protocols-requires c κs = search needs
-
-put-requires-2 : tie.Need-put-requires-2
-put-requires-2 c κs = search needs
-
-same-length : tie.Need-same-length
-same-length c = search needs
-
 returns : tie.Need-returns
 returns c =
     puts-then (c .before .before .before .before .before .before .before .before .before .before .put .ensures .1) (puts-then (c .before .before .before .before .before .before .put-protocols .ensures) (c .before .before .put2 .ensures .1))
 
 pub put-protocol-list-spec : {M : Type 1} → statement M
 put-protocol-list-spec =
-    tie.close (tie.spec put-requires put-protocols-requires put-requires-2 same-length returns)
+    tie.close (tie.spec (λ c κs. search needs) (λ c κs. search needs) (λ c κs. search needs) (λ c. search needs) returns)

@@ -19,26 +19,14 @@ Inv-loop out₀ at c s o₀ i₀ out o i = (7 ≤ i) × (length out ≡ length o
 abbrev μ-loop : tie.MeasureT-loop
 μ-loop out₀ at c s o₀ i₀ out o i = length s - i
 
-least-requires : tie.Need-least-requires Inv-loop μ-loop
-least-requires c κs = search needs
-
 loop-holds : tie.Need-loop-holds Inv-loop μ-loop
 loop-holds c = (omega arith, refl, records-start (c .least .ensures))
-
-record-at-requires : tie.Need-record-at-requires Inv-loop μ-loop
-record-at-requires c κs = search needs
-
-same-length : tie.Need-same-length Inv-loop μ-loop
-same-length c = search needs
 
 returns : tie.Need-returns Inv-loop μ-loop
 returns c =
     let r = c .before .before in
     let l = r .before .before in
     λ rs h. absurd (records-good (l .loop .inv .2 rs h) (r .record-at .ensures .0) (r .before .loop-test .taken) (c .if1 .taken))
-
-put-comma-requires : tie.Need-put-comma-requires Inv-loop μ-loop
-put-comma-requires c κs = search needs
 
 put-record-requires : tie.Need-put-record-requires Inv-loop μ-loop
 put-record-requires c κs = let r = c .before .before .before .before .before .before .before .record-at .ensures .1 in ((r .0 .name, omega (arith, r .1 .nlen)), (r .0 .addresses, r .0 .parameters))
@@ -61,9 +49,6 @@ loop-again c =
       λ rs h. records-next (l .loop .inv .2 rs h) (r .record-at .ensures .0) (r .before .loop-test .taken) (omega arith) (puts-then (m .put-comma .ensures) (w .put-record .ensures)),
     )
 
-same-length-2 : tie.Need-same-length-2 Inv-loop μ-loop
-same-length-2 c = search needs
-
 returns-2 : tie.Need-returns-2 Inv-loop μ-loop
 returns-2 c =
     let l = c .before in
@@ -75,14 +60,14 @@ put-records-spec =
     (tie.spec
     Inv-loop
     μ-loop
-    least-requires
+    (λ c κs. search needs)
     loop-holds
-    record-at-requires
-    same-length
+    (λ c κs. search needs)
+    (λ c. search needs)
     returns
-    put-comma-requires
+    (λ c κs. search needs)
     put-record-requires
     loop-less
     loop-again
-    same-length-2
+    (λ c. search needs)
     returns-2)

@@ -5,24 +5,6 @@ use Rattle.judge.specs.Outcomes.{name-written, name-text, name-wire}
 use Rattle.judge.proofs.check_name.Statement.{statement}
 use Rattle.judge.proofs.check_name.Tie as tie
 
-enum-told : tie.Need-enum-told
-enum-told c = search needs
-
-check-wire-requires : tie.Need-check-wire-requires
-check-wire-requires c κs = search needs
-
-enum-told-2 : tie.Need-enum-told-2
-enum-told-2 c = search needs
-
-as-text-requires : tie.Need-as-text-requires
-as-text-requires c κs = search needs
-
-check-text-requires : tie.Need-check-text-requires
-check-text-requires c κs = search needs
-
-check-wire-requires-2 : tie.Need-check-wire-requires-2
-check-wire-requires-2 c κs = search needs
-
 returns : tie.Need-returns
 returns c = name-written _ _ _ _ (c .before .enum-told .given .1) (c .check-wire .ensures .0)
 
@@ -36,12 +18,12 @@ pub check-name-spec : {M : Type 1} → statement M
 check-name-spec =
     tie.close
     (tie.spec
-    enum-told
-    check-wire-requires
-    enum-told-2
-    as-text-requires
-    check-text-requires
-    check-wire-requires-2
+    (λ c. search needs)
+    (λ c κs. search needs)
+    (λ c. search needs)
+    (λ c κs. search needs)
+    (λ c κs. search needs)
+    (λ c κs. search needs)
     returns
     returns-2
     returns-3)

@@ -9,23 +9,8 @@ use Rattle.judge.proofs.judge_fields.Tie as tie
 returns : tie.Need-returns
 returns c = judged-priority _ _ _ _ _ _ _ (c .if1 .taken)
 
-check-name-requires : tie.Need-check-name-requires
-check-name-requires c κs = search needs
-
-enum-known-place : tie.Need-enum-known-place
-enum-known-place c = search needs
-
-enum-told : tie.Need-enum-told
-enum-told c = search needs
-
-address-width-requires : tie.Need-address-width-requires
-address-width-requires c κs = search needs
-
 tail-fault-requires : tie.Need-tail-fault-requires
 tail-fault-requires c κs = rw (c .address-width .ensures) (carrier-width (c .before .before .before .before .before .before .before .before .before .args .c))
-
-name-only-fault-requires : tie.Need-name-only-fault-requires
-name-only-fault-requires c κs = search needs
 
 returns-2 : tie.Need-returns-2
 returns-2 c = let k = c .before .before .before in judged-name _ _ _ _ _ _ _ (k .before .if1 .left) _ (sym (c .before .place .given .1) ∙ k .check-name .ensures)
@@ -41,12 +26,12 @@ judge-fields-spec =
     tie.close
     (tie.spec
     returns
-    check-name-requires
-    enum-known-place
-    enum-told
-    address-width-requires
+    (λ c κs. search needs)
+    (λ c. search needs)
+    (λ c. search needs)
+    (λ c κs. search needs)
     tail-fault-requires
-    name-only-fault-requires
+    (λ c κs. search needs)
     returns-2
     returns-3
     returns-4)

@@ -4,18 +4,6 @@ use Rattle.judge.specs.Outcomes.{refused-reading, refused-writing}
 use Rattle.judge.proofs.refused.Statement.{statement}
 use Rattle.judge.proofs.refused.Tie as tie
 
-enum-told : tie.Need-enum-told
-enum-told c = search needs
-
-none-kept-requires : tie.Need-none-kept-requires
-none-kept-requires c κs = search needs
-
-enum-told-2 : tie.Need-enum-told-2
-enum-told-2 c = search needs
-
-any-unusable-requires : tie.Need-any-unusable-requires
-any-unusable-requires c κs = search needs
-
 returns : tie.Need-returns
 returns c = refused-reading _ _ _ _ (c .before .enum-told .given .1) (c .none-kept .ensures)
 
@@ -25,4 +13,4 @@ returns-2 c = refused-writing _ _ _ _ (c .before .enum-told2 .given .1) (c .any-
 pub refused-spec : {M : Type 1} → statement M
 refused-spec =
     tie.close
-    (tie.spec enum-told none-kept-requires enum-told-2 any-unusable-requires returns returns-2)
+    (tie.spec (λ c. search needs) (λ c κs. search needs) (λ c. search needs) (λ c κs. search needs) returns returns-2)

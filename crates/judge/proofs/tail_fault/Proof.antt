@@ -7,14 +7,8 @@ use Rattle.judge.proofs.tail_fault.Tie as tie
 returns : tie.Need-returns
 returns c = tail-none _ _ _ _ (c .if1 .taken)
 
-rem-if2 : tie.Need-rem-if2
-rem-if2 c = search needs
-
 returns-2 : tie.Need-returns-2
 returns-2 c = tail-odd _ _ _ _ (c .before .if1 .left) (c .if2 .taken)
-
-div-if3 : tie.Need-div-if3
-div-if3 c = search needs
 
 returns-3 : tie.Need-returns-3
 returns-3 c = tail-many _ _ _ _ (c .before .before .if1 .left) (c .before .if2 .left) (c .if3 .taken)
@@ -22,14 +16,8 @@ returns-3 c = tail-many _ _ _ _ (c .before .before .if1 .left) (c .before .if2 .
 returns-4 : tie.Need-returns-4
 returns-4 c = tail-long _ _ _ _ (c .before .before .before .if1 .left) (c .before .before .if2 .left) (c .before .if3 .left) (c .if4 .taken)
 
-refused-requires : tie.Need-refused-requires
-refused-requires c κs = search needs
-
 returns-5 : tie.Need-returns-5
 returns-5 c = let k = c .before .before in tail-dropped _ _ _ _ (k .before .before .before .if1 .left) (k .before .before .if2 .left) (k .before .if3 .left) (k .if4 .left) _ (c .before .refused .ensures) (c .if5 .taken)
-
-params-fault-requires : tie.Need-params-fault-requires
-params-fault-requires c κs = search needs
 
 returns-6 : tie.Need-returns-6
 returns-6 c = let k = c .before .before .before in tail-parameters _ _ _ _ (k .before .before .before .if1 .left) (k .before .before .if2 .left) (k .before .if3 .left) (k .if4 .left) _ (c .before .before .refused .ensures) _ (c .before .if5 .left) (c .params-fault .ensures)
@@ -39,12 +27,12 @@ tail-fault-spec =
     tie.close
     (tie.spec
     returns
-    rem-if2
+    (λ c. search needs)
     returns-2
-    div-if3
+    (λ c. search needs)
     returns-3
     returns-4
-    refused-requires
+    (λ c κs. search needs)
     returns-5
-    params-fault-requires
+    (λ c κs. search needs)
     returns-6)

@@ -5,12 +5,6 @@ use Rattle.layouts.specs.LayoutsLaws.{header-small}
 use Rattle.layouts.proofs.option_size.Statement.{statement}
 use Rattle.layouts.proofs.option_size.Tie as tie
 
-header-size-requires : tie.Need-header-size-requires
-header-size-requires c κs = search needs
-
-body-size-requires : tie.Need-body-size-requires
-body-size-requires c κs = search needs
-
 add-result : tie.Need-add-result
 add-result c = omega (arith, header-small (c .before .before .args .c))
 
@@ -21,7 +15,7 @@ pub option-size-spec : {M : Type 1} → statement M
 option-size-spec =
     tie.close
     (tie.spec
-    header-size-requires
-    body-size-requires
+    (λ c κs. search needs)
+    (λ c κs. search needs)
     add-result
     returns)

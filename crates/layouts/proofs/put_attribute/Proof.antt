@@ -42,9 +42,6 @@ before-addresses c = c .before .before .before .before
 abbrev before-name : tie.After-to-text → tie.After-copy
 before-name c = c .before .before .before .before
 
-address-width-requires : tie.Need-address-width-requires
-address-width-requires c κs = search needs
-
 div-count : tie.Need-div-count
 div-count c = omega (arith, address-width (start c .args .c))
 
@@ -59,9 +56,6 @@ cast-put8 c =
 
 put8-requires : tie.Need-put8-requires
 put8-requires c κs = omega (arith, room (start (before-put16 (c .before .before .before))))
-
-sub-put8 : tie.Need-sub-put8
-sub-put8 c = search needs
 
 cast-put8-2 : tie.Need-cast-put8-2
 cast-put8-2 c =
@@ -99,9 +93,6 @@ copy-requires-2 c κs =
     after-text-room (written s) (s .args .c) (length (s .args .addresses .now) / k .address-width .result) (s .pre .0) (count k) (p .put16 .ensures)
     (m .put8 .ensures) (n .put82 .ensures) (a .copy .ensures) (t .to-text .ensures) (s .pre .1 .1 .1)
 
-same-length : tie.Need-same-length
-same-length c = search needs
-
 returns : tie.Need-returns
 returns c =
     let e = c .before .before in
@@ -119,16 +110,16 @@ pub put-attribute-spec : {M : Type 1} → statement M
 put-attribute-spec =
     tie.close
     (tie.spec
-    address-width-requires
+    (λ c κs. search needs)
     div-count
     put16-requires
     cast-put8
     put8-requires
-    sub-put8
+    (λ c. search needs)
     cast-put8-2
     put8-requires-2
     copy-requires
     to-text-requires
     copy-requires-2
-    same-length
+    (λ c. search needs)
     returns)

@@ -7,16 +7,10 @@ use Rattle.octets.specs.OverLaws.{then}
 use Rattle.layouts.proofs.put_counted.Statement.{statement}
 use Rattle.layouts.proofs.put_counted.Tie as tie
 
-put-number-requires : tie.Need-put-number-requires
-put-number-requires c κs = search needs
-
 copy-requires : tie.Need-copy-requires
 copy-requires c κs =
     let s = c .before .before .before .before .before .before .before in
     omega (arith, length-be (s .args .width) (length (s .args .src .now)))
-
-same-length : tie.Need-same-length
-same-length c = search needs
 
 returns : tie.Need-returns
 returns c =
@@ -27,7 +21,7 @@ pub put-counted-spec : {M : Type 1} → statement M
 put-counted-spec =
     tie.close
     (tie.spec
-    put-number-requires
+    (λ c κs. search needs)
     copy-requires
-    same-length
+    (λ c. search needs)
     returns)

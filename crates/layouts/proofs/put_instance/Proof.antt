@@ -40,9 +40,6 @@ put-body-requires c κs =
     let s = start k in
     (s .pre .0, omega (arith, instance-length (written s), body-length Dhcp4 (written s), s .pre .1, p .put16 .ensures))
 
-same-length : tie.Need-same-length
-same-length c = search needs
-
 returns : tie.Need-returns
 returns c =
     let q = c .before .before in
@@ -57,5 +54,5 @@ put-instance-spec =
     body-size-requires
     put16-requires
     put-body-requires
-    same-length
+    (λ c. search needs)
     returns)

@@ -33,9 +33,6 @@ whole c =
     let s = start k in
     named-full (s .args .c) (written s) (k .length-width .result) (s .pre .0) (k .length-width .ensures) (c .if1 .taken)
 
-length-width-requires : tie.Need-length-width-requires
-length-width-requires c κs = search needs
-
 put16-requires : tie.Need-put16-requires
 put16-requires c κs = (omega (arith, least (c .before)), start (c .before) .pre .1 .0 .priority)
 
@@ -65,9 +62,6 @@ copy-requires c κs =
     after-addresses-room (s .args .c) (written s) (k .length-width .result) (s .pre .0) (k .length-width .ensures) (t .if1 .taken)
     (p .before .before .before .before .put16 .ensures) (p .put-counted .ensures) (q .put-counted2 .ensures) (s .pre .1 .1)
 
-same-length : tie.Need-same-length
-same-length c = search needs
-
 returns : tie.Need-returns
 returns c =
     let e = c .before .before in
@@ -78,9 +72,6 @@ returns c =
     let s = start k in
     wrote-full (s .args .c) (written s) (k .length-width .result) (s .pre .0) (k .length-width .ensures) (t .if1 .taken)
     (p .before .before .before .before .put16 .ensures) (p .put-counted .ensures) (q .put-counted2 .ensures) (e .copy .ensures)
-
-same-length-2 : tie.Need-same-length-2
-same-length-2 c = search needs
 
 returns-2 : tie.Need-returns-2
 returns-2 c =
@@ -94,12 +85,12 @@ pub put-named-spec : {M : Type 1} → statement M
 put-named-spec =
     tie.close
     (tie.spec
-    length-width-requires
+    (λ c κs. search needs)
     put16-requires
     put-counted-requires
     put-counted-requires-2
     copy-requires
-    same-length
+    (λ c. search needs)
     returns
-    same-length-2
+    (λ c. search needs)
     returns-2)

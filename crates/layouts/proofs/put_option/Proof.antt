@@ -45,9 +45,6 @@ put-body-requires c κs =
     let b = layout (s .args .c) (carriedOf (s .args .c) (written s)) in
     (s .pre .1 .0, omega (arith, option-length (s .args .c) b, s .pre .1 .1, head-length (s .args .c) (k .body-size .result), p .put-header .ensures))
 
-same-length : tie.Need-same-length
-same-length c = search needs
-
 returns : tie.Need-returns
 returns c =
     let q = c .before .before in
@@ -63,5 +60,5 @@ put-option-spec =
     body-size-requires
     put-header-requires
     put-body-requires
-    same-length
+    (λ c. search needs)
     returns)

@@ -32,12 +32,6 @@ before-name c = c .before .before .before .before
 abbrev zeros-known : tie.After-put-counted → tie.After-padding-size
 zeros-known c = before-put16 (before-put32 (before-name c))
 
-unpadded-size-requires : tie.Need-unpadded-size-requires
-unpadded-size-requires c κs = search needs
-
-padding-size-requires : tie.Need-padding-size-requires
-padding-size-requires c κs = search needs
-
 put16-requires : tie.Need-put16-requires
 put16-requires c κs = let s = start (c .before) in (omega (arith, router-least (written s), s .pre .1 .1), s .pre .0 .priority)
 
@@ -87,9 +81,6 @@ put-zeros-requires c κs =
       k .padding-size .ensures .1,
     )
 
-same-length : tie.Need-same-length
-same-length c = search needs
-
 returns : tie.Need-returns
 returns c =
     let z = c .before .before in
@@ -112,9 +103,6 @@ put-zeros-requires-2 c κs =
       k .padding-size .ensures .1,
     )
 
-same-length-2 : tie.Need-same-length-2
-same-length-2 c = search needs
-
 returns-2 : tie.Need-returns-2
 returns-2 c =
     let z = c .before .before in
@@ -128,16 +116,16 @@ pub put-router-spec : {M : Type 1} → statement M
 put-router-spec =
     tie.close
     (tie.spec
-    unpadded-size-requires
-    padding-size-requires
+    (λ c κs. search needs)
+    (λ c κs. search needs)
     put16-requires
     put32-requires
     put-counted-requires
     put-counted-requires-2
     put-counted-requires-3
     put-zeros-requires
-    same-length
+    (λ c. search needs)
     returns
     put-zeros-requires-2
-    same-length-2
+    (λ c. search needs)
     returns-2)

@@ -6,17 +6,11 @@ use Rattle.layouts.specs.Writes.{take-zeros}
 use Rattle.layouts.proofs.put_zeros.Statement.{statement}
 use Rattle.layouts.proofs.put_zeros.Tie as tie
 
-array-share-prefix-padding : tie.Need-array-share-prefix-padding
-array-share-prefix-padding c = search needs
-
 slice-aggregate-copy : tie.Need-slice-aggregate-copy
 slice-aggregate-copy c = simp length-take (omega arith)
 
 copy-requires : tie.Need-copy-requires
 copy-requires c κs = simp length-take (omega arith)
-
-same-length : tie.Need-same-length
-same-length c = search needs
 
 returns : tie.Need-returns
 returns c =
@@ -27,8 +21,8 @@ pub put-zeros-spec : {M : Type 1} → statement M
 put-zeros-spec =
     tie.close
     (tie.spec
-    array-share-prefix-padding
+    (λ c. search needs)
     slice-aggregate-copy
     copy-requires
-    same-length
+    (λ c. search needs)
     returns)

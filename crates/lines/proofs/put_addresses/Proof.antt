@@ -18,29 +18,8 @@ Inv-loop out₀ at w list o₀ i₀ out o i = (i ≤ length list) × (length out
 abbrev μ-loop : tie.MeasureT-loop
 μ-loop out₀ at w list o₀ i₀ out o i = length list - i
 
-least-requires : tie.Need-least-requires Inv-loop μ-loop
-least-requires c κs = search needs
-
 loop-holds : tie.Need-loop-holds Inv-loop μ-loop
 loop-holds c = (omega arith, refl, listed-start addressLine _ (c .least .ensures))
-
-sub-loop : tie.Need-sub-loop Inv-loop μ-loop
-sub-loop c = omega arith
-
-add-next : tie.Need-add-next Inv-loop μ-loop
-add-next c = omega arith
-
-sub-put-address-line : tie.Need-sub-put-address-line Inv-loop μ-loop
-sub-put-address-line c = omega arith
-
-part-put-address-line-start : tie.Need-part-put-address-line-start Inv-loop μ-loop
-part-put-address-line-start c = omega arith
-
-part-put-address-line-end : tie.Need-part-put-address-line-end Inv-loop μ-loop
-part-put-address-line-end c = omega arith
-
-put-address-line-requires : tie.Need-put-address-line-requires Inv-loop μ-loop
-put-address-line-requires c κs = search needs
 
 loop-less : tie.Need-loop-less Inv-loop μ-loop
 loop-less c = omega (arith, wide-some (c .before .before .before .before .before .before .before .before .before .before .pre))
@@ -51,9 +30,6 @@ loop-again c =
     let l = w .before .before .before .before in
     let s = l .before .before .before .before in
     (omega arith, omega arith, listed-next addressLine (l .loop .inv .2) (address-next _ (s .args .list .now) (l .loop .i) (s .pre) (w .before .before .before .loop-test .taken)) (w .put-address-line .ensures))
-
-same-length : tie.Need-same-length Inv-loop μ-loop
-same-length c = search needs
 
 returns : tie.Need-returns Inv-loop μ-loop
 unfolding addressesOf
@@ -67,15 +43,15 @@ put-addresses-spec =
     (tie.spec
     Inv-loop
     μ-loop
-    least-requires
+    (λ c κs. search needs)
     loop-holds
-    sub-loop
-    add-next
-    sub-put-address-line
-    part-put-address-line-start
-    part-put-address-line-end
-    put-address-line-requires
+    (λ c. omega arith)
+    (λ c. omega arith)
+    (λ c. omega arith)
+    (λ c. omega arith)
+    (λ c. omega arith)
+    (λ c κs. search needs)
     loop-less
     loop-again
-    same-length
+    (λ c. search needs)
     returns)

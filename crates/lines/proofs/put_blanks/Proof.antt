@@ -17,29 +17,14 @@ Inv-loop out₀ at n o₀ k₀ out o k = (k ≤ 15) × (15 - k ≤ 15 - n) × (l
 abbrev μ-loop : tie.MeasureT-loop
 μ-loop out₀ at n o₀ k₀ out o k = k
 
-put-requires : tie.Need-put-requires Inv-loop μ-loop
-put-requires c κs = search needs
-
 loop-holds : tie.Need-loop-holds Inv-loop μ-loop
 loop-holds c = (omega arith, omega arith, omega arith, puts-none _ _ (omega (arith, puts-within (c .before .before .put .ensures .1))))
-
-put-requires-2 : tie.Need-put-requires-2 Inv-loop μ-loop
-put-requires-2 c κs = search needs
-
-sub-k : tie.Need-sub-k Inv-loop μ-loop
-sub-k c = omega arith
-
-loop-less : tie.Need-loop-less Inv-loop μ-loop
-loop-less c = omega arith
 
 loop-again : tie.Need-loop-again Inv-loop μ-loop
 loop-again c =
     let w = c .before .before in
     let l = w .before .before .before in
     (omega arith, omega arith, omega arith, puts-blank (15 - l .loop .k) (15 - (l .loop .k - 1)) (omega arith) (l .loop .inv .3) (w .put2 .ensures .1))
-
-same-length : tie.Need-same-length Inv-loop μ-loop
-same-length c = search needs
 
 returns : tie.Need-returns Inv-loop μ-loop
 returns c =
@@ -54,11 +39,11 @@ put-blanks-spec =
     (tie.spec
     Inv-loop
     μ-loop
-    put-requires
+    (λ c κs. search needs)
     loop-holds
-    put-requires-2
-    sub-k
-    loop-less
+    (λ c κs. search needs)
+    (λ c. omega arith)
+    (λ c. omega arith)
     loop-again
-    same-length
+    (λ c. search needs)
     returns)

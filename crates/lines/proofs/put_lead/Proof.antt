@@ -5,15 +5,6 @@ use Rattle.lines.specs.Lines.{leadOf}
 use Rattle.lines.proofs.put_lead.Statement.{statement}
 use Rattle.lines.proofs.put_lead.Tie as tie
 
-put-label-requires : tie.Need-put-label-requires
-put-label-requires c κs = search needs
-
-put-blanks-requires : tie.Need-put-blanks-requires
-put-blanks-requires c κs = search needs
-
-same-length : tie.Need-same-length
-same-length c = search needs
-
 returns : tie.Need-returns
 unfolding leadOf
 returns c =
@@ -21,4 +12,4 @@ returns c =
     puts-then (w .before .before .before .before .put-label .ensures) (w .put-blanks .ensures)
 
 pub put-lead-spec : {M : Type 1} → statement M
-put-lead-spec = tie.close (tie.spec put-label-requires put-blanks-requires same-length returns)
+put-lead-spec = tie.close (tie.spec (λ c κs. search needs) (λ c κs. search needs) (λ c. search needs) returns)

@@ -6,48 +6,21 @@ use Rattle.lines.specs.PartLaws.{value-keys, value-protocols, value-port
 use Rattle.lines.proofs.put_of_key.Statement.{statement}
 use Rattle.lines.proofs.put_of_key.Tie as tie
 
-put-keys-requires : tie.Need-put-keys-requires
-put-keys-requires c κs = search needs
-
-same-length : tie.Need-same-length
-same-length c = search needs
-
 returns : tie.Need-returns
 returns c =
     let w = c .before .before in
     puts-as (value-keys _ (w .before .before .if1 .taken)) (w .put-keys .ensures)
-
-put-protocols-requires : tie.Need-put-protocols-requires
-put-protocols-requires c κs = search needs
-
-same-length-2 : tie.Need-same-length-2
-same-length-2 c = search needs
 
 returns-2 : tie.Need-returns-2
 returns-2 c =
     let w = c .before .before in
     puts-as (value-protocols _ (w .before .before .if2 .taken)) (w .put-protocols .ensures)
 
-get16-requires : tie.Need-get16-requires
-get16-requires c κs = search needs
-
-put-number-requires : tie.Need-put-number-requires
-put-number-requires c κs = search needs
-
-same-length-3 : tie.Need-same-length-3
-same-length-3 c = search needs
-
 returns-3 : tie.Need-returns-3
 returns-3 c =
     let w = c .before .before in
     let t = w .before .before .before in
     puts-as (value-port _ (t .before .if3 .taken) (t .if4 .taken) (w .before .get16 .ensures .0)) (w .put-number .ensures .1)
-
-put-value-requires : tie.Need-put-value-requires
-put-value-requires c κs = search needs
-
-same-length-4 : tie.Need-same-length-4
-same-length-4 c = search needs
 
 returns-4 : tie.Need-returns-4
 returns-4 c =
@@ -61,16 +34,16 @@ pub put-of-key-spec : {M : Type 1} → statement M
 put-of-key-spec =
     tie.close
     (tie.spec
-    put-keys-requires
-    same-length
+    (λ c κs. search needs)
+    (λ c. search needs)
     returns
-    put-protocols-requires
-    same-length-2
+    (λ c κs. search needs)
+    (λ c. search needs)
     returns-2
-    get16-requires
-    put-number-requires
-    same-length-3
+    (λ c κs. search needs)
+    (λ c κs. search needs)
+    (λ c. search needs)
     returns-3
-    put-value-requires
-    same-length-4
+    (λ c κs. search needs)
+    (λ c. search needs)
     returns-4)

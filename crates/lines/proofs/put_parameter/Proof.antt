@@ -8,24 +8,6 @@ use Rattle.lines.specs.PartLaws.{parameter-bare, parameter-valued}
 use Rattle.lines.proofs.put_parameter.Statement.{statement}
 use Rattle.lines.proofs.put_parameter.Tie as tie
 
-slice-aggregate-put-key : tie.Need-slice-aggregate-put-key
-slice-aggregate-put-key c = search needs
-
-put-key-requires : tie.Need-put-key-requires
-put-key-requires c κs = search needs
-
-array-share-prefix-label : tie.Need-array-share-prefix-label
-array-share-prefix-label c = search needs
-
-slice-aggregate-put-label : tie.Need-slice-aggregate-put-label
-slice-aggregate-put-label c = search needs
-
-put-label-requires : tie.Need-put-label-requires
-put-label-requires c κs = search needs
-
-same-length : tie.Need-same-length
-same-length c = search needs
-
 returns : tie.Need-returns
 returns c =
     let w = c .before .before .before in
@@ -33,15 +15,6 @@ returns c =
     puts-as
     (ap labelOf (label-is (k .before .before .before .before .pre) refl (k .put-key .ensures .1)) ∙ parameter-bare _ _ (c .if1 .taken))
     (w .put-label .ensures)
-
-put-blanks-requires : tie.Need-put-blanks-requires
-put-blanks-requires c κs = search needs
-
-put-of-key-requires : tie.Need-put-of-key-requires
-put-of-key-requires c κs = search needs
-
-same-length-2 : tie.Need-same-length-2
-same-length-2 c = search needs
 
 returns-2 : tie.Need-returns-2
 returns-2 c =
@@ -60,14 +33,14 @@ pub put-parameter-spec : {M : Type 1} → statement M
 put-parameter-spec =
     tie.close
     (tie.spec
-    slice-aggregate-put-key
-    put-key-requires
-    array-share-prefix-label
-    slice-aggregate-put-label
-    put-label-requires
-    same-length
+    (λ c. search needs)
+    (λ c κs. search needs)
+    (λ c. search needs)
+    (λ c. search needs)
+    (λ c κs. search needs)
+    (λ c. search needs)
     returns
-    put-blanks-requires
-    put-of-key-requires
-    same-length-2
+    (λ c κs. search needs)
+    (λ c κs. search needs)
+    (λ c. search needs)
     returns-2)

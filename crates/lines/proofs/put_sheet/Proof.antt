@@ -21,17 +21,8 @@ Inv-loop out₀ at c count s o₀ i₀ out o i = (length out ≡ length out₀) 
 abbrev μ-loop : tie.MeasureT-loop
 μ-loop out₀ at c count s o₀ i₀ out o i = length s - i
 
-put-head-requires : tie.Need-put-head-requires Inv-loop μ-loop
-put-head-requires c κs = search needs
-
 loop-holds : tie.Need-loop-holds Inv-loop μ-loop
 loop-holds c = (refl, λ rs h. lined-start _ _ h (omega (arith, puts-within (c .before .before .put-head .ensures))))
-
-record-at-requires : tie.Need-record-at-requires Inv-loop μ-loop
-record-at-requires c κs = search needs
-
-same-length : tie.Need-same-length Inv-loop μ-loop
-same-length c = search needs
 
 returns : tie.Need-returns Inv-loop μ-loop
 returns c =
@@ -58,9 +49,6 @@ loop-again c =
     let l = p .before .before in
     (omega arith, λ rs h. lined-next _ _ (l .loop .inv .1 rs h) (p .record-at .ensures .0) (p .before .loop-test .taken) (w .put-record .ensures))
 
-same-length-2 : tie.Need-same-length-2 Inv-loop μ-loop
-same-length-2 c = search needs
-
 returns-2 : tie.Need-returns-2 Inv-loop μ-loop
 returns-2 c =
     let l = c .before in
@@ -72,13 +60,13 @@ put-sheet-spec =
     (tie.spec
     Inv-loop
     μ-loop
-    put-head-requires
+    (λ c κs. search needs)
     loop-holds
-    record-at-requires
-    same-length
+    (λ c κs. search needs)
+    (λ c. search needs)
     returns
     put-record-requires
     loop-less
     loop-again
-    same-length-2
+    (λ c. search needs)
     returns-2)

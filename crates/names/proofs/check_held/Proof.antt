@@ -8,11 +8,8 @@ use Rattle.names.proofs.check_held.Tie as tie
 after-letter-requires : tie.Need-after-letter-requires
 after-letter-requires c κs = search (needs, inl)
 
-name-of-requires : tie.Need-name-of-requires
-name-of-requires c κs = search needs
-
 returns : tie.Need-returns
 returns c = held-check _ (c .before .before .before .before .pre) (c .before .after-letter .ensures) (c .name-of .ensures)
 
 pub check-held-spec : {M : Type 1} → statement M
-check-held-spec = tie.close (tie.spec after-letter-requires name-of-requires returns)
+check-held-spec = tie.close (tie.spec after-letter-requires (λ c κs. search needs) returns)

@@ -11,9 +11,6 @@ use Rattle.names.specs.Right.{right}
 use Rattle.names.proofs.check_wire.Statement.{statement}
 use Rattle.names.proofs.check_wire.Tie as tie
 
-check-held-requires : tie.Need-check-held-requires
-check-held-requires c κs = search needs
-
 returns : tie.Need-returns
 returns c = (c .check-held .ensures, right _ _ (c .check-held .ensures))
 
@@ -33,7 +30,7 @@ pub check-wire-spec : {M : Type 1} → statement M
 check-wire-spec =
     tie.close
     (tie.spec
-    check-held-requires
+    (λ c κs. search needs)
     returns
     slice-aggregate-check-held
     check-held-requires-2

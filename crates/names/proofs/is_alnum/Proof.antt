@@ -19,9 +19,6 @@ returns-2 c =
     let x = c .before .before .args .b in
     simp (le-leb 48 x (omega arith), lt-leb x 57 (omega arith), le-leb 65 x (omega arith), lt-leb 97 x (omega arith), or-false)
 
-within-requires : tie.Need-within-requires
-within-requires c κs = search needs
-
 returns-3 : tie.Need-returns-3
 unfolding alnum
 returns-3 c =
@@ -29,4 +26,4 @@ returns-3 c =
     simp (lt-leb 65 x (omega arith), lt-leb 97 x (omega arith), or-false) (c .within .ensures)
 
 pub is-alnum-spec : {M : Type 1} → statement M
-is-alnum-spec = tie.close (tie.spec returns returns-2 within-requires returns-3)
+is-alnum-spec = tie.close (tie.spec returns returns-2 (λ c κs. search needs) returns-3)

@@ -5,9 +5,6 @@ use native.Mathlib.Omega.{arith}
 use Rattle.names.proofs.label_fits.Statement.{statement}
 use Rattle.names.proofs.label_fits.Tie as tie
 
-add-result : tie.Need-add-result
-add-result c = search needs
-
 returns : tie.Need-returns
 returns c = simp (le-leb (c .before .args .size) 63 (omega arith))
 
@@ -15,4 +12,4 @@ returns-2 : tie.Need-returns-2
 returns-2 c = simp (lt-leb (c .before .args .size) 63 (omega arith))
 
 pub label-fits-spec : {M : Type 1} → statement M
-label-fits-spec = tie.close (tie.spec add-result returns returns-2)
+label-fits-spec = tie.close (tie.spec (λ c. search needs) returns returns-2)

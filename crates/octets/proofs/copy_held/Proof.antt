@@ -11,23 +11,11 @@ use Rattle.octets.proofs.copy_held.Tie as tie
 held : (c : tie.After-copy-each) → take (c .copy-each .result) (c .copy-each .last .0) ≡ c .before .before .before .before .args .src .now
 held c = wrote-front (c .copy-each .ensures)
 
-slice-aggregate-copy-each : tie.Need-slice-aggregate-copy-each
-slice-aggregate-copy-each c = search needs
-
-copy-each-requires : tie.Need-copy-each-requires
-copy-each-requires c κs = search needs
-
-array-share-prefix-held : tie.Need-array-share-prefix-held
-array-share-prefix-held c = search needs
-
 slice-aggregate-copy-each-2 : tie.Need-slice-aggregate-copy-each-2
 slice-aggregate-copy-each-2 c = let k = c .before .before .before in omega (arith, ap length (held k), k .copy-each .ensures .next)
 
 copy-each-requires-2 : tie.Need-copy-each-requires-2
 copy-each-requires-2 c κs = omega (arith, ap length (held (c .before .before .before)))
-
-same-length : tie.Need-same-length
-same-length c = omega arith
 
 returns : tie.Need-returns
 returns c =
@@ -38,10 +26,10 @@ pub copy-held-spec : {M : Type 1} → statement M
 copy-held-spec =
     tie.close
     (tie.spec
-    slice-aggregate-copy-each
-    copy-each-requires
-    array-share-prefix-held
+    (λ c. search needs)
+    (λ c κs. search needs)
+    (λ c. search needs)
     slice-aggregate-copy-each-2
     copy-each-requires-2
-    same-length
+    (λ c. omega arith)
     returns)

@@ -8,32 +8,14 @@ use Rattle.octets.specs.ListsLaws.{take-rest}
 use Rattle.octets.proofs.copy_small.Statement.{statement}
 use Rattle.octets.proofs.copy_small.Tie as tie
 
-sub-last : tie.Need-sub-last
-sub-last c = omega arith
-
 slice-aggregate-copy-held : tie.Need-slice-aggregate-copy-held
 slice-aggregate-copy-held c = simp length-take (omega arith)
 
 copy-held-requires : tie.Need-copy-held-requires
 copy-held-requires c κs = simp length-take (omega arith, omega arith)
 
-add-copy-held : tie.Need-add-copy-held
-add-copy-held c = omega arith
-
-sub-copy-held : tie.Need-sub-copy-held
-sub-copy-held c = omega arith
-
-part-copy-held-start : tie.Need-part-copy-held-start
-part-copy-held-start c = omega arith
-
-part-copy-held-end : tie.Need-part-copy-held-end
-part-copy-held-end c = omega arith
-
 copy-held-requires-2 : tie.Need-copy-held-requires-2
 copy-held-requires-2 c κs = simp (length-take, length-drop) (omega arith, omega arith)
-
-same-length : tie.Need-same-length
-same-length c = omega arith
 
 returns : tie.Need-returns
 returns c =
@@ -43,32 +25,14 @@ returns c =
     let last = length (a .src .now) - 4 in
     reaching-back 4 last (a .src .now) (omega arith) (omega arith) (omega arith) (v .copy-held .ensures) (rw (take-rest last (a .src .now)) at (w .copy-held2 .ensures))
 
-sub-last-2 : tie.Need-sub-last-2
-sub-last-2 c = omega arith
-
 slice-aggregate-copy-held-2 : tie.Need-slice-aggregate-copy-held-2
 slice-aggregate-copy-held-2 c = simp length-take (omega arith)
 
 copy-held-requires-3 : tie.Need-copy-held-requires-3
 copy-held-requires-3 c κs = simp length-take (omega arith, omega arith)
 
-add-copy-held-2 : tie.Need-add-copy-held-2
-add-copy-held-2 c = omega arith
-
-sub-copy-held-2 : tie.Need-sub-copy-held-2
-sub-copy-held-2 c = omega arith
-
-part-copy-held-start-2 : tie.Need-part-copy-held-start-2
-part-copy-held-start-2 c = omega arith
-
-part-copy-held-end-2 : tie.Need-part-copy-held-end-2
-part-copy-held-end-2 c = omega arith
-
 copy-held-requires-4 : tie.Need-copy-held-requires-4
 copy-held-requires-4 c κs = simp (length-take, length-drop) (omega arith, omega arith)
-
-same-length-2 : tie.Need-same-length-2
-same-length-2 c = omega arith
 
 returns-2 : tie.Need-returns-2
 returns-2 c =
@@ -82,23 +46,23 @@ pub copy-small-spec : {M : Type 1} → statement M
 copy-small-spec =
     tie.close
     (tie.spec
-    sub-last
+    (λ c. omega arith)
     slice-aggregate-copy-held
     copy-held-requires
-    add-copy-held
-    sub-copy-held
-    part-copy-held-start
-    part-copy-held-end
+    (λ c. omega arith)
+    (λ c. omega arith)
+    (λ c. omega arith)
+    (λ c. omega arith)
     copy-held-requires-2
-    same-length
+    (λ c. omega arith)
     returns
-    sub-last-2
+    (λ c. omega arith)
     slice-aggregate-copy-held-2
     copy-held-requires-3
-    add-copy-held-2
-    sub-copy-held-2
-    part-copy-held-start-2
-    part-copy-held-end-2
+    (λ c. omega arith)
+    (λ c. omega arith)
+    (λ c. omega arith)
+    (λ c. omega arith)
     copy-held-requires-4
-    same-length-2
+    (λ c. omega arith)
     returns-2)

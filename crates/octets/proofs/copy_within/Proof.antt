@@ -23,35 +23,11 @@ held-length c =
     let long : length (take (a .n) (drop (a .from) (a .out .now))) ≡ a .n = simp (length-take, length-drop) (omega arith) in
     ap length (held c) ∙ long
 
-add-end : tie.Need-add-end
-add-end c = omega arith
-
-slice-aggregate-copy-each : tie.Need-slice-aggregate-copy-each
-slice-aggregate-copy-each c = search needs
-
-sub-copy-each : tie.Need-sub-copy-each
-sub-copy-each c = omega arith
-
-part-copy-each-start : tie.Need-part-copy-each-start
-part-copy-each-start c = omega arith
-
-part-copy-each-end : tie.Need-part-copy-each-end
-part-copy-each-end c = omega arith
-
-copy-each-requires : tie.Need-copy-each-requires
-copy-each-requires c κs = search needs
-
-array-share-prefix-held : tie.Need-array-share-prefix-held
-array-share-prefix-held c = search needs
-
 slice-aggregate-copy-each-2 : tie.Need-slice-aggregate-copy-each-2
 slice-aggregate-copy-each-2 c = omega (arith, held-length (c .before .before .before))
 
 copy-each-requires-2 : tie.Need-copy-each-requires-2
 copy-each-requires-2 c κs = omega (arith, held-length (c .before .before .before))
-
-same-length : tie.Need-same-length
-same-length c = omega arith
 
 returns : tie.Need-returns
 returns c =
@@ -62,14 +38,14 @@ pub copy-within-spec : {M : Type 1} → statement M
 copy-within-spec =
     tie.close
     (tie.spec
-    add-end
-    slice-aggregate-copy-each
-    sub-copy-each
-    part-copy-each-start
-    part-copy-each-end
-    copy-each-requires
-    array-share-prefix-held
+    (λ c. omega arith)
+    (λ c. search needs)
+    (λ c. omega arith)
+    (λ c. omega arith)
+    (λ c. omega arith)
+    (λ c κs. search needs)
+    (λ c. search needs)
     slice-aggregate-copy-each-2
     copy-each-requires-2
-    same-length
+    (λ c. omega arith)
     returns)

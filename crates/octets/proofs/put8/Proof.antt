@@ -7,19 +7,10 @@ use borrow.Author.Needs.{needs}
 use Rattle.octets.proofs.put8.Statement.{statement}
 use Rattle.octets.proofs.put8.Tie as tie
 
-slice-write-out : tie.Need-slice-write-out
-slice-write-out c = search needs
-
-add-result : tie.Need-add-result
-add-result c = search needs
-
-same-length : tie.Need-same-length
-same-length c = search needs
-
 returns : tie.Need-returns
 returns c =
     let low : c .args .v % 256 ≡ c .args .v = omega arith in
     record { room = omega arith; next = refl; laid = rw low (over-set (c .args .at) (c .args .v) (c .args .out .now) (omega arith)) }
 
 pub put8-spec : {M : Type 1} → statement M
-put8-spec = tie.close (tie.spec slice-write-out add-result same-length returns)
+put8-spec = tie.close (tie.spec (λ c. search needs) (λ c. search needs) (λ c. search needs) returns)

@@ -12,12 +12,6 @@ cast-put8 c =
     let h : s .args .v < 256 ^ 1 = rw (c .before .if1 .taken) at (s .pre .1 .2) in
     omega arith
 
-put8-requires : tie.Need-put8-requires
-put8-requires c κs = search needs
-
-same-length : tie.Need-same-length
-same-length c = search needs
-
 returns : tie.Need-returns
 returns c = let k = c .before .before in rw (k .before .before .if1 .taken) (k .put8 .ensures)
 
@@ -31,9 +25,6 @@ put16-requires c κs =
     let h : s .args .v < 256 ^ 2 = rw (two (c .before)) at (s .pre .1 .2) in
     (omega (arith, two (c .before)), omega arith)
 
-same-length-2 : tie.Need-same-length-2
-same-length-2 c = search needs
-
 returns-2 : tie.Need-returns-2
 returns-2 c = let k = c .before .before in rw (two (k .before .before)) (k .put16 .ensures)
 
@@ -42,9 +33,9 @@ put-number-spec =
     tie.close
     (tie.spec
     cast-put8
-    put8-requires
-    same-length
+    (λ c κs. search needs)
+    (λ c. search needs)
     returns
     put16-requires
-    same-length-2
+    (λ c. search needs)
     returns-2)

@@ -16,14 +16,8 @@ abbrev μ-loop : tie.MeasureT-loop
 loop-holds : tie.Need-loop-holds Inv-loop μ-loop
 loop-holds c = cutting-start (c .before .pre .0)
 
-sub-piece-size : tie.Need-sub-piece-size Inv-loop μ-loop
-sub-piece-size c = omega arith
-
 piece-size-requires : tie.Need-piece-size-requires Inv-loop μ-loop
 piece-size-requires c κs = tt
-
-add-put-piece : tie.Need-add-put-piece Inv-loop μ-loop
-add-put-piece c = omega arith
 
 put-piece-requires : tie.Need-put-piece-requires Inv-loop μ-loop
 put-piece-requires c κs =
@@ -31,21 +25,12 @@ put-piece-requires c κs =
     let k = p .before .before in
     (cutting-room (p .piece-size .result) (p .piece-size .ensures) (k .loop .inv) (p .before .loop-test .taken), omega arith, omega arith)
 
-add-i : tie.Need-add-i Inv-loop μ-loop
-add-i c = omega arith
-
-loop-less : tie.Need-loop-less Inv-loop μ-loop
-loop-less c = omega arith
-
 loop-again : tie.Need-loop-again Inv-loop μ-loop
 loop-again c =
     let w = c .before .before in
     let p = w .before .before in
     let k = p .before .before in
     cutting-turn (p .piece-size .result) (p .piece-size .ensures) (k .loop .inv) (p .before .loop-test .taken) (omega arith) (w .put-piece .ensures) (omega arith)
-
-same-length : tie.Need-same-length Inv-loop μ-loop
-same-length c = omega arith
 
 returns : tie.Need-returns Inv-loop μ-loop
 returns c = cutting-done (c .before .loop .inv) (c .loop-test .left)
@@ -57,12 +42,12 @@ cut-within-spec =
     Inv-loop
     μ-loop
     loop-holds
-    sub-piece-size
+    (λ c. omega arith)
     piece-size-requires
-    add-put-piece
+    (λ c. omega arith)
     put-piece-requires
-    add-i
-    loop-less
+    (λ c. omega arith)
+    (λ c. omega arith)
     loop-again
-    same-length
+    (λ c. omega arith)
     returns)

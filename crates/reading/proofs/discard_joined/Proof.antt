@@ -7,14 +7,8 @@ use borrow.Author.Needs.{needs}
 use Rattle.reading.proofs.discard_joined.Statement.{statement}
 use Rattle.reading.proofs.discard_joined.Tie as tie
 
-empty-requires : tie.Need-empty-requires
-empty-requires c κs = search needs
-
 settle-requires : tie.Need-settle-requires
 settle-requires c κs = holds-ready (holds-none _ _ (c .before .empty .ensures .0) (c .before .empty .ensures .1))
-
-same-length : tie.Need-same-length
-same-length c = search needs
 
 returns : tie.Need-returns
 returns c =
@@ -22,4 +16,4 @@ returns c =
     gives-as (sym (answer-blocks _ _ _ (_ ∷ []) (shows-joined-discarded _ (holds-none _ _ (e .empty .ensures .0) (e .empty .ensures .1)) (e .before .before .before .pre)))) (c .before .before .settle .ensures)
 
 pub discard-joined-spec : {M : Type 1} → statement M
-discard-joined-spec = tie.close (tie.spec empty-requires settle-requires same-length returns)
+discard-joined-spec = tie.close (tie.spec (λ c κs. search needs) settle-requires (λ c. search needs) returns)

@@ -62,28 +62,13 @@ loop-holds c =
     let start = s .before .before .before in
     written-start _ _ (start .pre .0) (s .ordered .ensures) (c .before .before .put-front .ensures) (start .pre .1)
 
-mul-slot : tie.Need-mul-slot Inv-loop μ-loop
-mul-slot c = search needs
-
 element-copy-out-slot : tie.Need-element-copy-out-slot Inv-loop μ-loop
 element-copy-out-slot c =
     let s = c .before .before .before .before .before .before .before in
     omega (arith, c .loop-test .taken, s .ordered .ensures .count, s .before .before .before .pre .0 .few)
 
-cast-start : tie.Need-cast-start Inv-loop μ-loop
-cast-start c = search needs
-
-cast-end : tie.Need-cast-end Inv-loop μ-loop
-cast-end c = search needs
-
 add-end : tie.Need-add-end Inv-loop μ-loop
 add-end c = omega (arith, good (c .before .before) .within)
-
-sub-put-record : tie.Need-sub-put-record Inv-loop μ-loop
-sub-put-record c = omega arith
-
-part-put-record-start : tie.Need-part-put-record-start Inv-loop μ-loop
-part-put-record-start c = search needs
 
 part-put-record-end : tie.Need-part-put-record-end Inv-loop μ-loop
 part-put-record-end c = omega (arith, good (c .before .before .before) .within)
@@ -92,9 +77,6 @@ put-record-requires : tie.Need-put-record-requires Inv-loop μ-loop
 put-record-requires c κs =
     let t = c .before .before .before .before in
     (cut-kept _ _ (good t), (cut-clean _ _ (good t), written-room (t .before .before .loop .inv) (inside t) (taken t)))
-
-add-i : tie.Need-add-i Inv-loop μ-loop
-add-i c = omega arith
 
 loop-less : tie.Need-loop-less Inv-loop μ-loop
 loop-less c = omega (arith, c .before .before .before .before .before .before .before .before .loop-test .taken)
@@ -125,16 +107,16 @@ put-sheet-spec =
     cast-put-front
     put-front-requires
     loop-holds
-    mul-slot
+    (λ c. search needs)
     element-copy-out-slot
-    cast-start
-    cast-end
+    (λ c. search needs)
+    (λ c. search needs)
     add-end
-    sub-put-record
-    part-put-record-start
+    (λ c. omega arith)
+    (λ c. search needs)
     part-put-record-end
     put-record-requires
-    add-i
+    (λ c. omega arith)
     loop-less
     loop-again
     same-length

@@ -6,36 +6,15 @@ use borrow.Author.Needs.{needs}
 use Rattle.reading.proofs.read.Statement.{statement}
 use Rattle.reading.proofs.read.Tie as tie
 
-of-requires : tie.Need-of-requires
-of-requires c κs = search needs
-
-enum-known-c : tie.Need-enum-known-c
-enum-known-c c = search needs
-
-enum-told : tie.Need-enum-told
-enum-told c = search needs
-
-refused-requires : tie.Need-refused-requires
-refused-requires c κs = search needs
-
 returns : tie.Need-returns
 returns c =
     let k = c .before in
     gives-as (read-unknown _ _ _ (sym (k .before .before .of .ensures) ∙ k .enum-told .given .1)) (c .refused .ensures _ (λ z. omega arith))
 
-refused-requires-2 : tie.Need-refused-requires-2
-refused-requires-2 c κs = search needs
-
 returns-2 : tie.Need-returns-2
 returns-2 c =
     let k = c .before .before .before in
     gives-as (read-long _ _ _ (sym (k .before .before .of .ensures) ∙ k .c .given .1) (c .before .if1 .taken)) (c .refused2 .ensures _ (λ z. omega arith))
-
-read-area-requires : tie.Need-read-area-requires
-read-area-requires c κs = search needs
-
-same-length : tie.Need-same-length
-same-length c = search needs
 
 returns-3 : tie.Need-returns-3
 returns-3 c =
@@ -47,13 +26,13 @@ pub read-spec : {M : Type 1} → statement M
 read-spec =
     tie.close
     (tie.spec
-    of-requires
-    enum-known-c
-    enum-told
-    refused-requires
+    (λ c κs. search needs)
+    (λ c. search needs)
+    (λ c. search needs)
+    (λ c κs. search needs)
     returns
-    refused-requires-2
+    (λ c κs. search needs)
     returns-2
-    read-area-requires
-    same-length
+    (λ c κs. search needs)
+    (λ c. search needs)
     returns-3)

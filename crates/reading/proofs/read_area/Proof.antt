@@ -18,17 +18,8 @@ other : (c : tie.At-match-keys2) → c .before .before .before .args .c ≡ Dhcp
 other c e =
     ⊎-elim (λ q. omega arith) (⊎-elim (λ q. omega arith) (⊎-elim (λ q. omega arith) (λ q. omega arith))) (rw e at (c .match .keys2))
 
-enum-told : tie.Need-enum-told
-enum-told c = search needs
-
-read-joined-requires : tie.Need-read-joined-requires
-read-joined-requires c κs = search needs
-
 read-blocks-requires : tie.Need-read-blocks-requires
 read-blocks-requires c κs = (other (c .before), c .before .before .before .before .pre)
-
-same-length : tie.Need-same-length
-same-length c = search needs
 
 returns : tie.Need-returns
 returns c =
@@ -37,20 +28,14 @@ returns c =
     let a = e .before .before .before .before .args in
     gives-as (ap (λ (k : Carrier). readFramed k (frame k (now (a .area))) (length (now (a .out)))) (e .enum-told .given .1)) (j .read-joined .ensures)
 
-same-length-2 : tie.Need-same-length-2
-same-length-2 c = search needs
-
-returns-2 : tie.Need-returns-2
-returns-2 c = search needs
-
 pub read-area-spec : {M : Type 1} → statement M
 read-area-spec =
     tie.close
     (tie.spec
-    enum-told
-    read-joined-requires
+    (λ c. search needs)
+    (λ c κs. search needs)
     read-blocks-requires
-    same-length
+    (λ c. search needs)
     returns
-    same-length-2
-    returns-2)
+    (λ c. search needs)
+    (λ c. search needs))

@@ -76,17 +76,11 @@ broken : (c : tie.After-enum-told2 Inv-loop μ-loop)
     stepAt (a .c) (now (a .area)) (l .loop .at) ≡ Step.Fault
 broken c = sym (c .before .before .next-block .ensures) ∙ c .enum-told2 .given .1
 
-empty-requires : tie.Need-empty-requires Inv-loop μ-loop
-empty-requires c κs = search needs
-
 loop-holds : tie.Need-loop-holds Inv-loop μ-loop
 loop-holds c = (tallying-start _ _ (holds-none _ _ (c .empty .ensures .0) (c .empty .ensures .1)), refl, c .empty .ensures .2)
 
 next-block-requires : tie.Need-next-block-requires Inv-loop μ-loop
 next-block-requires c κs = c .loop .inv .0 .walked .within
-
-enum-known-start : tie.Need-enum-known-start Inv-loop μ-loop
-enum-known-start c = search needs
 
 sub-examine : tie.Need-sub-examine Inv-loop μ-loop
 sub-examine c = let m = step-block _ _ _ (block (c .before)) in omega arith
@@ -97,14 +91,8 @@ part-examine-start c = let m = step-block _ _ _ (block (c .before)) in omega ari
 part-examine-end : tie.Need-part-examine-end Inv-loop μ-loop
 part-examine-end c = let m = step-block _ _ _ (block (c .before)) in omega arith
 
-examine-requires : tie.Need-examine-requires Inv-loop μ-loop
-examine-requires c κs = search needs
-
 add-found : tie.Need-add-found Inv-loop μ-loop
 add-found c = omega (arith, open-more (c .before .before .before) .found)
-
-first-fault-requires : tie.Need-first-fault-requires Inv-loop μ-loop
-first-fault-requires c κs = search needs
 
 add-bad : tie.Need-add-bad Inv-loop μ-loop
 add-bad c =
@@ -128,23 +116,14 @@ slot-of-requires c κs =
     let m = step-block _ _ _ (block k) in
     (m .1, omega (arith, m .2, start (k .before .before .before) .pre .1), x .examine .ensures .1 .0 .0)
 
-mul-t27 : tie.Need-mul-t27 Inv-loop μ-loop
-mul-t27 c = search needs
-
 element-set-from-slots : tie.Need-element-set-from-slots Inv-loop μ-loop
 element-set-from-slots c = c .before .if2 .taken
-
-add-slots : tie.Need-add-slots Inv-loop μ-loop
-add-slots c = search needs
 
 add-size : tie.Need-add-size Inv-loop μ-loop
 add-size c =
     let x = c .before .before .before .before .before in
     let o = open-more (x .before .before .before) in
     omega (arith, o .few, o .small, x .examine .ensures .1 .0 .1)
-
-both-requires : tie.Need-both-requires Inv-loop μ-loop
-both-requires c κs = search needs
 
 loop-less-2 : tie.Need-loop-less-2 Inv-loop μ-loop
 loop-less-2 c = let m = step-block _ _ _ (block (c .before .before .before .before .before .before .before .before .before)) in omega arith
@@ -179,9 +158,6 @@ loop-again-3 c =
     let i = k .before .before .before .loop .inv in
     (tallying-full _ _ (i .0) (block k) (seen x) (e .if1 .left) (c .if2 .left), i .1, i .2)
 
-enum-known-past : tie.Need-enum-known-past Inv-loop μ-loop
-enum-known-past c = search needs
-
 skip-foreign-requires : tie.Need-skip-foreign-requires Inv-loop μ-loop
 skip-foreign-requires c κs = step-skipped _ _ _ (skipped (c .before)) .1
 
@@ -193,9 +169,6 @@ loop-again-4 c =
     let k = c .before .before in
     let i = k .before .before .before .loop .inv in
     (tallying-skips _ _ (i .0) (skips-then (skips-step _ _ _ (skipped k)) (c .skip-foreign .ensures)), i .1, i .2)
-
-enum-told : tie.Need-enum-told Inv-loop μ-loop
-enum-told c = search needs
 
 settle-requires : tie.Need-settle-requires Inv-loop μ-loop
 settle-requires c κs = holds-ready (c .before .before .before .before .loop .inv .0 .shows .holds)
@@ -211,12 +184,6 @@ returns c =
     let a = start l .args in
     gives-from (readFramed (a .c) (frame (a .c) (now (a .area)))) (l .loop .inv .1)
     (gives-as (answer-end _ _ _ (l .loop .inv .0) (start l .pre .0) (ended e)) (s .settle .ensures))
-
-enum-told-2 : tie.Need-enum-told-2 Inv-loop μ-loop
-enum-told-2 c = search needs
-
-refused-requires : tie.Need-refused-requires Inv-loop μ-loop
-refused-requires c κs = search needs
 
 same-length-2 : tie.Need-same-length-2 Inv-loop μ-loop
 same-length-2 c = ap length (c .before .before .before .before .loop .inv .1)
@@ -235,38 +202,38 @@ read-blocks-spec =
     (tie.spec
     Inv-loop
     μ-loop
-    empty-requires
+    (λ c κs. search needs)
     loop-holds
     next-block-requires
-    enum-known-start
+    (λ c. search needs)
     sub-examine
     part-examine-start
     part-examine-end
-    examine-requires
+    (λ c κs. search needs)
     add-found
-    first-fault-requires
+    (λ c κs. search needs)
     add-bad
     loop-less
     loop-again
     slot-of-requires
-    mul-t27
+    (λ c. search needs)
     element-set-from-slots
-    add-slots
+    (λ c. search needs)
     add-size
-    both-requires
+    (λ c κs. search needs)
     loop-less-2
     loop-again-2
     loop-less-3
     loop-again-3
-    enum-known-past
+    (λ c. search needs)
     skip-foreign-requires
     loop-less-4
     loop-again-4
-    enum-told
+    (λ c. search needs)
     settle-requires
     same-length
     returns
-    enum-told-2
-    refused-requires
+    (λ c. search needs)
+    (λ c κs. search needs)
     same-length-2
     returns-2)

@@ -52,20 +52,8 @@ seen c =
 discard-joined-requires : tie.Need-discard-joined-requires Inv-loop μ-loop
 discard-joined-requires c κs = joined-none _ (c .before .if1 .taken)
 
-same-length : tie.Need-same-length Inv-loop μ-loop
-same-length c = search needs
-
-returns : tie.Need-returns Inv-loop μ-loop
-returns c = search needs
-
-empty-requires : tie.Need-empty-requires Inv-loop μ-loop
-empty-requires c κs = search needs
-
 loop-holds : tie.Need-loop-holds Inv-loop μ-loop
 loop-holds c = (passed-start _ (c .before .if1 .left) (holds-none _ _ (c .empty .ensures .0) (c .empty .ensures .1)), refl, c .empty .ensures .2)
-
-sub-if2 : tie.Need-sub-if2 Inv-loop μ-loop
-sub-if2 c = search needs
 
 discard-joined-requires-2 : tie.Need-discard-joined-requires-2 Inv-loop μ-loop
 discard-joined-requires-2 c κs =
@@ -81,15 +69,6 @@ returns-2 c =
     let l = d .before .before .before .before in
     gives-from (readBlocks Dhcp4 (now (start l .args .joined) ∷ [])) (l .loop .inv .1) (d .discard-joined2 .ensures)
 
-get16-requires : tie.Need-get16-requires Inv-loop μ-loop
-get16-requires c κs = search needs
-
-add-start : tie.Need-add-start Inv-loop μ-loop
-add-start c = search needs
-
-sub-if3 : tie.Need-sub-if3 Inv-loop μ-loop
-sub-if3 c = search needs
-
 discard-joined-requires-3 : tie.Need-discard-joined-requires-3 Inv-loop μ-loop
 discard-joined-requires-3 c κs =
     let k = c .before .before in
@@ -104,21 +83,6 @@ returns-3 c =
     let d = c .before .before in
     let l = turn (d .before .before .before) in
     gives-from (readBlocks Dhcp4 (now (start l .args .joined) ∷ [])) (l .loop .inv .1) (d .discard-joined3 .ensures)
-
-add-end : tie.Need-add-end Inv-loop μ-loop
-add-end c = search needs
-
-sub-examine : tie.Need-sub-examine Inv-loop μ-loop
-sub-examine c = search needs
-
-part-examine-start : tie.Need-part-examine-start Inv-loop μ-loop
-part-examine-start c = search needs
-
-part-examine-end : tie.Need-part-examine-end Inv-loop μ-loop
-part-examine-end c = search needs
-
-examine-requires : tie.Need-examine-requires Inv-loop μ-loop
-examine-requires c κs = search needs
 
 discard-joined-requires-4 : tie.Need-discard-joined-requires-4 Inv-loop μ-loop
 discard-joined-requires-4 c κs =
@@ -143,26 +107,14 @@ slot-of-requires c κs =
     let s = seen x in
     (s .low, omega (arith, s .high, start (turn (x .before .before .before)) .pre), x .examine .ensures .1 .0 .0)
 
-mul-t42 : tie.Need-mul-t42 Inv-loop μ-loop
-mul-t42 c = search needs
-
 element-set-from-slots : tie.Need-element-set-from-slots Inv-loop μ-loop
 element-set-from-slots c = c .before .if5 .taken
-
-add-slots : tie.Need-add-slots Inv-loop μ-loop
-add-slots c = search needs
 
 add-size : tie.Need-add-size Inv-loop μ-loop
 add-size c =
     let x = c .before .before .before .before .before in
     let h = turn (x .before .before .before) .loop .inv .0 .holds in
     omega (arith, holds-few h, h .small, seen x .small)
-
-both-requires : tie.Need-both-requires Inv-loop μ-loop
-both-requires c κs = search needs
-
-loop-less : tie.Need-loop-less Inv-loop μ-loop
-loop-less c = search needs
 
 loop-again : tie.Need-loop-again Inv-loop μ-loop
 loop-again c =
@@ -184,9 +136,6 @@ loop-again c =
       l .inv .1,
       length-set (l .slots .items) (l .slots .count) (p .slot-of .result) ∙ l .inv .2,
     )
-
-loop-less-2 : tie.Need-loop-less-2 Inv-loop μ-loop
-loop-less-2 c = search needs
 
 loop-again-2 : tie.Need-loop-again-2 Inv-loop μ-loop
 loop-again-2 c =
@@ -222,37 +171,37 @@ read-instances-spec =
     Inv-loop
     μ-loop
     discard-joined-requires
-    same-length
-    returns
-    empty-requires
+    (λ c. search needs)
+    (λ c. search needs)
+    (λ c κs. search needs)
     loop-holds
-    sub-if2
+    (λ c. search needs)
     discard-joined-requires-2
     same-length-2
     returns-2
-    get16-requires
-    add-start
-    sub-if3
+    (λ c κs. search needs)
+    (λ c. search needs)
+    (λ c. search needs)
     discard-joined-requires-3
     same-length-3
     returns-3
-    add-end
-    sub-examine
-    part-examine-start
-    part-examine-end
-    examine-requires
+    (λ c. search needs)
+    (λ c. search needs)
+    (λ c. search needs)
+    (λ c. search needs)
+    (λ c κs. search needs)
     discard-joined-requires-4
     same-length-4
     returns-4
     slot-of-requires
-    mul-t42
+    (λ c. search needs)
     element-set-from-slots
-    add-slots
+    (λ c. search needs)
     add-size
-    both-requires
-    loop-less
+    (λ c κs. search needs)
+    (λ c. search needs)
     loop-again
-    loop-less-2
+    (λ c. search needs)
     loop-again-2
     settle-requires
     same-length-5

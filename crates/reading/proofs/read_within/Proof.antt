@@ -29,18 +29,6 @@ whole k = subst (λ (r : Joined). Joins (frame Dhcp4 (now (start k .args .area))
 short : (k : tie.After-n) → k .n .given .0 .0 ≤ length (now (start k .args .area))
 short k = subst (AtMost (length (now (start k .args .area)))) (k .n .given .1) (joining k .join .ensures .1)
 
-join-requires : tie.Need-join-requires
-join-requires c κs = search needs
-
-enum-told : tie.Need-enum-told
-enum-told c = search needs
-
-refused-requires : tie.Need-refused-requires
-refused-requires c κs = search needs
-
-enum-known-n : tie.Need-enum-known-n
-enum-known-n c = search needs
-
 slice-reshare-prefix-read-instances : tie.Need-slice-reshare-prefix-read-instances
 slice-reshare-prefix-read-instances c = many-room _ _ _ _ (whole (c .before))
 
@@ -52,21 +40,12 @@ read-instances-requires c κs =
     let k = c .before .before .before in
     omega (arith, many-length _ _ _ _ (whole k), short k, start k .pre .1)
 
-same-length : tie.Need-same-length
-same-length c = search needs
-
 returns : tie.Need-returns
 returns c =
     let j = c .before .before .before .before .before in
     let a = j .before .before .before .before .before .args in
     let broken = joins-broken (frame Dhcp4 (now (a .area))) (now (a .buffer)) (j .join .last .1 .0) (subst (λ (r : Joined). Joins (frame Dhcp4 (now (a .area))) (now (a .buffer)) r (j .join .last .1 .0)) (c .before .enum-told .given .1) (j .join .ensures .0)) in
     gives-as (ap (λ (f : Framed). readFramed Dhcp4 f (length (now (a .out)))) broken) (c .refused .ensures _ (λ z. omega arith))
-
-same-length-2 : tie.Need-same-length-2
-same-length-2 c = search needs
-
-same-length-3 : tie.Need-same-length-3
-same-length-3 c = search needs
 
 returns-2 : tie.Need-returns-2
 returns-2 c =
@@ -78,15 +57,15 @@ pub read-within-spec : {M : Type 1} → statement M
 read-within-spec =
     tie.close
     (tie.spec
-    join-requires
-    enum-told
-    refused-requires
-    enum-known-n
+    (λ c κs. search needs)
+    (λ c. search needs)
+    (λ c κs. search needs)
+    (λ c. search needs)
     slice-reshare-prefix-read-instances
     slice-aggregate-read-instances
     read-instances-requires
-    same-length
+    (λ c. search needs)
     returns
-    same-length-2
-    same-length-3
+    (λ c. search needs)
+    (λ c. search needs)
     returns-2)

@@ -5,14 +5,8 @@ use borrow.Author.Needs.{needs}
 use Rattle.reading.proofs.settle.Statement.{statement}
 use Rattle.reading.proofs.settle.Tie as tie
 
-refused-requires : tie.Need-refused-requires
-refused-requires c κs = search needs
-
 returns : tie.Need-returns
 returns c = gives-as (answer-records _ _ _ _ (c .before .if1 .taken)) (c .refused .ensures _ (λ z. omega arith))
-
-refused-requires-2 : tie.Need-refused-requires-2
-refused-requires-2 c κs = search needs
 
 returns-2 : tie.Need-returns-2
 returns-2 c =
@@ -26,9 +20,6 @@ put-sheet-requires c κs =
     let r = k .before .before .before .pre (k .if1 .left) in
     (r .0, omega (arith, r .1, e .if2 .left))
 
-same-length : tie.Need-same-length
-same-length c = search needs
-
 returns-3 : tie.Need-returns-3
 returns-3 c =
     let p = c .before .before in
@@ -39,4 +30,4 @@ returns-3 c =
 pub settle-spec : {M : Type 1} → statement M
 settle-spec =
     tie.close
-    (tie.spec refused-requires returns refused-requires-2 returns-2 put-sheet-requires same-length returns-3)
+    (tie.spec (λ c κs. search needs) returns (λ c κs. search needs) returns-2 put-sheet-requires (λ c. search needs) returns-3)

@@ -5,35 +5,11 @@ use Rattle.records.specs.PlacesLaws.{name-only-inside, full-inside, exam
 use Rattle.records.proofs.examine.Statement.{statement}
 use Rattle.records.proofs.examine.Tie as tie
 
-split-requires : tie.Need-split-requires
-split-requires c κs = search needs
-
-enum-known-fault : tie.Need-enum-known-fault
-enum-known-fault c = search needs
-
-faulty-requires : tie.Need-faulty-requires
-faulty-requires c κs = search needs
-
-enum-known-priority : tie.Need-enum-known-priority
-enum-known-priority c = search needs
-
 add-end : tie.Need-add-end
 add-end c = omega (arith, name-only-inside _ (c .before .priority .given .1) (c .before .before .before .split .ensures .1 .0))
 
-sub-examine-name-only : tie.Need-sub-examine-name-only
-sub-examine-name-only c = search needs
-
-part-examine-name-only-start : tie.Need-part-examine-name-only-start
-part-examine-name-only-start c = search needs
-
 part-examine-name-only-end : tie.Need-part-examine-name-only-end
 part-examine-name-only-end c = omega (arith, name-only-inside _ (c .before .priority .given .1) (c .before .before .before .split .ensures .1 .0))
-
-examine-name-only-requires : tie.Need-examine-name-only-requires
-examine-name-only-requires c κs = search needs
-
-enum-known-priority-2 : tie.Need-enum-known-priority-2
-enum-known-priority-2 c = search needs
 
 add-name-end : tie.Need-add-name-end
 add-name-end c = omega (arith, full-inside _ (c .before .priority2 .given .1) (c .before .before .before .split .ensures .1 .0) .0)
@@ -44,35 +20,14 @@ add-addresses-end c = omega (arith, full-inside _ (c .before .priority2 .given .
 add-parameters-end : tie.Need-add-parameters-end
 add-parameters-end c = omega (arith, full-inside _ (c .before .priority2 .given .1) (c .before .before .before .split .ensures .1 .0) .2)
 
-sub-examine-full : tie.Need-sub-examine-full
-sub-examine-full c = search needs
-
-part-examine-full-start : tie.Need-part-examine-full-start
-part-examine-full-start c = search needs
-
 part-examine-full-end : tie.Need-part-examine-full-end
 part-examine-full-end c = omega (arith, full-inside _ (c .before .priority2 .given .1) (c .before .before .before .split .ensures .1 .0) .0)
-
-sub-examine-full-2 : tie.Need-sub-examine-full-2
-sub-examine-full-2 c = search needs
-
-part-examine-full-start-2 : tie.Need-part-examine-full-start-2
-part-examine-full-start-2 c = search needs
 
 part-examine-full-end-2 : tie.Need-part-examine-full-end-2
 part-examine-full-end-2 c = omega (arith, full-inside _ (c .before .before .priority2 .given .1) (c .before .before .before .before .split .ensures .1 .0) .1)
 
-sub-examine-full-3 : tie.Need-sub-examine-full-3
-sub-examine-full-3 c = search needs
-
-part-examine-full-start-3 : tie.Need-part-examine-full-start-3
-part-examine-full-start-3 c = search needs
-
 part-examine-full-end-3 : tie.Need-part-examine-full-end-3
 part-examine-full-end-3 c = omega (arith, full-inside _ (c .before .before .before .priority2 .given .1) (c .before .before .before .before .before .split .ensures .1 .0) .2)
-
-examine-full-requires : tie.Need-examine-full-requires
-examine-full-requires c κs = search needs
 
 returns : tie.Need-returns
 returns c =
@@ -99,29 +54,29 @@ pub examine-spec : {M : Type 1} → statement M
 examine-spec =
     tie.close
     (tie.spec
-    split-requires
-    enum-known-fault
-    faulty-requires
-    enum-known-priority
+    (λ c κs. search needs)
+    (λ c. search needs)
+    (λ c κs. search needs)
+    (λ c. search needs)
     add-end
-    sub-examine-name-only
-    part-examine-name-only-start
+    (λ c. search needs)
+    (λ c. search needs)
     part-examine-name-only-end
-    examine-name-only-requires
-    enum-known-priority-2
+    (λ c κs. search needs)
+    (λ c. search needs)
     add-name-end
     add-addresses-end
     add-parameters-end
-    sub-examine-full
-    part-examine-full-start
+    (λ c. search needs)
+    (λ c. search needs)
     part-examine-full-end
-    sub-examine-full-2
-    part-examine-full-start-2
+    (λ c. search needs)
+    (λ c. search needs)
     part-examine-full-end-2
-    sub-examine-full-3
-    part-examine-full-start-3
+    (λ c. search needs)
+    (λ c. search needs)
     part-examine-full-end-3
-    examine-full-requires
+    (λ c κs. search needs)
     returns
     returns-2
     returns-3)

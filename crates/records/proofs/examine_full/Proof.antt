@@ -12,12 +12,6 @@ use Rattle.records.specs.Outcomes.{unclean, examined-faulty, full-few, f
 use Rattle.records.proofs.examine_full.Statement.{statement}
 use Rattle.records.proofs.examine_full.Tie as tie
 
-judge-fields-requires : tie.Need-judge-fields-requires
-judge-fields-requires c κs = search needs
-
-faulty-requires : tie.Need-faulty-requires
-faulty-requires c κs = search needs
-
 returns : tie.Need-returns
 returns c =
     let judged = c .before .before in
@@ -27,9 +21,6 @@ returns c =
           (judged .judge-fields .ensures) (c .faulty .ensures) (c .before .if1 .taken),
       λ z. absurd (unclean _ (c .faulty .ensures) z),
     )
-
-address-width-requires : tie.Need-address-width-requires
-address-width-requires c κs = search needs
 
 kept-count-requires : tie.Need-kept-count-requires
 kept-count-requires c κs =
@@ -49,9 +40,6 @@ small c e =
 
 mul-staying : tie.Need-mul-staying
 mul-staying c = omega (arith, small c refl)
-
-name-size-requires : tie.Need-name-size-requires
-name-size-requires c κs = search needs
 
 add-head : tie.Need-add-head
 add-head c = omega (arith, small (c .before) (c .name-size .ensures))
@@ -78,13 +66,13 @@ pub examine-full-spec : {M : Type 1} → statement M
 examine-full-spec =
     tie.close
     (tie.spec
-    judge-fields-requires
-    faulty-requires
+    (λ c κs. search needs)
+    (λ c κs. search needs)
     returns
-    address-width-requires
+    (λ c κs. search needs)
     kept-count-requires
     mul-staying
-    name-size-requires
+    (λ c κs. search needs)
     add-head
     add-size
     add-size-2

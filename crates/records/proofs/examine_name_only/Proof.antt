@@ -6,23 +6,11 @@ use Rattle.records.specs.Outcomes.{examined-faulty, name-only-small, nam
 use Rattle.records.proofs.examine_name_only.Statement.{statement}
 use Rattle.records.proofs.examine_name_only.Tie as tie
 
-slice-aggregate-none : tie.Need-slice-aggregate-none
-slice-aggregate-none c = search needs
-
-judge-fields-requires : tie.Need-judge-fields-requires
-judge-fields-requires c κs = search needs
-
-faulty-requires : tie.Need-faulty-requires
-faulty-requires c κs = search needs
-
 returns : tie.Need-returns
 returns c t =
     let judged = c .before .before in
     let args = judged .before .before .before .args in
     examined-faulty (args .c) (nameOnly (args .priority) t (args .name .now)) (judged .judge-fields .ensures) (c .faulty .ensures) (c .before .if1 .taken)
-
-name-size-requires : tie.Need-name-size-requires
-name-size-requires c κs = search needs
 
 add-size : tie.Need-add-size
 add-size c =
@@ -40,10 +28,10 @@ pub examine-name-only-spec : {M : Type 1} → statement M
 examine-name-only-spec =
     tie.close
     (tie.spec
-    slice-aggregate-none
-    judge-fields-requires
-    faulty-requires
+    (λ c. search needs)
+    (λ c κs. search needs)
+    (λ c κs. search needs)
     returns
-    name-size-requires
+    (λ c κs. search needs)
     add-size
     returns-2)

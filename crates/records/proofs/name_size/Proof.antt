@@ -5,12 +5,6 @@ use Rattle.records.specs.Outcomes.{size-text, size-wire}
 use Rattle.records.proofs.name_size.Statement.{statement}
 use Rattle.records.proofs.name_size.Tie as tie
 
-as-text-requires : tie.Need-as-text-requires
-as-text-requires c κs = search needs
-
-add-result : tie.Need-add-result
-add-result c = search needs
-
 returns : tie.Need-returns
 returns c = let k = c .before in size-text (k .before .before .args .c) _ (sym (k .as-text .ensures) ∙ c .if1 .taken)
 
@@ -18,4 +12,4 @@ returns-2 : tie.Need-returns-2
 returns-2 c = let k = c .before in size-wire (k .before .before .args .c) _ (sym (k .as-text .ensures) ∙ c .if1 .left)
 
 pub name-size-spec : {M : Type 1} → statement M
-name-size-spec = tie.close (tie.spec as-text-requires add-result returns returns-2)
+name-size-spec = tie.close (tie.spec (λ c κs. search needs) (λ c. search needs) returns returns-2)

@@ -12,25 +12,13 @@ copy-requires c κs =
     let start = c .before .before .before .before in
     omega (arith, start .pre .1 .1, ap length (start .pre .1 .0 (c .before .if1 .taken)))
 
-same-length : tie.Need-same-length
-same-length c = search needs
-
 returns : tie.Need-returns
 returns c =
     let copied = c .before .before in
     let start = copied .before .before .before .before .before in
     wrote-clean (start .args .w) (start .pre .1 .0 (copied .before .before .if1 .taken)) (copied .copy .ensures)
 
-put-kept-requires : tie.Need-put-kept-requires
-put-kept-requires c κs = search needs
-
-same-length-2 : tie.Need-same-length-2
-same-length-2 c = search needs
-
-returns-2 : tie.Need-returns-2
-returns-2 c = search needs
-
 pub put-addresses-spec : {M : Type 1} → statement M
 put-addresses-spec =
     tie.close
-    (tie.spec copy-requires same-length returns put-kept-requires same-length-2 returns-2)
+    (tie.spec copy-requires (λ c. search needs) returns (λ c κs. search needs) (λ c. search needs) (λ c. search needs))

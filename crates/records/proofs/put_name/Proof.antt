@@ -7,27 +7,12 @@ use Rattle.records.specs.Outcomes.{size-text, size-wire, wrote-text, wro
 use Rattle.records.proofs.put_name.Statement.{statement}
 use Rattle.records.proofs.put_name.Tie as tie
 
-name-size-requires : tie.Need-name-size-requires
-name-size-requires c κs = search needs
-
-cast-put8 : tie.Need-cast-put8
-cast-put8 c = search needs
-
-put8-requires : tie.Need-put8-requires
-put8-requires c κs = search needs
-
-as-text-requires : tie.Need-as-text-requires
-as-text-requires c κs = search needs
-
 to-wire-requires : tie.Need-to-wire-requires
 to-wire-requires c κs =
     let asked = c .before .before in
     let args = asked .before .before .before .before .before .before .before .before .args in
     let s = size-text (args .c) (args .name .now) (sym (asked .as-text .ensures) ∙ c .before .if1 .taken) in
     (omega (arith, s), omega (arith, s))
-
-same-length : tie.Need-same-length
-same-length c = search needs
 
 returns : tie.Need-returns
 returns c =
@@ -45,9 +30,6 @@ copy-requires c κs =
     let args = asked .before .before .before .before .before .before .before .before .args in
     omega (arith, size-wire (args .c) (args .name .now) (sym (asked .as-text .ensures) ∙ c .before .if1 .left))
 
-same-length-2 : tie.Need-same-length-2
-same-length-2 c = search needs
-
 returns-2 : tie.Need-returns-2
 returns-2 c =
     let copied = c .before .before in
@@ -62,13 +44,13 @@ pub put-name-spec : {M : Type 1} → statement M
 put-name-spec =
     tie.close
     (tie.spec
-    name-size-requires
-    cast-put8
-    put8-requires
-    as-text-requires
+    (λ c κs. search needs)
+    (λ c. search needs)
+    (λ c κs. search needs)
+    (λ c κs. search needs)
     to-wire-requires
-    same-length
+    (λ c. search needs)
     returns
     copy-requires
-    same-length-2
+    (λ c. search needs)
     returns-2)

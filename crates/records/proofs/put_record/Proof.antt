@@ -5,23 +5,8 @@ use Rattle.records.specs.PlacesLaws.{name-only-inside, full-inside, put-
 use Rattle.records.proofs.put_record.Statement.{statement}
 use Rattle.records.proofs.put_record.Tie as tie
 
-split-requires : tie.Need-split-requires
-split-requires c κs = search needs
-
-enum-told : tie.Need-enum-told
-enum-told c = search needs
-
-enum-known-priority : tie.Need-enum-known-priority
-enum-known-priority c = search needs
-
 add-end : tie.Need-add-end
 add-end c = omega (arith, name-only-inside _ (c .before .priority .given .1) (c .before .before .before .split .ensures .1 .0))
-
-sub-put-head : tie.Need-sub-put-head
-sub-put-head c = search needs
-
-part-put-head-start : tie.Need-part-put-head-start
-part-put-head-start c = search needs
 
 part-put-head-end : tie.Need-part-put-head-end
 part-put-head-end c = omega (arith, name-only-inside _ (c .before .before .priority .given .1) (c .before .before .before .before .split .ensures .1 .0))
@@ -34,9 +19,6 @@ put-head-requires c κs =
     let args = start .args in
     name-only-asks (args .c) (args .body .now) (divided .split .ensures .0) (divided .split .ensures .1 .1) (found .priority .given .1) (start .pre .0) (args .at) (args .out .now) (start .pre .1 .1)
 
-enum-known-priority-2 : tie.Need-enum-known-priority-2
-enum-known-priority-2 c = search needs
-
 add-name-end : tie.Need-add-name-end
 add-name-end c = omega (arith, full-inside _ (c .before .priority2 .given .1) (c .before .before .before .split .ensures .1 .0) .0)
 
@@ -45,12 +27,6 @@ add-addresses-end c = omega (arith, full-inside _ (c .before .priority2 .given .
 
 add-parameters-end : tie.Need-add-parameters-end
 add-parameters-end c = omega (arith, full-inside _ (c .before .priority2 .given .1) (c .before .before .before .split .ensures .1 .0) .2)
-
-sub-put-head-2 : tie.Need-sub-put-head-2
-sub-put-head-2 c = search needs
-
-part-put-head-start-2 : tie.Need-part-put-head-start-2
-part-put-head-start-2 c = search needs
 
 part-put-head-end-2 : tie.Need-part-put-head-end-2
 part-put-head-end-2 c = omega (arith, full-inside _ (c .before .before .priority2 .given .1) (c .before .before .before .before .split .ensures .1 .0) .0)
@@ -63,23 +39,8 @@ put-head-requires-2 c κs =
     let args = start .args in
     full-asks-head (args .c) (args .body .now) (divided .split .ensures .0) (divided .split .ensures .1 .1) (found .priority2 .given .1) (start .pre .0) (args .at) (args .out .now) (start .pre .1 .1)
 
-address-width-requires : tie.Need-address-width-requires
-address-width-requires c κs = search needs
-
-sub-put-tail : tie.Need-sub-put-tail
-sub-put-tail c = search needs
-
-part-put-tail-start : tie.Need-part-put-tail-start
-part-put-tail-start c = search needs
-
 part-put-tail-end : tie.Need-part-put-tail-end
 part-put-tail-end c = omega (arith, full-inside _ (c .before .before .before .before .before .before .before .before .priority2 .given .1) (c .before .before .before .before .before .before .before .before .before .before .split .ensures .1 .0) .1)
-
-sub-put-tail-2 : tie.Need-sub-put-tail-2
-sub-put-tail-2 c = search needs
-
-part-put-tail-start-2 : tie.Need-part-put-tail-start-2
-part-put-tail-start-2 c = search needs
 
 part-put-tail-end-2 : tie.Need-part-put-tail-end-2
 part-put-tail-end-2 c = omega (arith, full-inside _ (c .before .before .before .before .before .before .before .before .before .priority2 .given .1) (c .before .before .before .before .before .before .before .before .before .before .before .split .ensures .1 .0) .2)
@@ -100,9 +61,6 @@ returns c =
     let start = divided .before .before .before in
     absurd (put-bad (start .args .c) (start .args .body .now) (divided .split .ensures .0) (c .enum-told .given .1) (start .pre .0))
 
-same-length : tie.Need-same-length
-same-length c = search needs
-
 returns-2 : tie.Need-returns-2
 returns-2 c =
     let headed = c .before .before in
@@ -111,9 +69,6 @@ returns-2 c =
     let start = divided .before .before .before in
     let args = start .args in
     name-only-writes (args .c) (args .body .now) (divided .split .ensures .0) (divided .split .ensures .1 .1) (found .priority .given .1) (start .pre .0) (args .at) (args .out .now) (headed .put-head .ensures)
-
-same-length-2 : tie.Need-same-length-2
-same-length-2 c = search needs
 
 returns-3 : tie.Need-returns-3
 returns-3 c =
@@ -130,32 +85,32 @@ pub put-record-spec : {M : Type 1} → statement M
 put-record-spec =
     tie.close
     (tie.spec
-    split-requires
-    enum-told
-    enum-known-priority
+    (λ c κs. search needs)
+    (λ c. search needs)
+    (λ c. search needs)
     add-end
-    sub-put-head
-    part-put-head-start
+    (λ c. search needs)
+    (λ c. search needs)
     part-put-head-end
     put-head-requires
-    enum-known-priority-2
+    (λ c. search needs)
     add-name-end
     add-addresses-end
     add-parameters-end
-    sub-put-head-2
-    part-put-head-start-2
+    (λ c. search needs)
+    (λ c. search needs)
     part-put-head-end-2
     put-head-requires-2
-    address-width-requires
-    sub-put-tail
-    part-put-tail-start
+    (λ c κs. search needs)
+    (λ c. search needs)
+    (λ c. search needs)
     part-put-tail-end
-    sub-put-tail-2
-    part-put-tail-start-2
+    (λ c. search needs)
+    (λ c. search needs)
     part-put-tail-end-2
     put-tail-requires
     returns
-    same-length
+    (λ c. search needs)
     returns-2
-    same-length-2
+    (λ c. search needs)
     returns-3)

@@ -9,35 +9,11 @@ use Rattle.records.specs.RecordsLaws.{staying-count}
 use Rattle.records.proofs.put_tail.Statement.{statement}
 use Rattle.records.proofs.put_tail.Tie as tie
 
-add-from : tie.Need-add-from
-add-from c = search needs
-
-put-addresses-requires : tie.Need-put-addresses-requires
-put-addresses-requires c κs = search needs
-
-sub-count : tie.Need-sub-count
-sub-count c = search needs
-
-div-count : tie.Need-div-count
-div-count c = search needs
-
 cast-put8 : tie.Need-cast-put8
 cast-put8 c =
     let stayed = c .before .before .before in
     let e = staying-count _ _ _ _ (wide-some (c .before .before .before .before .before .before .before .before .pre .0)) (stayed .put-addresses .ensures .next) in
     omega (arith, e)
-
-put8-requires : tie.Need-put8-requires
-put8-requires c κs = search needs
-
-put16-requires : tie.Need-put16-requires
-put16-requires c κs = search needs
-
-copy-requires : tie.Need-copy-requires
-copy-requires c κs = search needs
-
-same-length : tie.Need-same-length
-same-length c = search needs
 
 returns : tie.Need-returns
 returns c =
@@ -52,13 +28,13 @@ pub put-tail-spec : {M : Type 1} → statement M
 put-tail-spec =
     tie.close
     (tie.spec
-    add-from
-    put-addresses-requires
-    sub-count
-    div-count
+    (λ c. search needs)
+    (λ c κs. search needs)
+    (λ c. search needs)
+    (λ c. search needs)
     cast-put8
-    put8-requires
-    put16-requires
-    copy-requires
-    same-length
+    (λ c κs. search needs)
+    (λ c κs. search needs)
+    (λ c κs. search needs)
+    (λ c. search needs)
     returns)

@@ -5,27 +5,6 @@ use Rattle.sheets.specs.Sheets.{frontOf}
 use Rattle.sheets.proofs.put_front.Statement.{statement}
 use Rattle.sheets.proofs.put_front.Tie as tie
 
-slice-aggregate-copy : tie.Need-slice-aggregate-copy
-slice-aggregate-copy c = search needs
-
-copy-requires : tie.Need-copy-requires
-copy-requires c κs = search needs
-
-put16-requires : tie.Need-put16-requires
-put16-requires c κs = search needs
-
-number-requires : tie.Need-number-requires
-number-requires c κs = search needs
-
-put8-requires : tie.Need-put8-requires
-put8-requires c κs = search needs
-
-put8-requires-2 : tie.Need-put8-requires-2
-put8-requires-2 c κs = search needs
-
-same-length : tie.Need-same-length
-same-length c = search needs
-
 returns : tie.Need-returns
 unfolding frontOf
 returns c =
@@ -40,11 +19,11 @@ pub put-front-spec : {M : Type 1} → statement M
 put-front-spec =
     tie.close
     (tie.spec
-    slice-aggregate-copy
-    copy-requires
-    put16-requires
-    number-requires
-    put8-requires
-    put8-requires-2
-    same-length
+    (λ c. search needs)
+    (λ c κs. search needs)
+    (λ c κs. search needs)
+    (λ c κs. search needs)
+    (λ c κs. search needs)
+    (λ c κs. search needs)
+    (λ c. search needs)
     returns)

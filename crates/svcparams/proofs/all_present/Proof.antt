@@ -28,44 +28,14 @@ abbrev μ-listed : tie.MeasureT-listed
 listed-holds : tie.Need-listed-holds Inv-params μ-params Inv-listed μ-listed
 listed-holds c = (find-start _ _, refl)
 
-add-listed : tie.Need-add-listed Inv-params μ-params Inv-listed μ-listed
-add-listed c = search needs
-
-get16-requires : tie.Need-get16-requires Inv-params μ-params Inv-listed μ-listed
-get16-requires c κs = search needs
-
 params-holds : tie.Need-params-holds Inv-params μ-params Inv-listed μ-listed
 params-holds c = (seek-start _ _, search needs)
-
-sub-s : tie.Need-sub-s Inv-params μ-params Inv-listed μ-listed
-sub-s c = search needs
-
-part-s-start : tie.Need-part-s-start Inv-params μ-params Inv-listed μ-listed
-part-s-start c = search needs
-
-part-s-end : tie.Need-part-s-end Inv-params μ-params Inv-listed μ-listed
-part-s-end c = search needs
-
-size-requires : tie.Need-size-requires Inv-params μ-params Inv-listed μ-listed
-size-requires c κs = search needs
 
 get16-requires-2 : tie.Need-get16-requires-2 Inv-params μ-params Inv-listed μ-listed
 get16-requires-2 c κs = omega (arith, size-head _ (c .before .size .ensures .0) (c .if1 .left))
 
-add-at : tie.Need-add-at Inv-params μ-params Inv-listed μ-listed
-add-at c = search needs
-
-params-less : tie.Need-params-less Inv-params μ-params Inv-listed μ-listed
-params-less c = search needs
-
 params-again : tie.Need-params-again Inv-params μ-params Inv-listed μ-listed
 params-again c = (search (needs, seek-next), search needs)
-
-add-i : tie.Need-add-i Inv-params μ-params Inv-listed μ-listed
-add-i c = search needs
-
-listed-less : tie.Need-listed-less Inv-params μ-params Inv-listed μ-listed
-listed-less c = search needs
 
 listed-again : tie.Need-listed-again Inv-params μ-params Inv-listed μ-listed
 listed-again c = (search (needs, find-next, seek-found), search needs)
@@ -85,19 +55,19 @@ all-present-spec =
     Inv-listed
     μ-listed
     listed-holds
-    add-listed
-    get16-requires
+    (λ c. search needs)
+    (λ c κs. search needs)
     params-holds
-    sub-s
-    part-s-start
-    part-s-end
-    size-requires
+    (λ c. search needs)
+    (λ c. search needs)
+    (λ c. search needs)
+    (λ c κs. search needs)
     get16-requires-2
-    add-at
-    params-less
+    (λ c. search needs)
+    (λ c. search needs)
     params-again
-    add-i
-    listed-less
+    (λ c. search needs)
+    (λ c. search needs)
     listed-again
     returns
     returns-2)

@@ -10,18 +10,12 @@ returns c = search (needs, mandatory-none)
 returns-2 : tie.Need-returns-2
 returns-2 c = search (needs, mandatory-odd)
 
-rises-requires : tie.Need-rises-requires
-rises-requires c κs = search needs
-
 returns-3 : tie.Need-returns-3
 returns-3 c = search (needs, mandatory-unordered)
-
-all-present-requires : tie.Need-all-present-requires
-all-present-requires c κs = search needs
 
 returns-4 : tie.Need-returns-4
 returns-4 c = search (needs, mandatory-ordered)
 
 pub mandatory-spec : {M : Type 1} → statement M
 mandatory-spec =
-    tie.close (tie.spec returns returns-2 rises-requires returns-3 all-present-requires returns-4)
+    tie.close (tie.spec returns returns-2 (λ c κs. search needs) returns-3 (λ c κs. search needs) returns-4)

@@ -17,18 +17,6 @@ abbrev μ-loop : tie.MeasureT-loop
 loop-holds : tie.Need-loop-holds Inv-loop μ-loop
 loop-holds c = order-start _
 
-sub-s : tie.Need-sub-s Inv-loop μ-loop
-sub-s c = search needs
-
-part-s-start : tie.Need-part-s-start Inv-loop μ-loop
-part-s-start c = search needs
-
-part-s-end : tie.Need-part-s-end Inv-loop μ-loop
-part-s-end c = search needs
-
-size-requires : tie.Need-size-requires Inv-loop μ-loop
-size-requires c κs = search needs
-
 returns : tie.Need-returns Inv-loop μ-loop
 returns c = search (needs, order-bad)
 
@@ -41,23 +29,11 @@ returns-2 c = search (needs, order-low)
 returns-3 : tie.Need-returns-3 Inv-loop μ-loop
 returns-3 c = search (needs, order-invalid)
 
-add-least : tie.Need-add-least Inv-loop μ-loop
-add-least c = search needs
-
-add-at : tie.Need-add-at Inv-loop μ-loop
-add-at c = search needs
-
-loop-less : tie.Need-loop-less Inv-loop μ-loop
-loop-less c = search needs
-
 loop-again : tie.Need-loop-again Inv-loop μ-loop
 loop-again c = search (needs, order-next)
 
 returns-4 : tie.Need-returns-4 Inv-loop μ-loop
 returns-4 c = search (needs, order-hint)
-
-values-requires : tie.Need-values-requires Inv-loop μ-loop
-values-requires c κs = search needs
 
 returns-5 : tie.Need-returns-5 Inv-loop μ-loop
 returns-5 c = search (needs, order-value)
@@ -72,19 +48,19 @@ params-fault-spec =
     Inv-loop
     μ-loop
     loop-holds
-    sub-s
-    part-s-start
-    part-s-end
-    size-requires
+    (λ c. search needs)
+    (λ c. search needs)
+    (λ c. search needs)
+    (λ c κs. search needs)
     returns
     get16-requires
     returns-2
     returns-3
-    add-least
-    add-at
-    loop-less
+    (λ c. search needs)
+    (λ c. search needs)
+    (λ c. search needs)
     loop-again
     returns-4
-    values-requires
+    (λ c κs. search needs)
     returns-5
     returns-6)

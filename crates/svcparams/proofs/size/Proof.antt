@@ -7,12 +7,6 @@ use Rattle.svcparams.proofs.size.Tie as tie
 returns : tie.Need-returns
 returns c = search (needs, size-short)
 
-get16-requires : tie.Need-get16-requires
-get16-requires c κs = search needs
-
-add-n : tie.Need-add-n
-add-n c = search needs
-
 returns-2 : tie.Need-returns-2
 returns-2 c = search (needs, size-over)
 
@@ -20,4 +14,4 @@ returns-3 : tie.Need-returns-3
 returns-3 c = search (needs, size-fits)
 
 pub size-spec : {M : Type 1} → statement M
-size-spec = tie.close (tie.spec returns get16-requires add-n returns-2 returns-3)
+size-spec = tie.close (tie.spec returns (λ c κs. search needs) (λ c. search needs) returns-2 returns-3)

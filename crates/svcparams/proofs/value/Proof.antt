@@ -4,14 +4,8 @@ use Rattle.svcparams.specs.ValueLaws.{value-mandatory, value-alpn, value
 use Rattle.svcparams.proofs.value.Statement.{statement}
 use Rattle.svcparams.proofs.value.Tie as tie
 
-mandatory-requires : tie.Need-mandatory-requires
-mandatory-requires c κs = search needs
-
 returns : tie.Need-returns
 returns c = search (needs, value-mandatory)
-
-alpn-requires : tie.Need-alpn-requires
-alpn-requires c κs = search needs
 
 returns-2 : tie.Need-returns-2
 returns-2 c = search (needs, value-alpn)
@@ -28,4 +22,4 @@ returns-5 c = search (needs, value-other)
 pub value-spec : {M : Type 1} → statement M
 value-spec =
     tie.close
-    (tie.spec mandatory-requires returns alpn-requires returns-2 returns-3 returns-4 returns-5)
+    (tie.spec (λ c κs. search needs) returns (λ c κs. search needs) returns-2 returns-3 returns-4 returns-5)

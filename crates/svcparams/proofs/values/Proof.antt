@@ -17,18 +17,6 @@ abbrev μ-loop : tie.MeasureT-loop
 loop-holds : tie.Need-loop-holds Inv-loop μ-loop
 loop-holds c = values-start _
 
-sub-s : tie.Need-sub-s Inv-loop μ-loop
-sub-s c = search needs
-
-part-s-start : tie.Need-part-s-start Inv-loop μ-loop
-part-s-start c = search needs
-
-part-s-end : tie.Need-part-s-end Inv-loop μ-loop
-part-s-end c = search needs
-
-size-requires : tie.Need-size-requires Inv-loop μ-loop
-size-requires c κs = search needs
-
 returns : tie.Need-returns Inv-loop μ-loop
 returns c = search (needs, values-end)
 
@@ -41,20 +29,8 @@ sub-v c = omega (arith, size-head _ (c .before .before .size .ensures .0) (c .be
 part-v-start : tie.Need-part-v-start Inv-loop μ-loop
 part-v-start c = omega (arith, size-head _ (c .before .before .size .ensures .0) (c .before .if1 .left))
 
-part-v-end : tie.Need-part-v-end Inv-loop μ-loop
-part-v-end c = search needs
-
-value-requires : tie.Need-value-requires Inv-loop μ-loop
-value-requires c κs = search needs
-
 returns-2 : tie.Need-returns-2 Inv-loop μ-loop
 returns-2 c = search (needs, values-bad)
-
-add-at : tie.Need-add-at Inv-loop μ-loop
-add-at c = search needs
-
-loop-less : tie.Need-loop-less Inv-loop μ-loop
-loop-less c = search needs
 
 loop-again : tie.Need-loop-again Inv-loop μ-loop
 loop-again c = search (needs, values-next)
@@ -66,17 +42,17 @@ values-spec =
     Inv-loop
     μ-loop
     loop-holds
-    sub-s
-    part-s-start
-    part-s-end
-    size-requires
+    (λ c. search needs)
+    (λ c. search needs)
+    (λ c. search needs)
+    (λ c κs. search needs)
     returns
     get16-requires
     sub-v
     part-v-start
-    part-v-end
-    value-requires
+    (λ c. search needs)
+    (λ c κs. search needs)
     returns-2
-    add-at
-    loop-less
+    (λ c. search needs)
+    (λ c. search needs)
     loop-again)

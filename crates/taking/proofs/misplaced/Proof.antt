@@ -4,9 +4,6 @@ use Rattle.taking.specs.TookLaws.{misplaced-1, misplaced-2}
 use Rattle.taking.proofs.misplaced.Statement.{statement}
 use Rattle.taking.proofs.misplaced.Tie as tie
 
-lifetime-width-requires : tie.Need-lifetime-width-requires
-lifetime-width-requires c κs = search needs
-
 returns : tie.Need-returns
 returns c = search (needs, misplaced-1)
 
@@ -14,4 +11,4 @@ returns-2 : tie.Need-returns-2
 returns-2 c = search (needs, misplaced-2)
 
 pub misplaced-spec : {M : Type 1} → statement M
-misplaced-spec = tie.close (tie.spec lifetime-width-requires returns returns-2)
+misplaced-spec = tie.close (tie.spec (λ c κs. search needs) returns returns-2)

@@ -5,44 +5,17 @@ use Rattle.taking.specs.SpotLaws.{spot-ensures, spot-1, spot-2, spot-3, 
 use Rattle.taking.proofs.record_at.Statement.{statement}
 use Rattle.taking.proofs.record_at.Tie as tie
 
-sub-left : tie.Need-sub-left
-sub-left c = search needs
-
-nowhere-requires : tie.Need-nowhere-requires
-nowhere-requires c κs = search needs
-
 returns : tie.Need-returns
 returns c =
     let k = c .before .before in
     let a = k .before .args in
     spot-ensures (a .c) (a .s .now) (a .at) (λ i. omega (arith, k .shared-slice-known .given i)) (k .before .pre) (search (needs, spot-1))
 
-add-wide : tie.Need-add-wide
-add-wide c = search needs
-
-shared-slice-read-wide : tie.Need-shared-slice-read-wide
-shared-slice-read-wide c = search needs
-
-wide-requires : tie.Need-wide-requires
-wide-requires c κs = search needs
-
-nowhere-requires-2 : tie.Need-nowhere-requires-2
-nowhere-requires-2 c κs = search needs
-
 returns-2 : tie.Need-returns-2
 returns-2 c =
     let k = c .before .before .before .before .before in
     let a = k .before .args in
     spot-ensures (a .c) (a .s .now) (a .at) (λ i. omega (arith, k .shared-slice-known .given i)) (k .before .pre) (search (needs, spot-2))
-
-named-at-requires : tie.Need-named-at-requires
-named-at-requires c κs = search needs
-
-add-mode : tie.Need-add-mode
-add-mode c = search needs
-
-shared-slice-read-mode : tie.Need-shared-slice-read-mode
-shared-slice-read-mode c = search needs
 
 returns-3 : tie.Need-returns-3
 returns-3 c =
@@ -59,9 +32,6 @@ returns-4 c =
     let a = k .before .args in
     spot-ensures (a .c) (a .s .now) (a .at) (λ i. omega (arith, k .shared-slice-known .given i)) (k .before .pre) (search (needs, spot-4))
 
-nowhere-requires-3 : tie.Need-nowhere-requires-3
-nowhere-requires-3 c κs = search needs
-
 returns-5 : tie.Need-returns-5
 returns-5 c =
     let k = c .before .before .before .before .before .before .before .before .before in
@@ -72,19 +42,19 @@ pub record-at-spec : {M : Type 1} → statement M
 record-at-spec =
     tie.close
     (tie.spec
-    sub-left
-    nowhere-requires
+    (λ c. search needs)
+    (λ c κs. search needs)
     returns
-    add-wide
-    shared-slice-read-wide
-    wide-requires
-    nowhere-requires-2
+    (λ c. search needs)
+    (λ c. search needs)
+    (λ c κs. search needs)
+    (λ c κs. search needs)
     returns-2
-    named-at-requires
-    add-mode
-    shared-slice-read-mode
+    (λ c κs. search needs)
+    (λ c. search needs)
+    (λ c. search needs)
     returns-3
     full-at-requires
     returns-4
-    nowhere-requires-3
+    (λ c κs. search needs)
     returns-5)

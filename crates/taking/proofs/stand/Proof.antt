@@ -21,9 +21,6 @@ abbrev μ-loop : tie.MeasureT-loop
 loop-holds : tie.Need-loop-holds Inv-loop μ-loop
 loop-holds c = (omega arith, refl)
 
-record-at-requires : tie.Need-record-at-requires Inv-loop μ-loop
-record-at-requires c κs = omega arith
-
 returns : tie.Need-returns Inv-loop μ-loop
 returns c =
     let k = c .before .before in
@@ -42,9 +39,6 @@ returns-2 c =
     stand-2 (a .c) (a .s .now) (i .at) (i .least) (i .left) (i .inv .0) (i .inv .1) (k .before .loop-test .taken) (k .record-at .ensures .0)
     (not-false _ (c .before .before .if1 .left)) (c .if2 .taken)
 
-misplaced-requires : tie.Need-misplaced-requires Inv-loop μ-loop
-misplaced-requires c κs = search needs
-
 returns-3 : tie.Need-returns-3 Inv-loop μ-loop
 returns-3 c =
     let k = c .before .before .before .before .before .before in
@@ -53,12 +47,6 @@ returns-3 c =
     let i = l .loop in
     stand-3 (a .c) (a .s .now) (i .at) (i .least) (i .left) (i .inv .0) (i .inv .1) (k .before .loop-test .taken) (k .record-at .ensures .0)
     (not-false _ (c .before .before .before .before .if1 .left)) (c .before .before .if2 .left) (sym (c .before .misplaced .ensures) ∙ c .if3 .taken)
-
-sub-left : tie.Need-sub-left Inv-loop μ-loop
-sub-left c = omega arith
-
-loop-less : tie.Need-loop-less Inv-loop μ-loop
-loop-less c = omega arith
 
 loop-again : tie.Need-loop-again Inv-loop μ-loop
 loop-again c =
@@ -85,12 +73,12 @@ stand-spec =
     Inv-loop
     μ-loop
     loop-holds
-    record-at-requires
+    (λ c κs. omega arith)
     returns
     returns-2
-    misplaced-requires
+    (λ c κs. search needs)
     returns-3
-    sub-left
-    loop-less
+    (λ c. omega arith)
+    (λ c. omega arith)
     loop-again
     returns-4)

@@ -8,9 +8,6 @@ use Rattle.taking.proofs.take_records.Tie as tie
 returns : tie.Need-returns
 returns c = search (needs, records-1)
 
-stand-requires : tie.Need-stand-requires
-stand-requires c κs = search needs
-
 returns-2 : tie.Need-returns-2
 returns-2 c =
     let a = c .before .before .before .before in
@@ -24,4 +21,4 @@ returns-3 c =
     records-3 (a .args .c) (a .args .s .now) (a .args .count) (a .pre) (c .before .before .if1 .left) e
 
 pub take-records-spec : {M : Type 1} → statement M
-take-records-spec = tie.close (tie.spec returns stand-requires returns-2 returns-3)
+take-records-spec = tie.close (tie.spec returns (λ c κs. search needs) returns-2 returns-3)

@@ -14,23 +14,11 @@ use Rattle.texts.proofs.check_text.Tie as tie
 returns : tie.Need-returns
 returns c = let e = no-octet (c .before .before .args .s .now) (c .if1 .taken) in (e, right _ _ e)
 
-shared-slice-read-is-alnum : tie.Need-shared-slice-read-is-alnum
-shared-slice-read-is-alnum c = search needs
-
-is-alnum-requires : tie.Need-is-alnum-requires
-is-alnum-requires c κs = search needs
-
 returns-2 : tie.Need-returns-2
 returns-2 c =
     let s : List ℕ = c .before .before .before .before .before .args .s .now in
     let e = first-other s (c .before .before .before .if1 .left) (told (c .before .is-alnum .ensures) (not-true _ (c .if2 .taken))) in
     (e, right _ _ e)
-
-looked-at-requires : tie.Need-looked-at-requires
-looked-at-requires c κs = search needs
-
-after-letter-requires : tie.Need-after-letter-requires
-after-letter-requires c κs = search needs
 
 -- the walk's number is the check's
 numbered : (c : tie.After-after-letter) → c .after-letter .result ≡ placed (textCheck (c .before .before .before .before .before .before .before .before .args .s .now))
@@ -58,10 +46,10 @@ check-text-spec =
     tie.close
     (tie.spec
     returns
-    shared-slice-read-is-alnum
-    is-alnum-requires
+    (λ c. search needs)
+    (λ c κs. search needs)
     returns-2
-    looked-at-requires
-    after-letter-requires
+    (λ c κs. search needs)
+    (λ c κs. search needs)
     returns-3
     returns-4)

@@ -22,40 +22,16 @@ room : (k : tie.At-loop Inv-loop μ-loop)
     → k .before .args .at + length (k .before .args .text .now) + 2 ≤ length (set (k .before .args .out .now) (k .before .args .at + 1 + length (k .before .args .text .now)) 0)
 room k = simp length-set (omega arith)
 
-add-first : tie.Need-add-first Inv-loop μ-loop
-add-first c = omega arith
-
-add-out : tie.Need-add-out Inv-loop μ-loop
-add-out c = omega arith
-
-slice-write-out : tie.Need-slice-write-out Inv-loop μ-loop
-slice-write-out c = omega arith
-
 loop-holds : tie.Need-loop-holds Inv-loop μ-loop
 loop-holds c = (refl, wire-start (c .args .out .now) (omega arith))
 
-sub-i : tie.Need-sub-i Inv-loop μ-loop
-sub-i c = omega arith
-
-shared-slice-read-b : tie.Need-shared-slice-read-b Inv-loop μ-loop
-shared-slice-read-b c = omega arith
-
-add-out-2 : tie.Need-add-out-2 Inv-loop μ-loop
-add-out-2 c = omega arith
-
 slice-write-out-2 : tie.Need-slice-write-out-2 Inv-loop μ-loop
 slice-write-out-2 c = omega (arith, same (c .before .before .before))
-
-loop-less : tie.Need-loop-less Inv-loop μ-loop
-loop-less c = omega arith
 
 loop-again : tie.Need-loop-again Inv-loop μ-loop
 loop-again c =
     let k = c .before .before .before in
     (simp length-set (same k), wire-dot (room k) (k .loop .inv .1) (k .loop .i - 1) (omega arith) (c .if1 .taken))
-
-add-out-3 : tie.Need-add-out-3 Inv-loop μ-loop
-add-out-3 c = omega arith
 
 slice-write-out-3 : tie.Need-slice-write-out-3 Inv-loop μ-loop
 slice-write-out-3 c = omega (arith, same (c .before .before .before))
@@ -65,9 +41,6 @@ add-label c =
     let k = c .before .before .before in
     omega (arith, label-small (room k) (k .loop .inv .1))
 
-loop-less-2 : tie.Need-loop-less-2 Inv-loop μ-loop
-loop-less-2 c = omega arith
-
 loop-again-2 : tie.Need-loop-again-2 Inv-loop μ-loop
 loop-again-2 c =
     let k = c .before .before .before in
@@ -75,12 +48,6 @@ loop-again-2 c =
 
 slice-write-out-4 : tie.Need-slice-write-out-4 Inv-loop μ-loop
 slice-write-out-4 c = omega (arith, same (c .before))
-
-add-result : tie.Need-add-result Inv-loop μ-loop
-add-result c = omega arith
-
-add-result-2 : tie.Need-add-result-2 Inv-loop μ-loop
-add-result-2 c = omega arith
 
 same-length : tie.Need-same-length Inv-loop μ-loop
 same-length c = simp length-set (same (c .before))
@@ -94,23 +61,23 @@ to-wire-spec =
     (tie.spec
     Inv-loop
     μ-loop
-    add-first
-    add-out
-    slice-write-out
+    (λ c. omega arith)
+    (λ c. omega arith)
+    (λ c. omega arith)
     loop-holds
-    sub-i
-    shared-slice-read-b
-    add-out-2
+    (λ c. omega arith)
+    (λ c. omega arith)
+    (λ c. omega arith)
     slice-write-out-2
-    loop-less
+    (λ c. omega arith)
     loop-again
-    add-out-3
+    (λ c. omega arith)
     slice-write-out-3
     add-label
-    loop-less-2
+    (λ c. omega arith)
     loop-again-2
     slice-write-out-4
-    add-result
-    add-result-2
+    (λ c. omega arith)
+    (λ c. omega arith)
     same-length
     returns)

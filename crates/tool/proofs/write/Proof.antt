@@ -12,18 +12,6 @@ use Rattle.tool.proofs.write.Tie as tie
 short : (c : tie.After-write) → c .write .result .length ≤ length (c .write .last .1 .0)
 short c = omega (arith, answered-within (c .write .ensures) (c .write .kept .1 .0), c .write .kept .1 .0)
 
-slice-aggregate-write : tie.Need-slice-aggregate-write
-slice-aggregate-write c = search needs
-
-write-requires : tie.Need-write-requires
-write-requires c κs = search needs
-
-refused-requires : tie.Need-refused-requires
-refused-requires c κs = search needs
-
-returns : tie.Need-returns
-returns c = search needs
-
 array-share-prefix-octets : tie.Need-array-share-prefix-octets
 array-share-prefix-octets c = omega (arith, short (c .before .before .before .before .before))
 
@@ -33,34 +21,25 @@ slice-aggregate-print-hex c = sym (length-take-le _ _ (short (c .before .before 
 print-hex-requires : tie.Need-print-hex-requires
 print-hex-requires c κs = simp length-take (omega arith)
 
-returns-2 : tie.Need-returns-2
-returns-2 c = search needs
-
 array-share-prefix-octets-2 : tie.Need-array-share-prefix-octets-2
 array-share-prefix-octets-2 c = omega (arith, short (c .before .before .before .before .before))
 
 slice-aggregate-save : tie.Need-slice-aggregate-save
 slice-aggregate-save c = sym (length-take-le _ _ (short (c .before .before .before .before .before .before)))
 
-save-requires : tie.Need-save-requires
-save-requires c κs = search needs
-
-returns-3 : tie.Need-returns-3
-returns-3 c = search needs
-
 pub write-spec : {M : Type 1} → statement M
 write-spec =
     tie.close
     (tie.spec
-    slice-aggregate-write
-    write-requires
-    refused-requires
-    returns
+    (λ c. search needs)
+    (λ c κs. search needs)
+    (λ c κs. search needs)
+    (λ c. search needs)
     array-share-prefix-octets
     slice-aggregate-print-hex
     print-hex-requires
-    returns-2
+    (λ c. search needs)
     array-share-prefix-octets-2
     slice-aggregate-save
-    save-requires
-    returns-3)
+    (λ c κs. search needs)
+    (λ c. search needs))

@@ -8,23 +8,11 @@ use Rattle.octets.specs.OverLaws.{wrote-front}
 use Rattle.values.proofs.put_address6.Statement.{statement}
 use Rattle.values.proofs.put_address6.Tie as tie
 
-slice-aggregate-put6 : tie.Need-slice-aggregate-put6
-slice-aggregate-put6 c = search needs
-
 put6-requires : tie.Need-put6-requires
 put6-requires c κs = (search needs, let h = text6-length (c .before .before .before .args .a .now) (c .before .before .before .pre) in omega (arith, h))
 
-array-share-prefix-text : tie.Need-array-share-prefix-text
-array-share-prefix-text c = search needs
-
 slice-aggregate-put-all : tie.Need-slice-aggregate-put-all
 slice-aggregate-put-all c = simp length-take (omega arith)
-
-put-all-requires : tie.Need-put-all-requires
-put-all-requires c κs = search needs
-
-same-length : tie.Need-same-length
-same-length c = search needs
 
 returns : tie.Need-returns
 returns c =
@@ -36,10 +24,10 @@ pub put-address6-spec : {M : Type 1} → statement M
 put-address6-spec =
     tie.close
     (tie.spec
-    slice-aggregate-put6
+    (λ c. search needs)
     put6-requires
-    array-share-prefix-text
+    (λ c. search needs)
     slice-aggregate-put-all
-    put-all-requires
-    same-length
+    (λ c κs. search needs)
+    (λ c. search needs)
     returns)

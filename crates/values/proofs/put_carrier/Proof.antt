@@ -6,62 +6,11 @@ use Rattle.values.specs.Values.{carrierOf}
 use Rattle.values.proofs.put_carrier.Statement.{statement}
 use Rattle.values.proofs.put_carrier.Tie as tie
 
-enum-told : tie.Need-enum-told
-enum-told c = search needs
-
-slice-aggregate-put-all : tie.Need-slice-aggregate-put-all
-slice-aggregate-put-all c = search needs
-
-put-all-requires : tie.Need-put-all-requires
-put-all-requires c κs = search needs
-
-enum-told-2 : tie.Need-enum-told-2
-enum-told-2 c = search needs
-
-slice-aggregate-put-all-2 : tie.Need-slice-aggregate-put-all-2
-slice-aggregate-put-all-2 c = search needs
-
-put-all-requires-2 : tie.Need-put-all-requires-2
-put-all-requires-2 c κs = search needs
-
-enum-told-3 : tie.Need-enum-told-3
-enum-told-3 c = search needs
-
-slice-aggregate-put-all-3 : tie.Need-slice-aggregate-put-all-3
-slice-aggregate-put-all-3 c = search needs
-
-put-all-requires-3 : tie.Need-put-all-requires-3
-put-all-requires-3 c κs = search needs
-
-enum-told-4 : tie.Need-enum-told-4
-enum-told-4 c = search needs
-
-slice-aggregate-put-all-4 : tie.Need-slice-aggregate-put-all-4
-slice-aggregate-put-all-4 c = search needs
-
-put-all-requires-4 : tie.Need-put-all-requires-4
-put-all-requires-4 c κs = search needs
-
-enum-told-5 : tie.Need-enum-told-5
-enum-told-5 c = search needs
-
-slice-aggregate-put-all-5 : tie.Need-slice-aggregate-put-all-5
-slice-aggregate-put-all-5 c = search needs
-
-put-all-requires-5 : tie.Need-put-all-requires-5
-put-all-requires-5 c κs = search needs
-
-same-length : tie.Need-same-length
-same-length c = search needs
-
 returns : tie.Need-returns
 unfolding carrierOf
 returns c =
     let w = c .before .before in
     puts-as (sym (ap carrierOf (w .before .before .before .enum-told .given .1))) (w .put-all .ensures .1)
-
-same-length-2 : tie.Need-same-length-2
-same-length-2 c = search needs
 
 returns-2 : tie.Need-returns-2
 unfolding carrierOf
@@ -69,26 +18,17 @@ returns-2 c =
     let w = c .before .before in
     puts-as (sym (ap carrierOf (w .before .before .before .enum-told2 .given .1))) (w .put-all2 .ensures .1)
 
-same-length-3 : tie.Need-same-length-3
-same-length-3 c = search needs
-
 returns-3 : tie.Need-returns-3
 unfolding carrierOf
 returns-3 c =
     let w = c .before .before in
     puts-as (sym (ap carrierOf (w .before .before .before .enum-told3 .given .1))) (w .put-all3 .ensures .1)
 
-same-length-4 : tie.Need-same-length-4
-same-length-4 c = search needs
-
 returns-4 : tie.Need-returns-4
 unfolding carrierOf
 returns-4 c =
     let w = c .before .before in
     puts-as (sym (ap carrierOf (w .before .before .before .enum-told4 .given .1))) (w .put-all4 .ensures .1)
-
-same-length-5 : tie.Need-same-length-5
-same-length-5 c = search needs
 
 returns-5 : tie.Need-returns-5
 unfolding carrierOf
@@ -100,28 +40,28 @@ pub put-carrier-spec : {M : Type 1} → statement M
 put-carrier-spec =
     tie.close
     (tie.spec
-    enum-told
-    slice-aggregate-put-all
-    put-all-requires
-    enum-told-2
-    slice-aggregate-put-all-2
-    put-all-requires-2
-    enum-told-3
-    slice-aggregate-put-all-3
-    put-all-requires-3
-    enum-told-4
-    slice-aggregate-put-all-4
-    put-all-requires-4
-    enum-told-5
-    slice-aggregate-put-all-5
-    put-all-requires-5
-    same-length
+    (λ c. search needs)
+    (λ c. search needs)
+    (λ c κs. search needs)
+    (λ c. search needs)
+    (λ c. search needs)
+    (λ c κs. search needs)
+    (λ c. search needs)
+    (λ c. search needs)
+    (λ c κs. search needs)
+    (λ c. search needs)
+    (λ c. search needs)
+    (λ c κs. search needs)
+    (λ c. search needs)
+    (λ c. search needs)
+    (λ c κs. search needs)
+    (λ c. search needs)
     returns
-    same-length-2
+    (λ c. search needs)
     returns-2
-    same-length-3
+    (λ c. search needs)
     returns-3
-    same-length-4
+    (λ c. search needs)
     returns-4
-    same-length-5
+    (λ c. search needs)
     returns-5)

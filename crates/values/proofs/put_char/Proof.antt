@@ -8,15 +8,6 @@ use Rattle.values.specs.ValueLaws.{char-text, char-plain}
 use Rattle.values.proofs.put_char.Statement.{statement}
 use Rattle.values.proofs.put_char.Tie as tie
 
-slice-aggregate-put-all : tie.Need-slice-aggregate-put-all
-slice-aggregate-put-all c = search needs
-
-put-all-requires : tie.Need-put-all-requires
-put-all-requires c κs = search needs
-
-same-length : tie.Need-same-length
-same-length c = search needs
-
 returns : tie.Need-returns
 unfolding charOf
 returns c =
@@ -24,27 +15,12 @@ returns c =
     let t = w .before .before .before in
     puts-as (ap₂ charOf (sym (t .before .if1 .taken)) (sym (t .if2 .taken))) (w .put-all .ensures .1)
 
-slice-aggregate-put-all-2 : tie.Need-slice-aggregate-put-all-2
-slice-aggregate-put-all-2 c = search needs
-
-put-all-requires-2 : tie.Need-put-all-requires-2
-put-all-requires-2 c κs = search needs
-
-same-length-2 : tie.Need-same-length-2
-same-length-2 c = search needs
-
 returns-2 : tie.Need-returns-2
 unfolding charOf
 returns-2 c =
     let w = c .before .before in
     let t = w .before .before .before in
     puts-as (ap₂ charOf (sym (t .before .before .if1 .taken)) (sym (t .if3 .taken))) (w .put-all2 .ensures .1)
-
-put-requires : tie.Need-put-requires
-put-requires c κs = search needs
-
-same-length-3 : tie.Need-same-length-3
-same-length-3 c = search needs
 
 returns-3 : tie.Need-returns-3
 returns-3 c =
@@ -57,14 +33,14 @@ pub put-char-spec : {M : Type 1} → statement M
 put-char-spec =
     tie.close
     (tie.spec
-    slice-aggregate-put-all
-    put-all-requires
-    same-length
+    (λ c. search needs)
+    (λ c κs. search needs)
+    (λ c. search needs)
     returns
-    slice-aggregate-put-all-2
-    put-all-requires-2
-    same-length-2
+    (λ c. search needs)
+    (λ c κs. search needs)
+    (λ c. search needs)
     returns-2
-    put-requires
-    same-length-3
+    (λ c κs. search needs)
+    (λ c. search needs)
     returns-3)

@@ -7,17 +7,8 @@ use Rattle.values.specs.ValueLaws.{when-true, when-false}
 use Rattle.values.proofs.put_comma.Statement.{statement}
 use Rattle.values.proofs.put_comma.Tie as tie
 
-least-requires : tie.Need-least-requires
-least-requires c κs = search needs
-
 returns : tie.Need-returns
 returns c = puts-as (when-true [] (comma ∷ []) (c .before .if1 .taken)) (puts-none _ _ (c .least .ensures))
-
-put-requires : tie.Need-put-requires
-put-requires c κs = search needs
-
-same-length : tie.Need-same-length
-same-length c = search needs
 
 returns-2 : tie.Need-returns-2
 returns-2 c =
@@ -25,4 +16,4 @@ returns-2 c =
     puts-as (when-false [] (comma ∷ []) (w .before .before .if1 .left)) (w .put .ensures .1)
 
 pub put-comma-spec : {M : Type 1} → statement M
-put-comma-spec = tie.close (tie.spec least-requires returns put-requires same-length returns-2)
+put-comma-spec = tie.close (tie.spec (λ c κs. search needs) returns (λ c κs. search needs) (λ c. search needs) returns-2)

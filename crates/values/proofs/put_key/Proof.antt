@@ -7,29 +7,11 @@ use Rattle.values.specs.ValueLaws.{key-number}
 use Rattle.values.proofs.put_key.Statement.{statement}
 use Rattle.values.proofs.put_key.Tie as tie
 
-slice-aggregate-put-all : tie.Need-slice-aggregate-put-all
-slice-aggregate-put-all c = search needs
-
-put-all-requires : tie.Need-put-all-requires
-put-all-requires c κs = search needs
-
-same-length : tie.Need-same-length
-same-length c = search needs
-
 returns : tie.Need-returns
 unfolding keyOf
 returns c =
     let w = c .before .before in
     (w .put-all .ensures .0, puts-as (ap keyOf (sym (w .before .before .before .if1 .taken))) (w .put-all .ensures .1))
-
-slice-aggregate-put-all-2 : tie.Need-slice-aggregate-put-all-2
-slice-aggregate-put-all-2 c = search needs
-
-put-all-requires-2 : tie.Need-put-all-requires-2
-put-all-requires-2 c κs = search needs
-
-same-length-2 : tie.Need-same-length-2
-same-length-2 c = search needs
 
 returns-2 : tie.Need-returns-2
 unfolding keyOf
@@ -37,29 +19,11 @@ returns-2 c =
     let w = c .before .before in
     (w .put-all2 .ensures .0, puts-as (ap keyOf (sym (w .before .before .before .if2 .taken))) (w .put-all2 .ensures .1))
 
-slice-aggregate-put-all-3 : tie.Need-slice-aggregate-put-all-3
-slice-aggregate-put-all-3 c = search needs
-
-put-all-requires-3 : tie.Need-put-all-requires-3
-put-all-requires-3 c κs = search needs
-
-same-length-3 : tie.Need-same-length-3
-same-length-3 c = search needs
-
 returns-3 : tie.Need-returns-3
 unfolding keyOf
 returns-3 c =
     let w = c .before .before in
     (w .put-all3 .ensures .0, puts-as (ap keyOf (sym (w .before .before .before .if3 .taken))) (w .put-all3 .ensures .1))
-
-slice-aggregate-put-all-4 : tie.Need-slice-aggregate-put-all-4
-slice-aggregate-put-all-4 c = search needs
-
-put-all-requires-4 : tie.Need-put-all-requires-4
-put-all-requires-4 c κs = search needs
-
-same-length-4 : tie.Need-same-length-4
-same-length-4 c = search needs
 
 returns-4 : tie.Need-returns-4
 unfolding keyOf
@@ -67,32 +31,11 @@ returns-4 c =
     let w = c .before .before in
     (w .put-all4 .ensures .0, puts-as (ap keyOf (sym (w .before .before .before .if4 .taken))) (w .put-all4 .ensures .1))
 
-slice-aggregate-put-all-5 : tie.Need-slice-aggregate-put-all-5
-slice-aggregate-put-all-5 c = search needs
-
-put-all-requires-5 : tie.Need-put-all-requires-5
-put-all-requires-5 c κs = search needs
-
-same-length-5 : tie.Need-same-length-5
-same-length-5 c = search needs
-
 returns-5 : tie.Need-returns-5
 unfolding keyOf
 returns-5 c =
     let w = c .before .before in
     (w .put-all5 .ensures .0, puts-as (ap keyOf (sym (w .before .before .before .if5 .taken))) (w .put-all5 .ensures .1))
-
-slice-aggregate-put-all-6 : tie.Need-slice-aggregate-put-all-6
-slice-aggregate-put-all-6 c = search needs
-
-put-all-requires-6 : tie.Need-put-all-requires-6
-put-all-requires-6 c κs = search needs
-
-put-number-requires : tie.Need-put-number-requires
-put-number-requires c κs = search needs
-
-same-length-6 : tie.Need-same-length-6
-same-length-6 c = search needs
 
 returns-6 : tie.Need-returns-6
 returns-6 c =
@@ -112,28 +55,28 @@ pub put-key-spec : {M : Type 1} → statement M
 put-key-spec =
     tie.close
     (tie.spec
-    slice-aggregate-put-all
-    put-all-requires
-    same-length
+    (λ c. search needs)
+    (λ c κs. search needs)
+    (λ c. search needs)
     returns
-    slice-aggregate-put-all-2
-    put-all-requires-2
-    same-length-2
+    (λ c. search needs)
+    (λ c κs. search needs)
+    (λ c. search needs)
     returns-2
-    slice-aggregate-put-all-3
-    put-all-requires-3
-    same-length-3
+    (λ c. search needs)
+    (λ c κs. search needs)
+    (λ c. search needs)
     returns-3
-    slice-aggregate-put-all-4
-    put-all-requires-4
-    same-length-4
+    (λ c. search needs)
+    (λ c κs. search needs)
+    (λ c. search needs)
     returns-4
-    slice-aggregate-put-all-5
-    put-all-requires-5
-    same-length-5
+    (λ c. search needs)
+    (λ c κs. search needs)
+    (λ c. search needs)
     returns-5
-    slice-aggregate-put-all-6
-    put-all-requires-6
-    put-number-requires
-    same-length-6
+    (λ c. search needs)
+    (λ c κs. search needs)
+    (λ c κs. search needs)
+    (λ c. search needs)
     returns-6)

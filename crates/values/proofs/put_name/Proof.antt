@@ -9,29 +9,11 @@ use Rattle.values.specs.StringLaws.{name-short, name-long}
 use Rattle.values.proofs.put_name.Statement.{statement}
 use Rattle.values.proofs.put_name.Tie as tie
 
-least-requires : tie.Need-least-requires
-least-requires c κs = search needs
-
 returns : tie.Need-returns
 returns c = puts-as (name-short _ (c .before .if1 .taken)) (puts-none _ _ (c .least .ensures))
 
-slice-aggregate-to-text : tie.Need-slice-aggregate-to-text
-slice-aggregate-to-text c = search needs
-
-to-text-requires : tie.Need-to-text-requires
-to-text-requires c κs = search needs
-
-array-share-prefix-text : tie.Need-array-share-prefix-text
-array-share-prefix-text c = search needs
-
 slice-aggregate-put-all : tie.Need-slice-aggregate-put-all
 slice-aggregate-put-all c = simp length-take (omega arith)
-
-put-all-requires : tie.Need-put-all-requires
-put-all-requires c κs = search needs
-
-same-length : tie.Need-same-length
-same-length c = search needs
 
 returns-2 : tie.Need-returns-2
 returns-2 c =
@@ -43,12 +25,12 @@ pub put-name-spec : {M : Type 1} → statement M
 put-name-spec =
     tie.close
     (tie.spec
-    least-requires
+    (λ c κs. search needs)
     returns
-    slice-aggregate-to-text
-    to-text-requires
-    array-share-prefix-text
+    (λ c. search needs)
+    (λ c κs. search needs)
+    (λ c. search needs)
     slice-aggregate-put-all
-    put-all-requires
-    same-length
+    (λ c κs. search needs)
+    (λ c. search needs)
     returns-2)

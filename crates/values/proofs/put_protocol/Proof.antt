@@ -5,21 +5,6 @@ use Rattle.values.specs.ListLaws.{puts-quoted}
 use Rattle.values.proofs.put_protocol.Statement.{statement}
 use Rattle.values.proofs.put_protocol.Tie as tie
 
-put-comma-requires : tie.Need-put-comma-requires
-put-comma-requires c κs = search needs
-
-put-quote-requires : tie.Need-put-quote-requires
-put-quote-requires c κs = search needs
-
-put-value-requires : tie.Need-put-value-requires
-put-value-requires c κs = search needs
-
-put-quote-requires-2 : tie.Need-put-quote-requires-2
-put-quote-requires-2 c κs = search needs
-
-same-length : tie.Need-same-length
-same-length c = search needs
-
 returns : tie.Need-returns
 returns c =
     let e = c .before .before in
@@ -32,9 +17,9 @@ pub put-protocol-spec : {M : Type 1} → statement M
 put-protocol-spec =
     tie.close
     (tie.spec
-    put-comma-requires
-    put-quote-requires
-    put-value-requires
-    put-quote-requires-2
-    same-length
+    (λ c κs. search needs)
+    (λ c κs. search needs)
+    (λ c κs. search needs)
+    (λ c κs. search needs)
+    (λ c. search needs)
     returns)

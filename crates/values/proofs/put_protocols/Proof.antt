@@ -15,26 +15,8 @@ Inv-loop out₀ at json s o₀ i₀ out o i = (i ≤ length s) × (length out �
 abbrev μ-loop : tie.MeasureT-loop
 μ-loop out₀ at json s o₀ i₀ out o i = length s - i
 
-least-requires : tie.Need-least-requires Inv-loop μ-loop
-least-requires c κs = search needs
-
 loop-holds : tie.Need-loop-holds Inv-loop μ-loop
 loop-holds c = (omega arith, refl, walked-none _ _ (puts-none _ _ (c .least .ensures)))
-
-add-start : tie.Need-add-start Inv-loop μ-loop
-add-start c = omega arith
-
-shared-slice-read-wide : tie.Need-shared-slice-read-wide Inv-loop μ-loop
-shared-slice-read-wide c = omega arith
-
-wide-requires : tie.Need-wide-requires Inv-loop μ-loop
-wide-requires c κs = search needs
-
-sub-if1 : tie.Need-sub-if1 Inv-loop μ-loop
-sub-if1 c = omega arith
-
-same-length : tie.Need-same-length Inv-loop μ-loop
-same-length c = search needs
 
 returns : tie.Need-returns Inv-loop μ-loop
 returns c =
@@ -42,33 +24,12 @@ returns c =
     let l = v .before .before .before in
     walked-done _ _ (l .loop .inv .2) (strings-short _ (l .loop .i) (omega arith) (v .wide .ensures .0) (c .if1 .taken))
 
-add-end : tie.Need-add-end Inv-loop μ-loop
-add-end c = omega arith
-
-sub-put-protocol : tie.Need-sub-put-protocol Inv-loop μ-loop
-sub-put-protocol c = omega arith
-
-part-put-protocol-start : tie.Need-part-put-protocol-start Inv-loop μ-loop
-part-put-protocol-start c = omega arith
-
-part-put-protocol-end : tie.Need-part-put-protocol-end Inv-loop μ-loop
-part-put-protocol-end c = omega arith
-
-put-protocol-requires : tie.Need-put-protocol-requires Inv-loop μ-loop
-put-protocol-requires c κs = search needs
-
-loop-less : tie.Need-loop-less Inv-loop μ-loop
-loop-less c = omega arith
-
 loop-again : tie.Need-loop-again Inv-loop μ-loop
 loop-again c =
     let w = c .before .before in
     let v = w .before .before .before .before in
     let l = v .before .before .before in
     (omega arith, omega arith, walked-next _ _ (l .loop .inv .2) (v .before .before .loop-test .taken) (v .wide .ensures .0) (w .before .before .before .if1 .left) (w .put-protocol .ensures))
-
-same-length-2 : tie.Need-same-length-2 Inv-loop μ-loop
-same-length-2 c = search needs
 
 returns-2 : tie.Need-returns-2 Inv-loop μ-loop
 returns-2 c =
@@ -81,20 +42,20 @@ put-protocols-spec =
     (tie.spec
     Inv-loop
     μ-loop
-    least-requires
+    (λ c κs. search needs)
     loop-holds
-    add-start
-    shared-slice-read-wide
-    wide-requires
-    sub-if1
-    same-length
+    (λ c. omega arith)
+    (λ c. omega arith)
+    (λ c κs. search needs)
+    (λ c. omega arith)
+    (λ c. search needs)
     returns
-    add-end
-    sub-put-protocol
-    part-put-protocol-start
-    part-put-protocol-end
-    put-protocol-requires
-    loop-less
+    (λ c. omega arith)
+    (λ c. omega arith)
+    (λ c. omega arith)
+    (λ c. omega arith)
+    (λ c κs. search needs)
+    (λ c. omega arith)
     loop-again
-    same-length-2
+    (λ c. search needs)
     returns-2)

@@ -7,22 +7,13 @@ use Rattle.values.specs.ValueLaws.{when-true, when-false}
 use Rattle.values.proofs.put_quote.Statement.{statement}
 use Rattle.values.proofs.put_quote.Tie as tie
 
-put-requires : tie.Need-put-requires
-put-requires c κs = search needs
-
-same-length : tie.Need-same-length
-same-length c = search needs
-
 returns : tie.Need-returns
 returns c =
     let w = c .before .before in
     puts-as (when-true (quotation ∷ []) [] (w .before .before .if1 .taken)) (w .put .ensures .1)
 
-least-requires : tie.Need-least-requires
-least-requires c κs = search needs
-
 returns-2 : tie.Need-returns-2
 returns-2 c = puts-as (when-false (quotation ∷ []) [] (c .before .if1 .left)) (puts-none _ _ (c .least .ensures))
 
 pub put-quote-spec : {M : Type 1} → statement M
-put-quote-spec = tie.close (tie.spec put-requires same-length returns least-requires returns-2)
+put-quote-spec = tie.close (tie.spec (λ c κs. search needs) (λ c. search needs) returns (λ c κs. search needs) returns-2)

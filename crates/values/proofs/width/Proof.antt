@@ -4,11 +4,8 @@ use Rattle.judge.specs.JudgeLaws.{carrier-width}
 use Rattle.values.proofs.width.Statement.{statement}
 use Rattle.values.proofs.width.Tie as tie
 
-address-width-requires : tie.Need-address-width-requires
-address-width-requires c κs = search needs
-
 returns : tie.Need-returns
 returns c = (rw (c .address-width .ensures) (carrier-width (c .before .args .c)), c .address-width .ensures)
 
 pub width-spec : {M : Type 1} → statement M
-width-spec = tie.close (tie.spec address-width-requires returns)
+width-spec = tie.close (tie.spec (λ c κs. search needs) returns)

@@ -20,41 +20,23 @@ kept-short w s =
     let l = ap (λ (x : ℕ). x * w) (list-length w s) in
     omega (arith, div-mul-le-self (length s) w)
 
-buffer-requires : tie.Need-buffer-requires
-buffer-requires c κs = search needs
-
-slice-aggregate-put-kept : tie.Need-slice-aggregate-put-kept
-slice-aggregate-put-kept c = search needs
-
 put-kept-requires : tie.Need-put-kept-requires
 put-kept-requires c κs =
     let a = c .before .before .before .before .args in
     (search needs, omega (arith, kept-short (a .w) (a .s .now)))
 
-array-share-prefix-kept : tie.Need-array-share-prefix-kept
-array-share-prefix-kept c = search needs
-
 slice-aggregate-put-hex : tie.Need-slice-aggregate-put-hex
 slice-aggregate-put-hex c = simp length-take (omega arith)
-
-put-hex-requires : tie.Need-put-hex-requires
-put-hex-requires c κs = search needs
-
-same-length : tie.Need-same-length
-same-length c = search needs
-
-returns : tie.Need-returns
-returns c = search needs
 
 pub put-kept-spec : {M : Type 1} → statement M
 put-kept-spec =
     tie.close
     (tie.spec
-    buffer-requires
-    slice-aggregate-put-kept
+    (λ c κs. search needs)
+    (λ c. search needs)
     put-kept-requires
-    array-share-prefix-kept
+    (λ c. search needs)
     slice-aggregate-put-hex
-    put-hex-requires
-    same-length
-    returns)
+    (λ c κs. search needs)
+    (λ c. search needs)
+    (λ c. search needs))

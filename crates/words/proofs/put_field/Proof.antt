@@ -5,21 +5,6 @@ use borrow.Author.Needs.{needs}
 use Rattle.words.proofs.put_field.Statement.{statement}
 use Rattle.words.proofs.put_field.Tie as tie
 
-slice-aggregate-put-all : tie.Need-slice-aggregate-put-all
-slice-aggregate-put-all c = search needs
-
-put-all-requires : tie.Need-put-all-requires
-put-all-requires c κs = search needs
-
-slice-aggregate-put-all-2 : tie.Need-slice-aggregate-put-all-2
-slice-aggregate-put-all-2 c = search needs
-
-put-all-requires-2 : tie.Need-put-all-requires-2
-put-all-requires-2 c κs = search needs
-
-same-length : tie.Need-same-length
-same-length c = search needs
-
 returns : tie.Need-returns
 unfolding wordsIn table
 returns c = let w = c .before .before in puts-then (w .before .before .before .before .before .put-all .ensures .1) (w .put-all2 .ensures .1)
@@ -28,9 +13,9 @@ pub put-field-spec : {M : Type 1} → statement M
 put-field-spec =
     tie.close
     (tie.spec
-    slice-aggregate-put-all
-    put-all-requires
-    slice-aggregate-put-all-2
-    put-all-requires-2
-    same-length
+    (λ c. search needs)
+    (λ c κs. search needs)
+    (λ c. search needs)
+    (λ c κs. search needs)
+    (λ c. search needs)
     returns)

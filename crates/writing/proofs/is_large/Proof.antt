@@ -13,9 +13,6 @@ other : (c : tie.At-match-keys2) → c .before .args .c ≡ Router → ⊥
 other c e =
     ⊎-elim (λ q. omega arith) (⊎-elim (λ q. omega arith) (⊎-elim (λ q. omega arith) (λ q. omega arith))) (rw e at (c .match .keys2))
 
-enum-told : tie.Need-enum-told
-enum-told c = search needs
-
 returns : tie.Need-returns
 returns c = rw (c .enum-told .given .1) refl
 
@@ -23,4 +20,4 @@ returns-2 : tie.Need-returns-2
 returns-2 c = sym (other-limit (c .before .args .c) (c .before .args .size) (other c))
 
 pub is-large-spec : {M : Type 1} → statement M
-is-large-spec = tie.close (tie.spec enum-told returns returns-2)
+is-large-spec = tie.close (tie.spec (λ c. search needs) returns returns-2)

@@ -4,18 +4,6 @@ use borrow.Author.Needs.{needs}
 use Rattle.writing.proofs.put_joined.Statement.{statement}
 use Rattle.writing.proofs.put_joined.Tie as tie
 
-sub-from : tie.Need-sub-from
-sub-from c = search needs
-
-put-stream-requires : tie.Need-put-stream-requires
-put-stream-requires c κs = search needs
-
-cut-within-requires : tie.Need-cut-within-requires
-cut-within-requires c κs = search needs
-
-same-length : tie.Need-same-length
-same-length c = search needs
-
 returns : tie.Need-returns
 returns c =
     let k = c .before .before in
@@ -24,4 +12,4 @@ returns c =
 
 pub put-joined-spec : {M : Type 1} → statement M
 put-joined-spec =
-    tie.close (tie.spec sub-from put-stream-requires cut-within-requires same-length returns)
+    tie.close (tie.spec (λ c. search needs) (λ c κs. search needs) (λ c κs. search needs) (λ c. search needs) returns)

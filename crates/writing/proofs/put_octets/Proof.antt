@@ -17,9 +17,6 @@ other : (c : tie.At-match-keys2) → start (c .before) .args .c ≡ Dhcp4 → �
 other c e =
     ⊎-elim (λ q. omega arith) (⊎-elim (λ q. omega arith) (⊎-elim (λ q. omega arith) (λ q. omega arith))) (rw e at (c .match .keys2))
 
-enum-told : tie.Need-enum-told
-enum-told c = search needs
-
 put-joined-requires : tie.Need-put-joined-requires
 put-joined-requires c κs =
     let t = c .before in
@@ -32,17 +29,11 @@ put-stream-requires c κs =
     let s = start (k .before) in
     (s .pre .0, stream-room (s .args .c) (other k) (s .pre .1))
 
-same-length : tie.Need-same-length
-same-length c = search needs
-
 returns : tie.Need-returns
 returns c =
     let j = c .before .before in
     let t = j .before .before in
     rw (t .enum-told .given .1) (j .put-joined .ensures)
-
-same-length-2 : tie.Need-same-length-2
-same-length-2 c = search needs
 
 returns-2 : tie.Need-returns-2
 returns-2 c =
@@ -55,10 +46,10 @@ pub put-octets-spec : {M : Type 1} → statement M
 put-octets-spec =
     tie.close
     (tie.spec
-    enum-told
+    (λ c. search needs)
     put-joined-requires
     put-stream-requires
-    same-length
+    (λ c. search needs)
     returns
-    same-length-2
+    (λ c. search needs)
     returns-2)

@@ -16,45 +16,6 @@ other : (c : tie.At-match-keys2) → start (c .before) .args .c ≡ Dhcp4 → �
 other c e =
     ⊎-elim (λ q. omega arith) (⊎-elim (λ q. omega arith) (⊎-elim (λ q. omega arith) (λ q. omega arith))) (rw e at (c .match .keys2))
 
-add-name-end : tie.Need-add-name-end
-add-name-end c = search needs
-
-add-addresses-end : tie.Need-add-addresses-end
-add-addresses-end c = search needs
-
-add-parameters-end : tie.Need-add-parameters-end
-add-parameters-end c = search needs
-
-sub-name : tie.Need-sub-name
-sub-name c = search needs
-
-part-name-start : tie.Need-part-name-start
-part-name-start c = search needs
-
-part-name-end : tie.Need-part-name-end
-part-name-end c = search needs
-
-sub-addresses : tie.Need-sub-addresses
-sub-addresses c = search needs
-
-part-addresses-start : tie.Need-part-addresses-start
-part-addresses-start c = search needs
-
-part-addresses-end : tie.Need-part-addresses-end
-part-addresses-end c = search needs
-
-sub-parameters : tie.Need-sub-parameters
-sub-parameters c = search needs
-
-part-parameters-start : tie.Need-part-parameters-start
-part-parameters-start c = search needs
-
-part-parameters-end : tie.Need-part-parameters-end
-part-parameters-end c = search needs
-
-enum-told : tie.Need-enum-told
-enum-told c = search needs
-
 put-instance-requires : tie.Need-put-instance-requires
 put-instance-requires c κs =
     let t = c .before in
@@ -69,9 +30,6 @@ put-option-requires c κs =
     let a = s .args in
     option-asked (a .c) (a .s .now) (a .p) (s .pre .1 .0) (other k) (a .at) (s .pre .1 .1)
 
-same-length : tie.Need-same-length
-same-length c = search needs
-
 returns : tie.Need-returns
 returns c =
     let i = c .before .before in
@@ -79,9 +37,6 @@ returns c =
     let s = start (t .before .before) in
     let a = s .args in
     instance-laid (a .c) (a .s .now) (a .p) (s .pre .1 .0) (t .enum-told .given .1) (i .put-instance .ensures)
-
-same-length-2 : tie.Need-same-length-2
-same-length-2 c = search needs
 
 returns-2 : tie.Need-returns-2
 returns-2 c =
@@ -95,22 +50,22 @@ pub put-record-spec : {M : Type 1} → statement M
 put-record-spec =
     tie.close
     (tie.spec
-    add-name-end
-    add-addresses-end
-    add-parameters-end
-    sub-name
-    part-name-start
-    part-name-end
-    sub-addresses
-    part-addresses-start
-    part-addresses-end
-    sub-parameters
-    part-parameters-start
-    part-parameters-end
-    enum-told
+    (λ c. search needs)
+    (λ c. search needs)
+    (λ c. search needs)
+    (λ c. search needs)
+    (λ c. search needs)
+    (λ c. search needs)
+    (λ c. search needs)
+    (λ c. search needs)
+    (λ c. search needs)
+    (λ c. search needs)
+    (λ c. search needs)
+    (λ c. search needs)
+    (λ c. search needs)
     put-instance-requires
     put-option-requires
-    same-length
+    (λ c. search needs)
     returns
-    same-length-2
+    (λ c. search needs)
     returns-2)

@@ -13,15 +13,6 @@ other : (c : tie.At-match-keys2) → c .before .args .c ≡ Dhcp4 → ⊥
 other c e =
     ⊎-elim (λ q. omega arith) (⊎-elim (λ q. omega arith) (⊎-elim (λ q. omega arith) (λ q. omega arith))) (rw e at (c .match .keys2))
 
-enum-told : tie.Need-enum-told
-enum-told c = search needs
-
-instance-size-requires : tie.Need-instance-size-requires
-instance-size-requires c κs = search needs
-
-option-size-requires : tie.Need-option-size-requires
-option-size-requires c κs = search needs
-
 returns : tie.Need-returns
 returns c = rw (c .before .enum-told .given .1) (c .instance-size .ensures .0)
 
@@ -30,4 +21,4 @@ returns-2 c = c .option-size .ensures .0 ∙ other-size (c .before .before .args
 
 pub share-size-spec : {M : Type 1} → statement M
 share-size-spec =
-    tie.close (tie.spec enum-told instance-size-requires option-size-requires returns returns-2)
+    tie.close (tie.spec (λ c. search needs) (λ c κs. search needs) (λ c κs. search needs) returns returns-2)

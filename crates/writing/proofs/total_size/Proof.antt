@@ -13,12 +13,6 @@ other : (c : tie.At-match-keys2) → c .before .args .c ≡ Dhcp4 → ⊥
 other c e =
     ⊎-elim (λ q. omega arith) (⊎-elim (λ q. omega arith) (⊎-elim (λ q. omega arith) (λ q. omega arith))) (rw e at (c .match .keys2))
 
-enum-told : tie.Need-enum-told
-enum-told c = search needs
-
-cut-size-requires : tie.Need-cut-size-requires
-cut-size-requires c κs = search needs
-
 returns : tie.Need-returns
 returns c = rw (c .before .enum-told .given .1) (c .cut-size .ensures)
 
@@ -26,4 +20,4 @@ returns-2 : tie.Need-returns-2
 returns-2 c = sym (other-total (c .before .args .c) (other c) (c .before .args .size))
 
 pub total-size-spec : {M : Type 1} → statement M
-total-size-spec = tie.close (tie.spec enum-told cut-size-requires returns returns-2)
+total-size-spec = tie.close (tie.spec (λ c. search needs) (λ c κs. search needs) returns returns-2)

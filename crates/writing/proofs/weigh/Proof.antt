@@ -33,18 +33,12 @@ weigh-record-requires c κs =
     let h = c .before .loop-test .taken in
     (inside-any (weighing-inside i e h), weighing-fits i e h)
 
-faulty-requires : tie.Need-faulty-requires Inv-loop μ-loop
-faulty-requires c κs = search needs
-
 returns : tie.Need-returns Inv-loop μ-loop
 returns c =
     let w = c .before .before in
     let p = w .before in
     weighing-faulty (p .before .before .loop .inv) (p .record-at .ensures .0) (p .before .loop-test .taken) (w .weigh-record .ensures) (c .before .if1 .taken)
     (c .faulty .ensures .0) (c .faulty .ensures .1)
-
-either-requires : tie.Need-either-requires Inv-loop μ-loop
-either-requires c κs = search needs
 
 add-size : tie.Need-add-size Inv-loop μ-loop
 add-size c =
@@ -75,9 +69,9 @@ weigh-spec =
     loop-holds
     record-at-requires
     weigh-record-requires
-    faulty-requires
+    (λ c κs. search needs)
     returns
-    either-requires
+    (λ c κs. search needs)
     add-size
     loop-less
     loop-again

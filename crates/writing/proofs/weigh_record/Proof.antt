@@ -9,48 +9,6 @@ use Rattle.writing.proofs.weigh_record.Tie as tie
 abbrev start : tie.After-judge-fields → tie.Start
 start c = c .before .before .before .before .before .before .before .before
 
-add-name-end : tie.Need-add-name-end
-add-name-end c = search needs
-
-add-addresses-end : tie.Need-add-addresses-end
-add-addresses-end c = search needs
-
-add-parameters-end : tie.Need-add-parameters-end
-add-parameters-end c = search needs
-
-sub-judge-fields : tie.Need-sub-judge-fields
-sub-judge-fields c = search needs
-
-part-judge-fields-start : tie.Need-part-judge-fields-start
-part-judge-fields-start c = search needs
-
-part-judge-fields-end : tie.Need-part-judge-fields-end
-part-judge-fields-end c = search needs
-
-sub-judge-fields-2 : tie.Need-sub-judge-fields-2
-sub-judge-fields-2 c = search needs
-
-part-judge-fields-start-2 : tie.Need-part-judge-fields-start-2
-part-judge-fields-start-2 c = search needs
-
-part-judge-fields-end-2 : tie.Need-part-judge-fields-end-2
-part-judge-fields-end-2 c = search needs
-
-sub-judge-fields-3 : tie.Need-sub-judge-fields-3
-sub-judge-fields-3 c = search needs
-
-part-judge-fields-start-3 : tie.Need-part-judge-fields-start-3
-part-judge-fields-start-3 c = search needs
-
-part-judge-fields-end-3 : tie.Need-part-judge-fields-end-3
-part-judge-fields-end-3 c = search needs
-
-judge-fields-requires : tie.Need-judge-fields-requires
-judge-fields-requires c κs = search needs
-
-faulty-requires : tie.Need-faulty-requires
-faulty-requires c κs = search needs
-
 returns : tie.Need-returns
 returns c =
     let j = c .before .before in
@@ -65,9 +23,6 @@ share-size-requires c κs =
     let l = light-at (a .s .now) (a .p) (start j .pre .0) (a .c) (start j .pre .1) e in
     (l .some, omega (arith, l))
 
-is-large-requires : tie.Need-is-large-requires
-is-large-requires c κs = search needs
-
 returns-2 : tie.Need-returns-2
 returns-2 c =
     let k = c .before in
@@ -80,21 +35,21 @@ pub weigh-record-spec : {M : Type 1} → statement M
 weigh-record-spec =
     tie.close
     (tie.spec
-    add-name-end
-    add-addresses-end
-    add-parameters-end
-    sub-judge-fields
-    part-judge-fields-start
-    part-judge-fields-end
-    sub-judge-fields-2
-    part-judge-fields-start-2
-    part-judge-fields-end-2
-    sub-judge-fields-3
-    part-judge-fields-start-3
-    part-judge-fields-end-3
-    judge-fields-requires
-    faulty-requires
+    (λ c. search needs)
+    (λ c. search needs)
+    (λ c. search needs)
+    (λ c. search needs)
+    (λ c. search needs)
+    (λ c. search needs)
+    (λ c. search needs)
+    (λ c. search needs)
+    (λ c. search needs)
+    (λ c. search needs)
+    (λ c. search needs)
+    (λ c. search needs)
+    (λ c κs. search needs)
+    (λ c κs. search needs)
     returns
     share-size-requires
-    is-large-requires
+    (λ c κs. search needs)
     returns-2)

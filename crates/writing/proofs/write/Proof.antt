@@ -5,18 +5,6 @@ use borrow.Author.Needs.{needs}
 use Rattle.writing.proofs.write.Statement.{statement}
 use Rattle.writing.proofs.write.Tie as tie
 
-take-requires : tie.Need-take-requires
-take-requires c κs = search needs
-
-enum-known-k : tie.Need-enum-known-k
-enum-known-k c = search needs
-
-refused-requires : tie.Need-refused-requires
-refused-requires c κs = search needs
-
-enum-known-carrier : tie.Need-enum-known-carrier
-enum-known-carrier c = search needs
-
 write-sheet-requires : tie.Need-write-sheet-requires
 write-sheet-requires c κs =
     let k = c .before .before in
@@ -30,9 +18,6 @@ returns c =
     let a = write-refused (t .before .before .before .args .s .now) _ (sym (k .k .given .1) ∙ t .take .ensures) in
     gives-as (a .0) (c .refused .ensures _ (a .1))
 
-same-length : tie.Need-same-length
-same-length c = search needs
-
 returns-2 : tie.Need-returns-2
 returns-2 c =
     let w = c .before .before in
@@ -44,11 +29,11 @@ pub write-spec : {M : Type 1} → statement M
 write-spec =
     tie.close
     (tie.spec
-    take-requires
-    enum-known-k
-    refused-requires
-    enum-known-carrier
+    (λ c κs. search needs)
+    (λ c. search needs)
+    (λ c κs. search needs)
+    (λ c. search needs)
     write-sheet-requires
     returns
-    same-length
+    (λ c. search needs)
     returns-2)

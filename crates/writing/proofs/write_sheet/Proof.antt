@@ -7,31 +7,16 @@ use borrow.Author.Needs.{needs}
 use Rattle.writing.proofs.write_sheet.Statement.{statement}
 use Rattle.writing.proofs.write_sheet.Tie as tie
 
-weigh-requires : tie.Need-weigh-requires
-weigh-requires c κs = search needs
-
-refused-requires : tie.Need-refused-requires
-refused-requires c κs = search needs
-
 returns : tie.Need-returns
 returns c =
     let w = c .before .before in
     gives-as (records-faulty (w .weigh .ensures) _ (c .before .if1 .taken)) (c .refused .ensures _ (c .before .if1 .taken))
-
-total-size-requires : tie.Need-total-size-requires
-total-size-requires c κs = search needs
-
-refused-requires-2 : tie.Need-refused-requires-2
-refused-requires-2 c κs = search needs
 
 returns-2 : tie.Need-returns-2
 returns-2 c =
     let t = c .before .before in
     let e = t .before in
     gives-as (records-large (e .before .weigh .ensures) _ (e .if1 .left) (c .before .if2 .taken)) (c .refused2 .ensures _ (λ z. omega arith))
-
-refused-requires-3 : tie.Need-refused-requires-3
-refused-requires-3 c κs = search needs
 
 returns-3 : tie.Need-returns-3
 returns-3 c =
@@ -54,9 +39,6 @@ put-octets-requires c κs =
       record { sizes = w .weigh .ensures .size-is (e .if1 .left); totals = t .total-size .ensures; fits = r .if3 .left },
     )
 
-same-length : tie.Need-same-length
-same-length c = search needs
-
 returns-4 : tie.Need-returns-4
 returns-4 c =
     let p = c .before .before in
@@ -71,14 +53,14 @@ pub write-sheet-spec : {M : Type 1} → statement M
 write-sheet-spec =
     tie.close
     (tie.spec
-    weigh-requires
-    refused-requires
+    (λ c κs. search needs)
+    (λ c κs. search needs)
     returns
-    total-size-requires
-    refused-requires-2
+    (λ c κs. search needs)
+    (λ c κs. search needs)
     returns-2
-    refused-requires-3
+    (λ c κs. search needs)
     returns-3
     put-octets-requires
-    same-length
+    (λ c. search needs)
     returns-4)
