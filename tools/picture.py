@@ -3,27 +3,15 @@
 
 usage: picture.py > docs/picture.svg
 
-Fails where a library crate of crates.txt is missing, or uses one that stands neither below it nor on its left.
+The layers are the headings of crates.txt, with the words after each crate's line. Fails where a crate has no words, or uses one that
+stands neither below it nor on its left.
 """
 import pathlib
+import re
 import sys
 
 WIDTH = 1080
 INK, LINE, PALE = "#1b2a3a", "#8aa0b4", "#f4f7fa"
-
-# Rows of crates from top to bottom: title, and boxes with a name and a word on it.
-LAYERS = [
-    ("theorems", [("exactly", "demand 2"), ("roundtrip", "read after write"), ("prefixes", "demand 3"), ("cuts", "demand 3"), ("boundary", "K1 to K12")]),
-    ("command", [("showing", "a sheet shown"), ("tool", "the command")]),
-    ("text and JSON", [("chars", "as room allows"), ("words", "of numbers"), ("values", "escaped"), ("lines", "for a person"), ("json", "for a script")]),
-    ("interface", [("dnr", "C library"), ("hexes", "hexadecimal"), ("ips", "address text")]),
-    ("calls", [("reading", "area to sheet"), ("written", "writing, defined"), ("writing", "sheet to octets")]),
-    ("sheets", [("records", "one record"), ("sheets", "head"), ("taking", "taken apart")]),
-    ("decisions", [("judge", "21 to 28"), ("order", "by priority")]),
-    ("octets of options", [("frames", "framing"), ("blocks", "fields"), ("layouts", "laid out"), ("pieces", "cut at 255")]),
-    ("rules", [("names", "wire form"), ("texts", "text form"), ("addresses", "dropped"), ("svcparams", "26 to 28")]),
-    ("ground", [("octets", "numbers, buffers"), ("numbers", "document 01"), ("carriers", "five carriers")]),
-]
 
 # K1: parts of the area and of the sheet, in octets; a part with the same colour is carried over.
 AREA = [("code 144", 2, None), ("length 48", 2, None), ("priority", 2, "#f2b8a0"), ("ADN length", 2, None), ("name", 18, "#a9d3c4"), ("addr length", 2, None), ("address", 16, "#f3dc9b"), ("alpn dot", 8, "#b9c8ee")]
@@ -38,13 +26,26 @@ def box(x, y, w, h, fill):
     return f'<rect x="{x:.1f}" y="{y:.1f}" width="{w:.1f}" height="{h:.1f}" rx="4" fill="{fill}" stroke="{LINE}"/>'
 
 
-def layers(top):
+def crates():
+    """The layers of crates.txt from bottom to top: a title, and for each crate its name, the crates it uses and a word on it."""
+    rows = []
+    for line in (pathlib.Path(__file__).resolve().parent.parent / "crates.txt").read_text().splitlines():
+        heading = re.fullmatch(r"# ---- (.+)", line)
+        crate = re.fullmatch(r"(\w+):([^#]*)(?:# (.+))?", line)
+        if heading:
+            rows.append((heading.group(1), []))
+        elif crate:
+            rows[-1][1].append((crate.group(1), crate.group(2).split(), crate.group(3)))
+    return [row for row in rows if row[0] != "programs"]
+
+
+def layers(top, rows):
     out = [text(20, top, "Layers: each crate uses only what stands below it, or beside it on its left", 16, "start", "bold")]
     y = top + 18
-    for title, crates in LAYERS:
+    w = (WIDTH - 180) / max(len(row) for _, row in rows)
+    for title, row in reversed(rows):
         out.append(text(20, y + 30, title, 13, "start", fill="#51687d"))
-        w = (WIDTH - 180) / 5
-        for i, (name, word) in enumerate(crates):
+        for i, (name, _, word) in enumerate(row):
             x = 160 + i * w
             out += [box(x, y, w - 10, 46, PALE), text(x + (w - 10) / 2, y + 20, name, 14, weight="bold"), text(x + (w - 10) / 2, y + 38, word, 12)]
         y += 56
@@ -82,26 +83,22 @@ def way(top):
     return out, top + 290
 
 
-def misplaced():
-    """The crates that are not drawn, and the uses that the picture denies."""
-    place = {name: (-row, i) for row, (_, crates) in enumerate(LAYERS) for i, (name, _) in enumerate(crates)}
-    lines = (pathlib.Path(__file__).resolve().parent.parent / "crates.txt").read_text().split("# Programs.")[0].splitlines()
-    for line in lines:
-        crate, colon, uses = line.partition(":")
-        if not colon or line.startswith("#"):
-            continue
-        if crate not in place:
-            yield f"{crate} is not drawn"
-        for use in uses.split():
-            if use in place and crate in place and place[use] >= place[crate]:
-                yield f"{crate} uses {use}"
+def misplaced(rows):
+    """The crates without words, and the uses that the picture denies."""
+    place = {name: (height, i) for height, (_, row) in enumerate(rows) for i, (name, _, _) in enumerate(row)}
+    for _, row in rows:
+        for crate, uses, word in row:
+            if not word:
+                yield f"{crate} has no words"
+            yield from (f"{crate} uses {use}" for use in uses if use in place and place[use] >= place[crate])
 
 
 def main():
-    wrong = list(misplaced())
+    rows = crates()
+    wrong = list(misplaced(rows))
     if wrong:
         sys.exit("picture.py: " + "; ".join(wrong))
-    first, y = layers(34)
+    first, y = layers(34, rows)
     second, height = way(y + 30)
     print(f'<svg xmlns="http://www.w3.org/2000/svg" viewBox="0 0 {WIDTH} {height:.0f}" font-family="sans-serif">')
     print(f'<rect width="{WIDTH}" height="{height:.0f}" fill="white"/>')

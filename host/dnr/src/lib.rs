@@ -30,6 +30,7 @@
 
 mod carrier;
 mod numbers;
+pub mod raw;
 mod records;
 
 pub use carrier::{Carrier, UnknownCarrier};
@@ -58,35 +59,13 @@ pub struct Reading {
     pub first_fault: Option<Fault>,
 }
 
-/// As `dnr_reading` of include/dnr.h.
-#[repr(C)]
-struct RawReading {
-    number: usize,
-    length: usize,
-    found: usize,
-    discarded: usize,
-    fault: usize,
-}
-
-/// As `dnr_writing` of include/dnr.h.
-#[repr(C)]
-struct RawWriting {
-    number: usize,
-    length: usize,
-}
-
-extern "C" {
-    fn dnr_read(carrier: u8, area: *const u8, area_len: usize, sheet: *mut u8, sheet_len: usize) -> RawReading;
-    fn dnr_write(sheet: *const u8, sheet_len: usize, octets: *mut u8, octets_len: usize) -> RawWriting;
-}
-
 /// Reads an area of the carrier and writes the record sheet of its resolvers, by rising priority, to the front of `sheet`.
 ///
 /// Options of other codes are skipped. A block with a fault is discarded and the reading goes on. A refusal, of 2 to 5, changes
 /// nothing. [`MAX_SHEET`] octets have room for every sheet.
 pub fn read(carrier: Carrier, area: &[u8], sheet: &mut [u8]) -> Result<Reading, Refusal> {
     // SAFETY: each pointer is valid for the length beside it, the slices do not overlap, and the library keeps neither.
-    let raw = unsafe { dnr_read(carrier.number(), area.as_ptr(), area.len(), sheet.as_mut_ptr(), sheet.len()) };
+    let raw = unsafe { raw::dnr_read(carrier.number(), area.as_ptr(), area.len(), sheet.as_mut_ptr(), sheet.len()) };
     if raw.number != 0 {
         return Err(Refusal::of(raw.number));
     }
@@ -113,7 +92,7 @@ pub fn read(carrier: Carrier, area: &[u8], sheet: &mut [u8]) -> Result<Reading, 
 /// ```
 pub fn write(sheet: &[u8], octets: &mut [u8]) -> Result<usize, Refusal> {
     // SAFETY: each pointer is valid for the length beside it, the slices do not overlap, and the library keeps neither.
-    let raw = unsafe { dnr_write(sheet.as_ptr(), sheet.len(), octets.as_mut_ptr(), octets.len()) };
+    let raw = unsafe { raw::dnr_write(sheet.as_ptr(), sheet.len(), octets.as_mut_ptr(), octets.len()) };
     if raw.number != 0 {
         return Err(Refusal::of(raw.number));
     }

@@ -4,22 +4,10 @@
 
 use std::slice;
 
-/// As `dnr_reading` of include/dnr.h.
-#[repr(C)]
-pub struct RawReading {
-    number: usize,
-    length: usize,
-    found: usize,
-    discarded: usize,
-    fault: usize,
-}
-
-/// As `dnr_writing` of include/dnr.h.
-#[repr(C)]
-pub struct RawWriting {
-    number: usize,
-    length: usize,
-}
+// The structs alone: this library is linked beside libdnr.a, which the crate dnr would bring a second time.
+#[allow(dead_code)]
+#[path = "../../dnr/src/raw.rs"]
+mod raw;
 
 /// # Safety
 /// `octets` is valid for `length` octets, or `length` is 0.
@@ -38,9 +26,9 @@ unsafe fn lent_mut<'a>(octets: *mut u8, length: usize) -> &'a mut [u8] {
 /// # Safety
 /// Each pointer is valid for the length beside it, or that length is 0, and the two parts do not overlap.
 #[no_mangle]
-pub unsafe extern "C" fn ref_read(carrier: u8, area: *const u8, area_len: usize, sheet: *mut u8, sheet_len: usize) -> RawReading {
+pub unsafe extern "C" fn ref_read(carrier: u8, area: *const u8, area_len: usize, sheet: *mut u8, sheet_len: usize) -> raw::Reading {
     let reading = dnr_reference::read(carrier, lent(area, area_len), lent_mut(sheet, sheet_len));
-    RawReading {
+    raw::Reading {
         number: reading.number,
         length: reading.length,
         found: reading.found,
@@ -54,9 +42,9 @@ pub unsafe extern "C" fn ref_read(carrier: u8, area: *const u8, area_len: usize,
 /// # Safety
 /// Each pointer is valid for the length beside it, or that length is 0, and the two parts do not overlap.
 #[no_mangle]
-pub unsafe extern "C" fn ref_write(sheet: *const u8, sheet_len: usize, octets: *mut u8, octets_len: usize) -> RawWriting {
+pub unsafe extern "C" fn ref_write(sheet: *const u8, sheet_len: usize, octets: *mut u8, octets_len: usize) -> raw::Writing {
     let writing = dnr_reference::write(lent(sheet, sheet_len), lent_mut(octets, octets_len));
-    RawWriting {
+    raw::Writing {
         number: writing.number,
         length: writing.length,
     }

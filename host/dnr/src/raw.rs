@@ -1,0 +1,36 @@
+//! The C interface as include/dnr.h declares it: the one place where Rust has its structs and its functions.
+//!
+//! A pointer is valid for the length beside it, or that length is 0; the library keeps none. The safe calls of this crate are made of these.
+
+/// `dnr_reading`.
+#[repr(C)]
+#[derive(Clone, Copy, Debug, PartialEq, Eq)]
+pub struct Reading {
+    /// 0, or the number of a refusal, and then the others are 0.
+    pub number: usize,
+    /// Octets written.
+    pub length: usize,
+    /// Blocks in the area.
+    pub found: usize,
+    /// Those of them that were discarded.
+    pub discarded: usize,
+    /// The fault of the first that was discarded, or 0.
+    pub fault: usize,
+}
+
+/// `dnr_writing`.
+#[repr(C)]
+#[derive(Clone, Copy, Debug, PartialEq, Eq)]
+pub struct Writing {
+    /// 0, or the number of a refusal, and then the others are 0.
+    pub number: usize,
+    /// Octets written.
+    pub length: usize,
+}
+
+extern "C" {
+    /// Reads an area under a carrier number and writes its record sheet.
+    pub fn dnr_read(carrier: u8, area: *const u8, area_len: usize, sheet: *mut u8, sheet_len: usize) -> Reading;
+    /// Writes the octets of a record sheet.
+    pub fn dnr_write(sheet: *const u8, sheet_len: usize, octets: *mut u8, octets_len: usize) -> Writing;
+}
