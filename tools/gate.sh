@@ -100,7 +100,7 @@ step "layout of the sources" rt fmt --check
 rt_ci
 step "libdnr.a" rt staticlib dnr
 # the command is proved and linked while the host tests run, which need the library alone
-sh tools/build.sh >"$log/build" 2>&1 &
+{ rt staticlib tool && sh tools/build.sh; } >"$log/build" 2>&1 &
 building=$!
 step "include/dnr.h agrees with the source" header_held
 host_tests

@@ -50,10 +50,7 @@ files() {
 installed() {
     root=$3$2
     step "$1: make install" make --no-print-directory -s install PREFIX="$2" DESTDIR="$3"
-    (
-        printf '%s\n' include/dnr.h lib/libdnr.a lib/pkgconfig/dnr.pc
-        [ ! -e build/dnr ] || echo bin/dnr
-    ) | sort >"$work/expected"
+    printf '%s\n' bin/dnr include/dnr.h lib/libdnr.a lib/pkgconfig/dnr.pc >"$work/expected"
     files "$root" >"$work/found"
     step "$1: the files" diff "$work/expected" "$work/found"
     step "$1: the prefix" grep -qxF "prefix=$2" "$root/lib/pkgconfig/dnr.pc"
