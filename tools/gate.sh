@@ -67,7 +67,7 @@ command_built() {
 
 # Compiles exactly when the header says what the source exports.
 header_held() {
-    python3 tools/header.py include/dnr.h crates/dnr/src/lib.rt >"$log/header.c" &&
+    python3 tools/header.py include/dnr.h crates/dnr/src/lib.rt crates/reading/src/lib.rt crates/writing/src/lib.rt >"$log/header.c" &&
         gcc -std=gnu11 -fsyntax-only -Wall -Werror -I . "$log/header.c"
 }
 

@@ -1,9 +1,9 @@
 #!/usr/bin/env python3
-"""header.py HEADER LIB.rt: holds a C header against the Rattle source of the functions that it declares.
+"""header.py HEADER LIB.rt [MORE.rt..]: holds a C header against the Rattle source of the functions that it declares.
 
-Writes C to standard output that compiles (gcc -fsyntax-only -Werror) exactly when the header declares every exported function with the
-parameters and the result of the source, and its structs have the source's fields in order, type and size. A function that the
-source does not export and the header declares is found by its name.
+Writes C to standard output that compiles (gcc -fsyntax-only -Werror) exactly when the header declares every exported function of LIB.rt
+with the parameters and the result of the source, and the #[repr(C)] structs of all sources have in the header the same fields in order,
+type and size. A function that the source does not export and the header declares is found by its name.
 """
 import re
 import sys
@@ -13,48 +13,74 @@ NUMBERS = {
     "i8": "int8_t", "i16": "int16_t", "i32": "int32_t", "i64": "int64_t", "isize": "ptrdiff_t", "bool": "_Bool",
 }
 PREFIX = "dnr_"
+FIELD = r"(?:pub )?(\w+): (?:(\w+)|\[(\w+); (\w+)\]),"
 
 
-def c_type(name):
-    """The C type of a Rattle number, or of a struct of the source, in lower case behind the prefix."""
-    return NUMBERS.get(name, PREFIX + name.lower())
+class Source:
+    """The structs and the constants of some files; what is wrong with them is kept as lines of C that do not compile."""
+
+    def __init__(self, paths):
+        text = "\n".join(re.sub(r"//.*", "", open(path).read()) for path in paths)
+        self.numbers = dict(re.findall(r"\bconst (\w+): usize = (\d+);", text))
+        self.structs = dict(re.findall(r"#\[repr\(C\)\]\s*pub struct (\w+) \{(.*?)\}", text, re.S))
+        self.errors = []
+
+    def c_type(self, name):
+        """The C type of a Rattle number, or of a struct of the sources, in lower case behind the prefix."""
+        if name not in NUMBERS and name not in self.structs:
+            self.errors.append(f"#error {name} is neither a number nor a #[repr(C)] struct of the sources")
+        return NUMBERS.get(name, PREFIX + name.lower())
+
+    def c_parameter(self, name, kind):
+        """A slice is a pointer and a length."""
+        slice_of = re.fullmatch(r"&(mut )?\[(\w+)\]", kind)
+        if slice_of:
+            const = "" if slice_of.group(1) else "const "
+            return f"{const}{self.c_type(slice_of.group(2))} *{name}, size_t {name}_len"
+        return f"{self.c_type(kind)} {name}"
+
+    def c_fields(self, struct):
+        """Name and C declaration of each field: a number, a struct, or an array of either."""
+        body = self.structs[struct]
+        if re.sub(FIELD, "", body).strip():
+            self.errors.append(f"#error {struct} has a field that is no number, struct or array")
+        for name, kind, element, count in re.findall(FIELD, body):
+            size = f"[{self.numbers.get(count, count)}]" if count else ""
+            yield name, f"{self.c_type(kind or element)} {name}{size};"
 
 
-def c_parameter(name, kind):
-    """A slice is a pointer and a length."""
-    slice_of = re.fullmatch(r"&(mut )?\[(\w+)\]", kind)
-    if slice_of:
-        const = "" if slice_of.group(1) else "const "
-        return f"{const}{c_type(slice_of.group(2))} *{name}, size_t {name}_len"
-    return f"{c_type(kind)} {name}"
-
-
-def main(header, source):
-    text = re.sub(r"//.*", "", open(source).read())
-    declared = set(re.findall(r"\b(%s\w+)\(" % PREFIX, re.sub(r"/\*.*?\*/", "", open(header).read(), flags=re.S)))
-    print(f'#include "{header}"')
-    exported = set()
-    for name, body in re.findall(r"#\[repr\(C\)\]\s*pub struct (\w+) \{(.*?)\}", text, re.S):
-        fields = re.findall(r"pub (\w+): (\w+),", body)
+def hold_structs(source):
+    for name in source.structs:
+        fields = list(source.c_fields(name))
         mine, theirs = "source_" + name, PREFIX + name.lower()
-        print("typedef struct {", " ".join(f"{c_type(t)} {f};" for f, t in fields), "}", mine + ";")
+        print("typedef struct {", " ".join(declaration for _, declaration in fields), "}", mine + ";")
         print(f'_Static_assert(sizeof({mine}) == sizeof({theirs}), "{name}");')
         for f, _ in fields:
             print(
                 f"_Static_assert(offsetof({mine}, {f}) == offsetof({theirs}, {f}) && __builtin_types_compatible_p("
                 f'__typeof__((({mine} *)0)->{f}), __typeof__((({theirs} *)0)->{f})), "{name}.{f}");'
             )
+
+
+def main(header, library, *more):
+    text = re.sub(r"//.*", "", open(library).read())
+    declared = set(re.findall(r"\b(%s\w+)\(" % PREFIX, re.sub(r"/\*.*?\*/", "", open(header).read(), flags=re.S)))
+    source = Source((library, *more))
+    print(f'#include "{header}"')
+    hold_structs(source)
+    exported = set()
     pattern = r'#\[no_mangle\]\s*pub extern "C" fn (\w+)\((.*?)\)(?: -> (\w+))?\s*(?:requires|ensures|\{)'
     for name, parameters, result in re.findall(pattern, text, re.S):
         exported.add(name)
         found = re.findall(r"(\w+): (&(?:mut )?\[\w+\]|\w+)", parameters)
-        print(f"{c_type(result) if result else 'void'} {name}({', '.join(c_parameter(*p) for p in found) or 'void'});")
+        print(f"{source.c_type(result) if result else 'void'} {name}({', '.join(source.c_parameter(*p) for p in found) or 'void'});")
     for name in sorted(declared - exported):
         print(f"#error {name} is declared and not exported")
     for name in sorted(exported - declared):
         print(f"#error {name} is exported and not declared")
     if not exported:
         print("#error the source exports nothing")
+    print("\n".join(source.errors))
 
 
 main(*sys.argv[1:])

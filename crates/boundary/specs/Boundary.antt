@@ -33,23 +33,23 @@ use Rattle.taking.specs.TakenLaws.{same-self}
 use Rattle.pieces.specs.Pieces.{pieces, cutOf}
 use Rattle.written.specs.Writing.{octetsOf, firstFault, anyLarge, written, writeOf}
 use Rattle.written.specs.Writing as writing
-use Rattle.boundary.specs.Table.{Piece, doneOf, IsRead, IsWritten, IsOther, Holds, k1, k2, k3, k4, k5, k6, k7, k8, k9, k10, k11, k12, table, example}
+use Rattle.boundary.specs.Table.{Piece, IsRead, IsWritten, IsOther, Holds, k1, k2, k3, k4, k5, k6, k7, k8, k9, k10, k11, k12, table, example}
 
 -- ---- an answer in every room
 
 module _ (p : Piece) where
   -- what reading answers, as one computation
   abbrev Read : Type 0
-  Read = (room : ℕ) → readOf (p .carrier) (p .area) room ≡ cond (ltb room (length (p .sheet))) (reading.refuse refusal.room) (done (doneOf p))
+  Read = (room : ℕ) → readOf (p .carrier) (p .area) room ≡ cond (ltb room (length (p .gives .sheet))) (reading.refuse refusal.room) (done (p .gives))
 
   -- the same of writing, where the sheet gives these octets
   abbrev Write : List ℕ → Type 0
-  Write octets = (room : ℕ) → writeOf (p .sheet) room ≡ cond (ltb room (length octets)) (writing.refuse refusal.room) (written octets)
+  Write octets = (room : ℕ) → writeOf (p .gives .sheet) room ≡ cond (ltb room (length octets)) (writing.refuse refusal.room) (written octets)
 
   is-read : Read → IsRead p
   is-read e = record {
-    enough = λ room h. rw (le-ltb room (length (p .sheet)) h) at (e room);
-    short = λ room h. rw (lt-ltb room (length (p .sheet)) h) at (e room);
+    enough = λ room h. rw (le-ltb room (length (p .gives .sheet)) h) at (e room);
+    short = λ room h. rw (lt-ltb room (length (p .gives .sheet)) h) at (e room);
   }
 
   is-written : Write (p .area) → IsWritten p

@@ -16,7 +16,7 @@ use Rattle.frames.specs.Frame as area
 use Rattle.blocks.specs.Block.{nameOnly, whole}
 use Rattle.reading.specs.Reading.{readOf, refuse, done}
 use Rattle.taking.specs.Taking.{same, recordsFrom, Taken, sheet, takeOf}
-use Rattle.boundary.specs.Table.{Piece, doneOf, N, T, P, A, example, k1, k2, k3, k4, k5, k6, k7, k8, k9, k10, k11, k12, table}
+use Rattle.boundary.specs.Table.{Piece, N, T, P, A, example, k1, k2, k3, k4, k5, k6, k7, k8, k9, k10, k11, k12, table}
 use Rattle.boundary.specs.Boundary.{boundary}
 
 -- ---- lengths
@@ -27,7 +27,7 @@ unfolding textOf dotsFrom
 name = (refl, refl)
 
 -- K1 is 52 octets and its sheet 60, K2 25, K3 32
-lengths : (length (k1 .area) ≡ 52) × (length (k1 .sheet) ≡ 60) × (length (k2 .area) ≡ 25) × (length (k3 .area) ≡ 32)
+lengths : (length (k1 .area) ≡ 52) × (length (k1 .gives .sheet) ≡ 60) × (length (k2 .area) ≡ 25) × (length (k3 .area) ≡ 32)
 lengths = (refl, refl, refl, refl)
 
 -- K4's length octet is 7, and the option ends with P
@@ -39,7 +39,7 @@ k5-length : (at16 (k5 .area) 2 ≡ 44) × (length (drop 4 (k5 .area)) ≡ 44) ×
 k5-length = (refl, refl, refl, refl)
 
 -- K6's sheet is 7 octets, the last the count 0
-k6-length : (carrier : ℕ) → (length (k6 carrier .sheet) ≡ 7) × (getD (k6 carrier .sheet) 6 1 ≡ 0)
+k6-length : (carrier : ℕ) → (length (k6 carrier .gives .sheet) ≡ 7) × (getD (k6 carrier .gives .sheet) 6 1 ≡ 0)
 k6-length carrier = (refl, refl)
 
 -- the data of each option 162 of an area
@@ -61,7 +61,7 @@ unfolding frameFrom numberAt
 k9-options = (refl, refl)
 
 -- an output of 59 octets for K1: 5; of 60: done
-k1-room : (readOf 2 (k1 .area) 59 ≡ refuse 5) × (readOf 2 (k1 .area) 60 ≡ done (doneOf k1))
+k1-room : (readOf 2 (k1 .area) 59 ≡ refuse 5) × (readOf 2 (k1 .area) 60 ≡ done (k1 .gives))
 k1-room = (boundary .0 .0 .short 59 (omega arith), boundary .0 .0 .enough 60 (omega arith))
 
 -- ---- one piece from another
@@ -108,7 +108,7 @@ said =
     ∷ (k12, sheet Dhcp6 (nameOnly 1 0 (example 0x62) ∷ nameOnly 5 0 (example 0x61) ∷ nameOnly 5 0 (example 0x63) ∷ []))
     ∷ []
 
-pub records-said : All (λ (e : Said). takeOf (e .0 .sheet) ≡ e .1) said
+pub records-said : All (λ (e : Said). takeOf (e .0 .gives .sheet) ≡ e .1) said
 unfolding takeOf same recordsFrom part number counted chosenOf
 records-said = (refl, (refl, (refl, (refl, (refl, (refl, (refl, (refl, (refl, (refl, (refl, (refl, (refl, (refl, (refl, (refl, tt))))))))))))))))
 

@@ -11,7 +11,7 @@ use Rattle.carriers.specs.declared.Carrier.{Carrier}
 use Rattle.carriers.specs.Carriers.{numberOf}
 use Rattle.blocks.specs.Block.{Fields}
 use Rattle.sheets.specs.Sheets.{sheetOf}
-use Rattle.reading.specs.Reading.{Answer, refuse, done, readOf}
+use Rattle.reading.specs.Reading.{faultless, Answer, refuse, done, readOf}
 use Rattle.written.specs.Writing.{octetsOf}
 
 -- the octets of the records rs are cut after n of them, and the part before the cut is read under the carrier's number
@@ -25,7 +25,7 @@ pub record EndOf (c : Carrier) (rs : List Fields) (k n : ℕ) : Type 0 where
 
 -- the reading is done with the first k records, or their sheet has no room
 pub record FirstRead (c : Carrier) (rs : List Fields) (k n room : ℕ) : Type 0 where
-  pub enough : length (sheetOf c (take k rs)) ≤ room → readCut c rs n room ≡ done (record { sheet = sheetOf c (take k rs); found = k; discarded = 0; fault = 0 })
+  pub enough : length (sheetOf c (take k rs)) ≤ room → readCut c rs n room ≡ done (faultless (sheetOf c (take k rs)) k)
   pub little : room < length (sheetOf c (take k rs)) → readCut c rs n room ≡ refuse refusal.room
 
 -- a cut is after k whole options, or it is elsewhere, and the room does not matter

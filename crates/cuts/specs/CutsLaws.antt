@@ -21,7 +21,7 @@ use Rattle.frames.specs.Emit.{optionsOf}
 use Rattle.frames.specs.Cutting.{cut-at-end, cut-elsewhere}
 use Rattle.blocks.specs.Block.{Fields}
 use Rattle.sheets.specs.Sheets.{sheetOf}
-use Rattle.reading.specs.Reading.{refuse, done, readFramed, readOf}
+use Rattle.reading.specs.Reading.{faultless, refuse, done, readFramed, readOf}
 use Rattle.reading.specs.AnswerLaws.{read-known}
 use Rattle.written.specs.Writing.{octetsOf}
 use Rattle.written.specs.Accepted.{Sound, Accepted}
@@ -98,7 +98,7 @@ module _ (c : Carrier) (plain : Plain c) (s : List ℕ) (rs : List Fields) (acce
 pub read-cut-at-end : (c : Carrier) → Plain c → (s : List ℕ) (rs : List Fields) → Accepted s c rs → (k : ℕ) → k ≤ length rs
     → (room : ℕ) → length (sheetOf c (take k rs)) ≤ room
     → readOf (numberOf c) (take (length (octetsOf c (take k rs))) (octetsOf c rs)) room
-    ≡ done (record { sheet = sheetOf c (take k rs); found = k; discarded = 0; fault = 0 })
+    ≡ done (faultless (sheetOf c (take k rs)) k)
 read-cut-at-end c p s rs a k h room = first-read c p s rs a k room h .enough
 
 -- anywhere else: refusal 3, whatever the room

@@ -1,39 +1,18 @@
 // The C interface: libdnr. The contracts stand on the exported functions themselves; include/dnr.h declares them for C, and the gate
-// holds the header against this file. A slice crosses as a pointer and a length; a null pointer goes with length 0.
+// holds the header against this file and the structs it returns. A slice crosses as a pointer and a length; a null pointer goes with
+// length 0.
 ghost use lib.ListN.{length};
 ghost use Rattle.reading.specs.Reading.{readOf, Reads};
 ghost use Rattle.written.specs.Writing.{writeOf, Writes};
-
-// What a reading gives back; a refusal's number, and zeros.
-#[repr(C)]
-pub struct Reading {
-    pub number: usize,
-    pub length: usize,
-    pub found: usize,
-    pub discarded: usize,
-    pub fault: usize,
-}
+use reading::Reading;
+use writing::Writing;
 
 // Reads an area under a carrier number and writes its record sheet.
 #[no_mangle]
 pub extern "C" fn dnr_read(carrier: u8, area: &[u8], sheet: &mut [u8]) -> Reading
-    ensures { λ r. ⌜ Reads (readOf carrier (now (area .entry)) (length (now (sheet .entry)))) (now (sheet .entry)) (r .number) (r .length) (r .found) (r .discarded) (r .fault) (now (sheet .exit)) ⌝ }
+    ensures { λ r. ⌜ Reads (readOf carrier (now (area .entry)) (length (now (sheet .entry)))) (now (sheet .entry)) r (now (sheet .exit)) ⌝ }
 {
-    let done = reading::read(octets::wide(carrier), area, sheet);
-    Reading {
-        number: done.number,
-        length: done.length,
-        found: done.found,
-        discarded: done.discarded,
-        fault: done.fault,
-    }
-}
-
-// What a writing gives back; a refusal's number, and zero.
-#[repr(C)]
-pub struct Writing {
-    pub number: usize,
-    pub length: usize,
+    reading::read(octets::wide(carrier), area, sheet)
 }
 
 // Writes the octets of a record sheet: its options, or its attributes.
@@ -41,9 +20,5 @@ pub struct Writing {
 pub extern "C" fn dnr_write(sheet: &[u8], octets: &mut [u8]) -> Writing
     ensures { λ r. ⌜ Writes (writeOf (now (sheet .entry)) (length (now (octets .entry)))) (now (octets .entry)) (r .number) (r .length) (now (octets .exit)) ⌝ }
 {
-    let done = writing::write(sheet, octets);
-    Writing {
-        number: done.number,
-        length: done.length,
-    }
+    writing::write(sheet, octets)
 }

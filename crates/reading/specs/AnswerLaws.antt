@@ -3,14 +3,17 @@ use mathlib.Core.Path.{_≡_, refl, sym, ap, _∙_, subst, subst⁻¹}
 use mathlib.Core.Bool.{Bool, true, false, cond}
 use mathlib.Core.List.{List, [], _∷_, map}
 use Prim.Native.Nat.{ℕ, _+_, _≤_, _<_}
+use native.Mathlib.Nat.{zero-add}
 use native.Mathlib.Omega.{arith}
 use borrow.Author.Tests.{ltb-false, lt-ltb, le-ltb}
 use lib.Dec.{ltb}
-use lib.ListN.{length, take, length-map}
+use lib.ListN.{length, take}
 use lib.Seq.{take-at}
 use Rattle.octets.specs.OverLaws.{over-length}
 use Rattle.octets.specs.Over.{over, Wrote}
-use Rattle.octets.specs.AnswerLaws as answered
+use Rattle.octets.specs.Answer.{Answered, count}
+use Rattle.octets.specs.Answer as answer
+use Rattle.octets.specs.AnswerLaws.{answered-fits}
 use Rattle.numbers.specs.Refusal as refusal
 use Rattle.numbers.specs.Limit as limit
 use Rattle.carriers.specs.declared.Carrier.{Carrier}
@@ -29,24 +32,24 @@ use Rattle.frames.specs.Step.{stepAt}
 use Rattle.frames.specs.WalkLaws.{walked-end, walked-fault}
 use Rattle.blocks.specs.Block.{Fields}
 use Rattle.records.specs.Records.{outcomeOf, recordOf}
-use Rattle.sheets.specs.Sheets.{sheetOf}
+use Rattle.sheets.specs.Sheets.{frontSize, sheetOf}
 use Rattle.sheets.specs.SheetsLaws.{length-sheet}
 use Rattle.reading.specs.declared.Reading.{Reading}
-use Rattle.reading.specs.Reading.{single, joinedYield, yieldOf, arrivals, inOrder, Answer, refuse, readBlocks, readFramed, readArea, readChosen, readOf, Reads}
-use Rattle.reading.specs.Tally.{recordsAt, Tally, Shows, alone, answerOf, Gives}
+use Rattle.reading.specs.Reading.{Yield, single, joinedYield, yieldOf, arrivals, inOrder, Done, Answer, refuse, done, readYields, readBlocks, readFramed, readArea, readChosen, readOf, told, Reads}
+use Rattle.reading.specs.Tally.{recordsAt, Tally, Shows, alone, answerOf}
 use Rattle.reading.specs.ListLaws.{sort-laid}
 use Rattle.reading.specs.Walks.{Tallying}
 
 module _ (c : Carrier) (source : List ℕ) (room : ℕ) where
-  -- a tally that shows what the blocks yield answers for them
-  pub answer-blocks : (blocks : List (List ℕ)) {t : Tally} → Shows c source (map (yieldOf c) blocks) t → answerOf c source t room ≡ readBlocks c blocks room
+  -- a tally that shows what blocks yield answers for them
+  pub answer-yields : {ys : List Yield} {t : Tally} → Shows c source ys t → answerOf c source t room ≡ readYields c ys room
   unfolding answerOf
-  answer-blocks blocks {t} s = go (ltb 16 (length rs)) refl
+  answer-yields {ys} {t} s = go (ltb limit.records (length rs)) refl
     where
       rs : List Fields
-      rs = arrivals (map (yieldOf c) blocks)
+      rs = arrivals ys
 
-      go : (b : Bool) → ltb 16 (length rs) ≡ b → answerOf c source t room ≡ readBlocks c blocks room
+      go : (b : Bool) → ltb limit.records (length rs) ≡ b → answerOf c source t room ≡ readYields c ys room
       go true e =
           let more : t .held .more ≡ true = s .holds .more ∙ e in
           rw (more, e)
@@ -56,10 +59,9 @@ module _ (c : Carrier) (source : List ℕ) (room : ℕ) where
           let size : t .held .size ≡ length (sheetOf c (inOrder rs)) =
           l .size
           ∙ length-sheet c rs
-          ∙ ap (λ (n : ℕ). 7 + n) (sym (sort-laid (recordOf c) (λ (f : Fields). f .priority) rs))
+          ∙ ap (λ (n : ℕ). frontSize + n) (sym (sort-laid (recordOf c) (λ (f : Fields). f .priority) rs))
           ∙ sym (length-sheet c (inOrder rs)) in
-          let found : t .found ≡ length blocks = s .found ∙ length-map blocks (yieldOf c) in
-          rw (more, e, l .records, size, found, s .discarded, s .fault)
+          rw (more, e, l .records, size, s .found, s .discarded, s .fault)
 
 -- ---- carriers 2 to 5
 
@@ -70,7 +72,7 @@ module _ (c : Carrier) (area : List ℕ) (room : ℕ) {at : ℕ} {t : Tally} (g 
       let j = other-joined c n in
       ap (λ (f : Framed). readFramed c f room) (walked-end c area (g .walked) e)
       ∙ ap (λ (b : Bool). readBlocks c (cond b (joined (g .bodies)) (g .bodies)) room) j
-      ∙ sym (answer-blocks c area room (g .bodies) (shown j))
+      ∙ sym (answer-yields c area room (shown j))
     where
       shown : isJoined c ≡ false → Shows c area (map (yieldOf c) (g .bodies)) t
       shown j = subst⁻¹ (λ (b : Bool). Shows c area (map (λ l. cond b (joinedYield l) (single (outcomeOf c l))) (g .bodies)) t) j (g .shows)
@@ -123,12 +125,16 @@ module _ (c : Carrier) (source : List ℕ) (t : Tally) (room : ℕ) where
   unfolding answerOf
   answer-room m h = rw (m, lt-ltb room (t .held .size) h)
 
-  pub answer-done : {n : ℕ} {out out′ : List ℕ} → t .held .more ≡ false → t .held .size ≤ room
-      → Wrote 0 (sheetOf c (inOrder (recordsAt c source (t .held .slots)))) out n out′
-      → Reads (answerOf c source t room) out 0 n (t .found) (t .discarded) (t .fault) out′
+  pub answer-done : t .held .more ≡ false → t .held .size ≤ room
+      → answerOf c source t room
+      ≡ done (record {
+        sheet = sheetOf c (inOrder (recordsAt c source (t .held .slots)));
+        found = t .found;
+        discarded = t .discarded;
+        fault = t .fault;
+      })
   unfolding answerOf
-  answer-done {n} {out} {out′} m h w =
-      rw (m, le-ltb room (t .held .size) h) (record { answered = answered.done refl w; found-is = refl; discarded-is = refl; fault-is = refl })
+  answer-done m h = rw (m, le-ltb room (t .held .size) h)
 
 -- ---- 1 and 2
 
@@ -148,17 +154,35 @@ module _ (n : ℕ) (s : List ℕ) (room : ℕ) where
     pub read-known : length s ≤ limit.input → readOf n s room ≡ readFramed c (frame c s) room
     read-known h = known ∙ rw (le-ltb limit.input (length s) h)
 
--- ---- the call's numbers
+-- ---- what the call gives back
 
 -- the same answer gives the same
-pub gives-as : {a b : Answer} {out out′ : List ℕ} {r : Reading} → a ≡ b → Gives b out r out′ → Gives a out r out′
-gives-as {a} {b} {out} {out′} {r} e g = subst⁻¹ (λ (x : Answer). Gives x out r out′) e g
+pub reads-as : {a b : Answer} {out out′ : List ℕ} {r : Reading} → a ≡ b → Reads b out r out′ → Reads a out r out′
+reads-as {a} {b} {out} {out′} {r} e g = subst⁻¹ (λ (x : Answer). Reads x out r out′) e g
 
 -- and so does the same buffer
-pub gives-from : (f : ℕ → Answer) {out out₀ out′ : List ℕ} {r : Reading} → out ≡ out₀ → Gives (f (length out)) out r out′ → Gives (f (length out₀)) out₀ r out′
-gives-from f {out} {out₀} {out′} {r} e g = subst (λ (l : List ℕ). Gives (f (length l)) l r out′) e g
+pub reads-from : (f : ℕ → Answer) {out out₀ out′ : List ℕ} {r : Reading} → out ≡ out₀ → Reads (f (length out)) out r out′ → Reads (f (length out₀)) out₀ r out′
+reads-from f {out} {out₀} {out′} {r} e g = subst (λ (l : List ℕ). Reads (f (length l)) l r out′) e g
 
-pub gives-refused : {k : ℕ} (r : Reading) → r ≡ record { number = k; length = 0; found = 0; discarded = 0; fault = 0 } → (k ≡ 0 → ⊥) → (out : List ℕ)
-    → Gives (refuse k) out r out
-gives-refused {k} r e n out =
-    subst⁻¹ (λ (x : Reading). Gives (refuse k) out x out) e (record { answered = answered.refusing n; found-is = refl; discarded-is = refl; fault-is = refl })
+-- a refusal
+pub reads-refused : {a : Answer} {k : ℕ} {r : Reading} (out : List ℕ) → a ≡ refuse k → r ≡ told (refuse k) → Reads a out r out
+reads-refused out e n = reads-as e (record { numbers = n; leaves = refl })
+
+-- a sheet at the front of the buffer
+pub reads-done : {a : Answer} {d : Done} {n : ℕ} {out out′ : List ℕ} → a ≡ done d → Wrote 0 (d .sheet) out n out′
+    → Reads a out (record { number = 0; length = n; found = d .found; discarded = d .discarded; fault = d .fault }) out′
+reads-done {a} {d} e w =
+    reads-as e
+    (record {
+      numbers = ap (λ (n : ℕ). record { number = 0; length = n; found = d .found; discarded = d .discarded; fault = d .fault }) (w .next ∙ zero-add (length (d .sheet)));
+      leaves = w .laid;
+    })
+
+-- what it wrote fits its buffer, which keeps its length
+pub reads-fits : (a : Answer) {out out′ : List ℕ} {r : Reading} → Reads a out r out′ → length out′ ≡ length out → r .length ≤ length out′
+unfolding count answer.left
+reads-fits (refuse k) g e = omega (arith, ap (λ (r : Reading). r .length) (g .numbers))
+reads-fits (done d) {out} {out′} {r} g e =
+    let a : Answered 0 (d .sheet) out 0 (r .length) out′ =
+    record { numbered = refl; counted = ap (λ (r : Reading). r .length) (g .numbers); leaves = g .leaves } in
+    answered-fits a e

@@ -7,7 +7,7 @@ use Prim.Native.Nat.{ℕ, zero, suc, _+_, _-_}
 use lib.Dec.{ltb, eqb}
 use lib.ListN.{length, take, drop}
 use Rattle.octets.specs.Numbers.{at16}
-use Rattle.octets.specs.Answer.{Answered}
+use Rattle.octets.specs.Over.{over}
 use Rattle.numbers.specs.Refusal as refusal
 use Rattle.numbers.specs.Fault as fault
 use Rattle.numbers.specs.Limit as limit
@@ -22,6 +22,7 @@ use Rattle.blocks.specs.Block.{Fields}
 use Rattle.order.specs.Order.{stableSort}
 use Rattle.records.specs.Records.{Outcome, faulty, kept, outcomeOf}
 use Rattle.sheets.specs.Sheets.{sheetOf}
+use Rattle.reading.specs.declared.Reading.{Reading}
 
 -- ---- what a block yields
 
@@ -103,6 +104,10 @@ pub record Done : Type 0 where
   pub discarded : ℕ
   pub fault : ℕ
 
+-- a sheet and the blocks found, of which none is discarded
+abbrev pub faultless : List ℕ → ℕ → Done
+faultless sheet found = record { sheet = sheet; found = found; discarded = 0; fault = 0 }
+
 -- a refusal's number, or what is done
 pub data Answer : Type 0 where
   refuse : ℕ → Answer
@@ -114,14 +119,18 @@ settle room rs d =
     cond (ltb limit.records (length rs)) (refuse refusal.records)
     (cond (ltb room (length (d .sheet))) (refuse refusal.room) (done d))
 
-abbrev pub readBlocks : Carrier → List (List ℕ) → ℕ → Answer
-readBlocks c blocks room =
-    settle room (arrivals (map (yieldOf c) blocks)) (record {
-      sheet = sheetOf c (inOrder (arrivals (map (yieldOf c) blocks)));
-      found = length blocks;
-      discarded = discardedIn (map (yieldOf c) blocks);
-      fault = firstFault (map (yieldOf c) blocks);
+-- of blocks that yield ys
+abbrev pub readYields : Carrier → List Yield → ℕ → Answer
+readYields c ys room =
+    settle room (arrivals ys) (record {
+      sheet = sheetOf c (inOrder (arrivals ys));
+      found = length ys;
+      discarded = discardedIn ys;
+      fault = firstFault ys;
     })
+
+abbrev pub readBlocks : Carrier → List (List ℕ) → ℕ → Answer
+readBlocks c blocks room = readYields c (map (yieldOf c) blocks) room
 
 -- 3
 abbrev pub readFramed : Carrier → Framed → ℕ → Answer
@@ -143,29 +152,17 @@ readOf n s room = readChosen (chosenOf n) s room
 
 -- ---- what the call gives back, by the answer
 
-abbrev pub numberIn : Answer → ℕ
-numberIn (refuse k) = k
-numberIn (done d) = 0
+-- what it returns: a refusal's number and zeros; or 0, the sheet's length and the blocks' numbers
+abbrev pub told : Answer → Reading
+told (refuse k) = record { number = k; length = 0; found = 0; discarded = 0; fault = 0 }
+told (done d) = record { number = 0; length = length (d .sheet); found = d .found; discarded = d .discarded; fault = d .fault }
 
-abbrev pub sheetIn : Answer → List ℕ
-sheetIn (refuse k) = []
-sheetIn (done d) = d .sheet
-
-abbrev pub foundIn : Answer → ℕ
-foundIn (refuse k) = 0
-foundIn (done d) = d .found
-
-abbrev pub discardedOf : Answer → ℕ
-discardedOf (refuse k) = 0
-discardedOf (done d) = d .discarded
-
-abbrev pub faultIn : Answer → ℕ
-faultIn (refuse k) = 0
-faultIn (done d) = d .fault
+-- what the buffer then holds: a refusal leaves it as it was, and past the sheet's length it is unchanged
+abbrev pub left : Answer → List ℕ → List ℕ
+left (refuse k) out = out
+left (done d) out = over 0 (d .sheet) out
 
 -- every number that the call returns, and the whole buffer after it
-pub record Reads (a : Answer) (out : List ℕ) (number length found discarded fault : ℕ) (out′ : List ℕ) : Type 0 where
-  pub answered : Answered (numberIn a) (sheetIn a) out number length out′
-  pub found-is : found ≡ foundIn a
-  pub discarded-is : discarded ≡ discardedOf a
-  pub fault-is : fault ≡ faultIn a
+pub record Reads (a : Answer) (out : List ℕ) (r : Reading) (out′ : List ℕ) : Type 0 where
+  pub numbers : r ≡ told a
+  pub leaves : out′ ≡ left a out

@@ -20,8 +20,7 @@ use Rattle.records.specs.declared.Examined.{Examined}
 use Rattle.records.specs.Records.{Outcome, faulty, kept, outcomeOf}
 use Rattle.records.specs.Examined.{examinedOf, Clean, Kept}
 use Rattle.sheets.specs.Sheets.{sheetOf}
-use Rattle.reading.specs.declared.Reading.{Reading}
-use Rattle.reading.specs.Reading.{Yield, single, arrivals, discardedIn, firstFault, inOrder, Answer, refuse, done, Reads}
+use Rattle.reading.specs.Reading.{Yield, single, arrivals, discardedIn, firstFault, inOrder, Answer, refuse, done}
 
 -- ---- slots
 
@@ -151,7 +150,3 @@ answerOf c source t room =
       discarded = t .discarded;
       fault = t .fault;
     })))
-
--- `Reads` of the numbers of a `Reading`
-abbrev pub Gives : Answer → List ℕ → Reading → List ℕ → Type 0
-Gives a out r out′ = Reads a out (r .number) (r .length) (r .found) (r .discarded) (r .fault) out′

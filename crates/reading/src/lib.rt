@@ -3,8 +3,8 @@
 // of at most 16 kept bodies are remembered. Only when the answer is 0 are they ordered and written. The tests stand in the order 1, 2, 3, 4, 5.
 ghost use mathlib.Core.Path.{_≡_};
 ghost use mathlib.Core.Bool.{true};
-ghost use mathlib.Core.List.{List, [], _∷_};
-ghost use Prim.Native.Nat.{ℕ, _≤_, _<_};
+ghost use mathlib.Core.List.{[], _∷_};
+ghost use Prim.Native.Nat.{_≤_, _<_};
 ghost use lib.ListN.{length};
 ghost use Rattle.octets.specs.Over.{Wrote};
 ghost use Rattle.numbers.specs.Limit as limit;
@@ -12,8 +12,8 @@ ghost use Rattle.carriers.specs.declared.Carrier.the-variants.{Dhcp4};
 ghost use Rattle.frames.specs.Frame.{frame};
 ghost use Rattle.frames.specs.Gather.{Several};
 ghost use Rattle.sheets.specs.Sheets.{sheetOf};
-ghost use Rattle.reading.specs.Reading.{discarded, joinedYield, inOrder, refuse, readBlocks, readFramed, readOf, Reads};
-ghost use Rattle.reading.specs.Tally.{recordsAt, heldOf, slotOf, tallyOf, Sound, Ready, answerOf, Gives};
+ghost use Rattle.reading.specs.Reading.{discarded, joinedYield, inOrder, refuse, readBlocks, readFramed, readOf, told, Reads};
+ghost use Rattle.reading.specs.Tally.{recordsAt, heldOf, slotOf, tallyOf, Sound, Ready, answerOf};
 use carriers::Carrier;
 use carriers::Chosen;
 use frames::Gathered;
@@ -34,6 +34,7 @@ const HALF: usize = 20480;
 
 // What a reading gives back: 0 and the sheet's length, the blocks found, the blocks discarded and the first discarded block's
 // fault; or a refusal's number and zeros.
+#[repr(C)]
 pub struct Reading {
     pub number: usize,
     pub length: usize,
@@ -43,7 +44,7 @@ pub struct Reading {
 }
 
 fn refused(number: usize) -> Reading
-    ensures { λ r. ⌜ ((out : List ℕ) → (number ≡ 0 → ⊥) → Gives (refuse number) out r out) ⌝ }
+    ensures { λ r. ⌜ r ≡ told (refuse number) ⌝ }
 {
     Reading {
         number,
@@ -121,7 +122,7 @@ fn settle(
     fault: usize,
 ) -> Reading
     requires { ⌜ Ready c (now source) (heldOf slots size clean more) ⌝ }
-    ensures { λ r. ⌜ Gives (answerOf c (now (source .entry)) (tallyOf (heldOf slots size clean more) found discarded fault) (length (now (out .entry)))) (now (out .entry)) r (now (out .exit)) ⌝ }
+    ensures { λ r. ⌜ Reads (answerOf c (now (source .entry)) (tallyOf (heldOf slots size clean more) found discarded fault) (length (now (out .entry)))) (now (out .entry)) r (now (out .exit)) ⌝ }
 {
     if more {
         return refused(Refusal::RECORDS);
@@ -142,7 +143,7 @@ fn settle(
 // Carriers 2 to 5: the blocks of an area, each of one body. Of those found, the bad ones are discarded.
 fn read_blocks(c: Carrier, area: &[u8], out: &mut [u8]) -> Reading
     requires { ⌜ (c ≡ Dhcp4 → ⊥) × (length (now area) ≤ limit.input) ⌝ }
-    ensures { λ r. ⌜ Gives (readFramed c (frame c (now (area .entry))) (length (now (out .entry)))) (now (out .entry)) r (now (out .exit)) ⌝ }
+    ensures { λ r. ⌜ Reads (readFramed c (frame c (now (area .entry))) (length (now (out .entry)))) (now (out .entry)) r (now (out .exit)) ⌝ }
 {
     let mut slots = order::empty();
     let mut size = sheets::FRONT;
@@ -181,7 +182,7 @@ fn read_blocks(c: Carrier, area: &[u8], out: &mut [u8]) -> Reading
 // Carrier 1, where the one block is discarded.
 fn discard_joined(joined: &[u8], out: &mut [u8], fault: usize) -> Reading
     requires { ⌜ joinedYield (now joined) ≡ discarded fault ⌝ }
-    ensures { λ r. ⌜ Gives (readBlocks Dhcp4 (now (joined .entry) ∷ []) (length (now (out .entry)))) (now (out .entry)) r (now (out .exit)) ⌝ }
+    ensures { λ r. ⌜ Reads (readBlocks Dhcp4 (now (joined .entry) ∷ []) (length (now (out .entry)))) (now (out .entry)) r (now (out .exit)) ⌝ }
 {
     let none = order::empty();
     settle(
@@ -202,7 +203,7 @@ fn discard_joined(joined: &[u8], out: &mut [u8], fault: usize) -> Reading
 // slice goes on in registers.)
 fn read_instances(joined: &[u8], out: &mut [u8]) -> Reading
     requires { ⌜ length (now joined) ≤ limit.input ⌝ }
-    ensures { λ r. ⌜ Gives (readBlocks Dhcp4 (now (joined .entry) ∷ []) (length (now (out .entry)))) (now (out .entry)) r (now (out .exit)) ⌝ }
+    ensures { λ r. ⌜ Reads (readBlocks Dhcp4 (now (joined .entry) ∷ []) (length (now (out .entry)))) (now (out .entry)) r (now (out .exit)) ⌝ }
 {
     if joined.len() == 0 {
         return discard_joined(&joined[..], out, Fault::FIELD);
@@ -244,7 +245,7 @@ fn read_instances(joined: &[u8], out: &mut [u8]) -> Reading
 // Carrier 1 with several options 162: their data joined in a buffer that has room for the area.
 fn read_within(area: &[u8], buffer: &mut [u8], out: &mut [u8]) -> Reading
     requires { ⌜ (length (now area) ≤ length (now buffer)) × (length (now area) ≤ limit.input) × Several (frame Dhcp4 (now area)) ⌝ }
-    ensures { λ r. ⌜ Gives (readFramed Dhcp4 (frame Dhcp4 (now (area .entry))) (length (now (out .entry)))) (now (out .entry)) r (now (out .exit)) ⌝ }
+    ensures { λ r. ⌜ Reads (readFramed Dhcp4 (frame Dhcp4 (now (area .entry))) (length (now (out .entry)))) (now (out .entry)) r (now (out .exit)) ⌝ }
 {
     match frames::join(area, buffer) {
         Joined::Broken => refused(Refusal::FRAMING),
@@ -255,7 +256,7 @@ fn read_within(area: &[u8], buffer: &mut [u8], out: &mut [u8]) -> Reading
 // The same in a local buffer, for an area of a usual message.
 fn read_few(area: &[u8], out: &mut [u8]) -> Reading
     requires { ⌜ (length (now area) ≤ 4096) × Several (frame Dhcp4 (now area)) ⌝ }
-    ensures { λ r. ⌜ Gives (readFramed Dhcp4 (frame Dhcp4 (now (area .entry))) (length (now (out .entry)))) (now (out .entry)) r (now (out .exit)) ⌝ }
+    ensures { λ r. ⌜ Reads (readFramed Dhcp4 (frame Dhcp4 (now (area .entry))) (length (now (out .entry)))) (now (out .entry)) r (now (out .exit)) ⌝ }
 {
     let mut buffer = [0u8; USUAL];
     read_within(&area[..], &mut buffer, out)
@@ -264,7 +265,7 @@ fn read_few(area: &[u8], out: &mut [u8]) -> Reading
 // The same for an area of at most half the largest input.
 fn read_half(area: &[u8], out: &mut [u8]) -> Reading
     requires { ⌜ (length (now area) ≤ 20480) × Several (frame Dhcp4 (now area)) ⌝ }
-    ensures { λ r. ⌜ Gives (readFramed Dhcp4 (frame Dhcp4 (now (area .entry))) (length (now (out .entry)))) (now (out .entry)) r (now (out .exit)) ⌝ }
+    ensures { λ r. ⌜ Reads (readFramed Dhcp4 (frame Dhcp4 (now (area .entry))) (length (now (out .entry)))) (now (out .entry)) r (now (out .exit)) ⌝ }
 {
     let mut buffer = [0u8; HALF];
     read_within(&area[..], &mut buffer, out)
@@ -273,7 +274,7 @@ fn read_half(area: &[u8], out: &mut [u8]) -> Reading
 // The same for any area.
 fn read_many(area: &[u8], out: &mut [u8]) -> Reading
     requires { ⌜ (length (now area) ≤ limit.input) × Several (frame Dhcp4 (now area)) ⌝ }
-    ensures { λ r. ⌜ Gives (readFramed Dhcp4 (frame Dhcp4 (now (area .entry))) (length (now (out .entry)))) (now (out .entry)) r (now (out .exit)) ⌝ }
+    ensures { λ r. ⌜ Reads (readFramed Dhcp4 (frame Dhcp4 (now (area .entry))) (length (now (out .entry)))) (now (out .entry)) r (now (out .exit)) ⌝ }
 {
     let mut buffer = [0u8; Limit::INPUT];
     read_within(&area[..], &mut buffer, out)
@@ -284,7 +285,7 @@ fn read_many(area: &[u8], out: &mut [u8]) -> Reading
 // other carriers.)
 fn read_joined(area: &[u8], out: &mut [u8]) -> Reading
     requires { ⌜ length (now area) ≤ limit.input ⌝ }
-    ensures { λ r. ⌜ Gives (readFramed Dhcp4 (frame Dhcp4 (now (area .entry))) (length (now (out .entry)))) (now (out .entry)) r (now (out .exit)) ⌝ }
+    ensures { λ r. ⌜ Reads (readFramed Dhcp4 (frame Dhcp4 (now (area .entry))) (length (now (out .entry)))) (now (out .entry)) r (now (out .exit)) ⌝ }
 {
     match frames::gather(&area[..]) {
         Gathered::Broken => refused(Refusal::FRAMING),
@@ -322,7 +323,7 @@ fn read_joined(area: &[u8], out: &mut [u8]) -> Reading
 // 3, 4, 5, or the sheet of an area of a carrier.
 fn read_area(c: Carrier, area: &[u8], out: &mut [u8]) -> Reading
     requires { ⌜ length (now area) ≤ limit.input ⌝ }
-    ensures { λ r. ⌜ Gives (readFramed c (frame c (now (area .entry))) (length (now (out .entry)))) (now (out .entry)) r (now (out .exit)) ⌝ }
+    ensures { λ r. ⌜ Reads (readFramed c (frame c (now (area .entry))) (length (now (out .entry)))) (now (out .entry)) r (now (out .exit)) ⌝ }
 {
     match c {
         Carrier::Dhcp4 => read_joined(area, out),
@@ -334,7 +335,7 @@ fn read_area(c: Carrier, area: &[u8], out: &mut [u8]) -> Reading
 
 // Reads an area under a carrier number and writes the record sheet to `out`.
 pub fn read(carrier: usize, area: &[u8], out: &mut [u8]) -> Reading
-    ensures { λ r. ⌜ Reads (readOf carrier (now (area .entry)) (length (now (out .entry)))) (now (out .entry)) (r .number) (r .length) (r .found) (r .discarded) (r .fault) (now (out .exit)) ⌝ }
+    ensures { λ r. ⌜ Reads (readOf carrier (now (area .entry)) (length (now (out .entry)))) (now (out .entry)) r (now (out .exit)) ⌝ }
 {
     let Chosen::Known(c) = Carrier::of(carrier) else {
         return refused(Refusal::CARRIER);

@@ -67,7 +67,7 @@ joined-answer (r ∷ rs) room sound rising few =
     let l : List ℕ = joinedOf (r ∷ rs) in
     let some : 0 < length l = omega arith in
     ap (λ (bs : List (List ℕ)). readBlocks Dhcp4 bs room) (joined-pieces l some)
-    ∙ brings-answer Dhcp4 (l ∷ []) (r ∷ rs) room (joined-brings (r ∷ rs) sound some) rising few
+    ∙ brings-answer Dhcp4 (map (yieldOf Dhcp4) (l ∷ [])) (r ∷ rs) room (joined-brings (r ∷ rs) sound some) rising few
 
 -- accepted records come back from the options that their joined instances are cut into
 pub cut-answer : (rs : List Fields) (room : ℕ) → All (Sound Dhcp4) rs → NoneFalls 0 rs → length rs ≤ 16

@@ -37,13 +37,13 @@ use Rattle.judge.specs.JudgeLaws.{carrier-width, passed-fault, written-name}
 use Rattle.records.specs.Records.{kept, outcomeOf, staying, keepOf}
 use Rattle.records.specs.RecordsLaws.{kept-outcome}
 use Rattle.sheets.specs.Sheets.{sheetOf}
-use Rattle.reading.specs.Reading.{yields, single, yieldOf, inOrder, refuse, done, readBlocks, readFramed}
+use Rattle.reading.specs.Reading.{Yield, yields, single, yieldOf, inOrder, faultless, refuse, done, readYields, readBlocks, readFramed}
 use Rattle.taking.specs.Sheet.{NoneFalls}
 use Rattle.layouts.specs.Layouts.{carriedOf}
 use Rattle.layouts.specs.LayoutsLaws.{writable-fits}
 use Rattle.written.specs.Accepted.{Sound}
 use Rattle.written.specs.AcceptedLaws.{writable}
-use Rattle.roundtrip.specs.Returns.{bodyOf, bodiesOf, Brings, allKept, answerKept}
+use Rattle.roundtrip.specs.Returns.{bodyOf, bodiesOf, Brings, answerKept}
 
 -- ---- a name, as the carrier has it
 
@@ -135,16 +135,16 @@ pub rising-order : (rs : List Fields) → NoneFalls 0 rs → inOrder rs ≡ rs
 rising-order rs h = sort-of-sorted (λ (r : Fields). r .priority) rs (rising-sorted 0 rs h)
 
 module _ (c : Carrier) (rs : List Fields) (found room : ℕ) where
-  pub kept-room : length (sheetOf c rs) ≤ room → answerKept c rs found room ≡ done (allKept c rs found)
+  pub kept-room : length (sheetOf c rs) ≤ room → answerKept c rs found room ≡ done (faultless (sheetOf c rs) found)
   kept-room h = rw (le-ltb room (length (sheetOf c rs)) h)
 
   pub kept-no-room : room < length (sheetOf c rs) → answerKept c rs found room ≡ refuse refusal.room
   kept-no-room h = rw (lt-ltb room (length (sheetOf c rs)) h)
 
 -- 16 records or fewer, by rising priority, are answered as they arrive
-pub brings-answer : (c : Carrier) (blocks : List (List ℕ)) (rs : List Fields) (room : ℕ) → Brings (map (yieldOf c) blocks) rs → NoneFalls 0 rs
-    → length rs ≤ 16 → readBlocks c blocks room ≡ answerKept c rs (length blocks) room
-brings-answer c blocks rs room b rising few =
+pub brings-answer : (c : Carrier) (ys : List Yield) (rs : List Fields) (room : ℕ) → Brings ys rs → NoneFalls 0 rs → length rs ≤ limit.records
+    → readYields c ys room ≡ answerKept c rs (length ys) room
+brings-answer c ys rs room b rising few =
     rw (b .arrive, b .none-discarded, b .faultless, le-ltb limit.records (length rs) few, rising-order rs rising)
 
 -- ---- carriers 2 to 5
@@ -169,9 +169,9 @@ module _ (c : Carrier) (plain : Plain c) where
     pub blocks-answer : readFramed c (framed (bodiesOf c rs)) room ≡ answerKept c rs (length rs) room
     blocks-answer =
         ap (λ (bs : List (List ℕ)). readBlocks c bs room) (blocks-plain c (bodiesOf c rs) plain)
-        ∙ brings-answer c (bodiesOf c rs) rs room (bodies-bring rs sound) rising few
-        ∙ ap (λ (n : ℕ). answerKept c rs n room) (length-map rs (bodyOf c))
+        ∙ brings-answer c (map (yieldOf c) (bodiesOf c rs)) rs room (bodies-bring rs sound) rising few
+        ∙ ap (λ (n : ℕ). answerKept c rs n room) (length-map (bodiesOf c rs) (yieldOf c) ∙ length-map rs (bodyOf c))
 
     -- accepted records come back from their blocks
-    pub blocks-return : length (sheetOf c rs) ≤ room → readFramed c (framed (bodiesOf c rs)) room ≡ done (allKept c rs (length rs))
+    pub blocks-return : length (sheetOf c rs) ≤ room → readFramed c (framed (bodiesOf c rs)) room ≡ done (faultless (sheetOf c rs) (length rs))
     blocks-return h = blocks-answer ∙ kept-room c rs (length rs) room h

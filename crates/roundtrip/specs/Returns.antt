@@ -10,7 +10,7 @@ use Rattle.carriers.specs.declared.Carrier.{Carrier}
 use Rattle.blocks.specs.Block.{Fields, layout}
 use Rattle.layouts.specs.Layouts.{carriedOf}
 use Rattle.sheets.specs.Sheets.{sheetOf}
-use Rattle.reading.specs.Reading.{Yield, arrivals, discardedIn, firstFault, Done, Answer, refuse, done}
+use Rattle.reading.specs.Reading.{Yield, arrivals, discardedIn, firstFault, faultless, Answer, refuse, done}
 
 -- the body of a record's option or attribute, in carrier 1 of its instance
 abbrev pub bodyOf : Carrier → Fields → List ℕ
@@ -25,10 +25,6 @@ pub record Brings (ys : List Yield) (rs : List Fields) : Type 0 where
   pub none-discarded : discardedIn ys ≡ 0
   pub faultless : firstFault ys ≡ 0
 
--- what a reading gives back that found so many blocks, with the records rs, and discarded none
-abbrev pub allKept : Carrier → List Fields → ℕ → Done
-allKept c rs found = record { sheet = sheetOf c rs; found = found; discarded = 0; fault = 0 }
-
--- the answer of such a reading, by the room
+-- the answer of a reading that found so many blocks, with the records rs, and discarded none, by the room
 abbrev pub answerKept : Carrier → List Fields → ℕ → ℕ → Answer
-answerKept c rs found room = cond (ltb room (length (sheetOf c rs))) (refuse refusal.room) (done (allKept c rs found))
+answerKept c rs found room = cond (ltb room (length (sheetOf c rs))) (refuse refusal.room) (done (faultless (sheetOf c rs) found))

@@ -8,7 +8,8 @@ use lib.ListN.{length, take}
 use Rattle.carriers.specs.declared.Carrier.{Carrier}
 use Rattle.carriers.specs.Carriers.{isJoined}
 use Rattle.blocks.specs.Block.{Fields}
-use Rattle.reading.specs.Reading.{Done}
+use Rattle.reading.specs.declared.Reading.{Reading}
+use Rattle.reading.specs.Reading.{Done, faultless, done, told}
 use Rattle.written.specs.Accepted.{Accepted}
 
 -- the blocks of an accepted sheet's octets: in carrier 1 one, or none for no records; else one for each record
@@ -21,16 +22,12 @@ blocksIn c rs = cond (isJoined c) (blockIn rs) (length rs)
 
 -- what reading gives back: the sheet itself, its blocks, none discarded
 abbrev pub returned : Carrier → List Fields → List ℕ → Done
-returned c rs s = record { sheet = s; found = blocksIn c rs; discarded = 0; fault = 0 }
+returned c rs s = faultless s (blocksIn c rs)
 
--- what the call leaves that read a sheet's octets: it is done, the sheet stands at the front of the buffer, every block was kept
-pub record Restored (s : List ℕ) (number long found discarded fault : ℕ) (sheet : List ℕ) : Type 0 where
+-- what the call leaves that read a sheet's octets: it is done, every block was kept, and the sheet stands at the front of the buffer
+pub record Restored (s : List ℕ) (r : Reading) (sheet : List ℕ) : Type 0 where
   pub carrier : Carrier
   pub records : List Fields
   pub accepted : Accepted s carrier records
-  pub done : number ≡ 0
-  pub size : long ≡ length s
-  pub front : take long sheet ≡ s
-  pub blocks : found ≡ blocksIn carrier records
-  pub none-discarded : discarded ≡ 0
-  pub faultless : fault ≡ 0
+  pub numbers : r ≡ told (done (returned carrier records s))
+  pub front : take (r .length) sheet ≡ s

@@ -22,8 +22,9 @@ use Rattle.frames.specs.Frame.{Framed, frame}
 use Rattle.frames.specs.Walk.{Plain}
 use Rattle.frames.specs.WalkLaws.{false-apart}
 use Rattle.blocks.specs.Block.{Fields}
-use Rattle.sheets.specs.Sheets.{frontOf, sheetOf}
-use Rattle.reading.specs.Reading.{Answer, refuse, done, readFramed, readOf, sheetIn, Reads}
+use Rattle.sheets.specs.Sheets.{carrierAt, frontOf, sheetOf}
+use Rattle.reading.specs.declared.Reading.{Reading}
+use Rattle.reading.specs.Reading.{Done, Answer, refuse, done, readFramed, readOf, Reads}
 use Rattle.reading.specs.AnswerLaws.{read-known}
 use Rattle.taking.specs.Sheet.{NoneFalls}
 use Rattle.written.specs.Writing.{octetsOf, writeOf, numberIn, Writes}
@@ -71,30 +72,37 @@ module _ (s : List ℕ) (c : Carrier) (rs : List Fields) (room : ℕ) (a : Accep
   pub read-write-room : room < length s → readOf (numberOf c) (octetsOf c rs) room ≡ refuse refusal.room
   read-write-room h = read-answer ∙ kept-no-room c rs (blocksIn c rs) room (rw (← (a .is .is)) h)
 
+-- the sheet of what is done
+sheet-of : {d e : Done} → done d ≡ done e → d .sheet ≡ e .sheet
+sheet-of {d} {e} q = let same : d ≡ e = cc in ap (λ (x : Done). x .sheet) same
+
 -- two accepted sheets of one carrier with the same octets are the same sheet
 pub write-unique : (s t : List ℕ) (c : Carrier) (rs qs : List Fields) → Accepted s c rs → Accepted t c qs → octetsOf c rs ≡ octetsOf c qs → s ≡ t
 write-unique s t c rs qs a b e =
     let room : ℕ = length s + length t in
-    ap sheetIn
+    sheet-of
     (sym (read-write s c rs room a (omega arith))
     ∙ ap (λ (l : List ℕ). readOf (numberOf c) l room) e
     ∙ read-write t c qs room b (omega arith))
 
 -- ---- the two calls
 
--- what a call with number 0 leaves at the front of its buffer
-answered-front : (bs out out′ : List ℕ) (number size : ℕ) → Answered 0 bs out number size out′ → (number ≡ 0) × (size ≡ length bs) × (take size out′ ≡ bs)
-unfolding count left over
-answered-front bs out out′ number size h =
-    let long : size ≡ length bs = h .counted in
-    (h .numbered, long, ap₂ (λ (n : ℕ) (l : List ℕ). take n l) long (h .leaves) ∙ take-at bs (drop (0 + length bs) out) (length bs) refl)
+-- what is laid over the front of a buffer stands there
+over-front : (bs out : List ℕ) {out′ : List ℕ} {size : ℕ} → size ≡ length bs → out′ ≡ over 0 bs out → take size out′ ≡ bs
+unfolding over
+over-front bs out n l = ap₂ (λ (n : ℕ) (l : List ℕ). take n l) n l ∙ take-at bs (drop (0 + length bs) out) (length bs) refl
+
+-- and so does what a call with number 0 wrote
+answered-front : (bs out out′ : List ℕ) (number size : ℕ) → Answered 0 bs out number size out′ → take size out′ ≡ bs
+unfolding count left
+answered-front bs out out′ number size h = over-front bs out (h .counted) (h .leaves)
 
 -- a sheet says its carrier's number
-sheet-number : (s : List ℕ) (c : Carrier) (rs : List Fields) → s ≡ sheetOf c rs → getD s 5 0 ≡ numberOf c
+sheet-number : (s : List ℕ) (c : Carrier) (rs : List Fields) → s ≡ sheetOf c rs → getD s carrierAt 0 ≡ numberOf c
 unfolding sheetOf frontOf
-sheet-number s c rs e = ap (λ (l : List ℕ). getD l 5 0) e ∙ says c
+sheet-number s c rs e = ap (λ (l : List ℕ). getD l carrierAt 0) e ∙ says c
   where
-    says : (c : Carrier) → getD (sheetOf c rs) 5 0 ≡ numberOf c
+    says : (c : Carrier) → getD (sheetOf c rs) carrierAt 0 ≡ numberOf c
     says Dhcp4 = refl
     says Dhcp6 = refl
     says Router = refl
@@ -112,32 +120,26 @@ written-octets s c rs room a z = go (ltb room (length (octetsOf c rs))) (accepte
     go false e = e
 
 -- what `write` leaves in the buffer, `read` turns back
-pub calls-return : (s out out₁ sheet sheet₁ : List ℕ) (size number long found discarded fault : ℕ) → Bytes s
+pub calls-return : (s out out₁ sheet sheet₁ : List ℕ) (size : ℕ) (r : Reading) → Bytes s
     → Writes (writeOf s (length out)) out 0 size out₁
-    → Reads (readOf (getD s 5 0) (take size out₁) (length sheet)) sheet number long found discarded fault sheet₁
+    → Reads (readOf (getD s carrierAt 0) (take size out₁) (length sheet)) sheet r sheet₁
     → length s ≤ length sheet
-    → Restored s number long found discarded fault sheet₁
-calls-return s out out₁ sheet sheet₁ size number long found discarded fault octets w r room =
+    → Restored s r sheet₁
+calls-return s out out₁ sheet sheet₁ size r octets w g room =
     let z : numberIn (writeOf s (length out)) ≡ 0 = sym (w .numbered) in
     let k = accepted-exactly s octets (length out) .0 (inl z) in
     let c : Carrier = k .0 in
     let rs : List Fields = k .1 in
     let a : Accepted s c rs = k .2 in
     let front : take size out₁ ≡ octetsOf c rs =
-    answered-front (octetsOf c rs) out out₁ 0 size (subst (λ (x : writing.Answer). Writes x out 0 size out₁) (written-octets s c rs (length out) a z) w) .2 in
-    let answer : readOf (getD s 5 0) (take size out₁) (length sheet) ≡ done (returned c rs s) =
+    answered-front (octetsOf c rs) out out₁ 0 size (subst (λ (x : writing.Answer). Writes x out 0 size out₁) (written-octets s c rs (length out) a z) w) in
+    let answer : readOf (getD s carrierAt 0) (take size out₁) (length sheet) ≡ done (returned c rs s) =
     ap₂ (λ (n : ℕ) (l : List ℕ). readOf n l (length sheet)) (sheet-number s c rs (a .is .is)) front ∙ read-write s c rs (length sheet) a room in
-    let back : Reads (done (returned c rs s)) sheet number long found discarded fault sheet₁ =
-    subst (λ (x : Answer). Reads x sheet number long found discarded fault sheet₁) answer r in
-    let f = answered-front s sheet sheet₁ number long (back .answered) in
+    let back : Reads (done (returned c rs s)) sheet r sheet₁ = subst (λ (x : Answer). Reads x sheet r sheet₁) answer g in
     record {
       carrier = c;
       records = rs;
       accepted = a;
-      done = f .0;
-      size = f .1;
-      front = f .2;
-      blocks = back .found-is;
-      none-discarded = back .discarded-is;
-      faultless = back .fault-is;
+      numbers = back .numbers;
+      front = over-front s sheet (ap (λ (r : Reading). r .length) (back .numbers)) (back .leaves);
     }

@@ -24,6 +24,7 @@ use taking::Spot;
 use taking::Took;
 
 // What a writing gives back: 0 and the length of its octets; or a refusal's number and 0.
+#[repr(C)]
 pub struct Writing {
     pub number: usize,
     pub length: usize,

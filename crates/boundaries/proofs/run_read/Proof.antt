@@ -2,12 +2,12 @@
 use borrow.Author.Needs.{needs}
 use native.Mathlib.Omega.{arith}
 use Rattle.io.proofs.Counting.{counts}
-use Rattle.octets.specs.AnswerLaws.{answered-fits}
+use Rattle.reading.specs.AnswerLaws.{reads-fits}
 use Rattle.boundaries.proofs.run_read.Statement.{statement}
 use Rattle.boundaries.proofs.run_read.Tie as tie
 
 print-buffer-requires : tie.Need-print-buffer-requires
-print-buffer-requires c κs = counts _ _ (answered-fits (c .before .before .before .before .read .ensures .answered) (omega arith))
+print-buffer-requires c κs = counts _ _ (reads-fits _ (c .before .before .before .before .read .ensures) (omega arith))
 
 pub run-read-spec : {M : Type 1} → statement M
 run-read-spec =

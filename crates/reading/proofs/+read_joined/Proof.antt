@@ -14,7 +14,7 @@ use Rattle.frames.specs.Gather.{GatheredFrom}
 use Rattle.frames.specs.GatherLaws.{part-length}
 use Rattle.reading.specs.Reading.{readFramed}
 use Rattle.reading.specs.TallyLaws.{holds-none, holds-ready, shows-none}
-use Rattle.reading.specs.AnswerLaws.{gives-as, answer-blocks, answer-absent, answer-joined}
+use Rattle.reading.specs.AnswerLaws.{reads-as, reads-refused, answer-yields, answer-absent, answer-joined}
 use borrow.Author.Needs.{needs}
 use borrow.Fn.Kinds.{In}
 use borrow.Fn.PlainCycle.{Measures, is, falls, and}
@@ -123,7 +123,7 @@ module _ (t : ℕ) where
       let a = k .before .before .before .before .before .args in
       let m = several k in
       let rest = take-all (length (now (a .area)) - k .from .given .0 .0) (drop (k .from .given .0 .0) (now (a .area))) (omega (arith, length-drop (k .from .given .0 .0) (now (a .area)))) in
-      gives-as (ap (λ (f : Framed). readFramed Dhcp4 f (length (now (a .out)))) (m .1 ∙ sym (ap (frame Dhcp4) rest))) (s .read-joined .ensures)
+      reads-as (ap (λ (f : Framed). readFramed Dhcp4 f (length (now (a .out)))) (m .1 ∙ sym (ap (frame Dhcp4) rest))) (s .read-joined .ensures)
 
   read-few-requires : lts.Need-read-few-requires (calls t) (at t) read-joined.Post
   read-few-requires c κs = (c .before .if2 .taken, several (c .before .before .before .before) .2)
@@ -150,7 +150,7 @@ module _ (t : ℕ) where
   returns-4 c =
       let g = c .before .before .before in
       let broken = subst (GatheredFrom _) (c .before .enum-told .given .1) (g .gather .ensures) in
-      gives-as (ap (λ (f : Framed). readFramed Dhcp4 f (length (now (g .before .before .before .args .out)))) broken) (c .refused .ensures _ (λ z. omega arith))
+      reads-refused _ (ap (λ (f : Framed). readFramed Dhcp4 f (length (now (g .before .before .before .args .out)))) broken) (c .refused .ensures)
 
   same-length-4 : lts.Need-same-length-4 (calls t) (at t) read-joined.Post
   same-length-4 c = search needs
@@ -161,7 +161,7 @@ module _ (t : ℕ) where
       let n = s .before .before in
       let k = n .before in
       let absent = subst (GatheredFrom _) (k .enum-told2 .given .1) (k .before .before .gather .ensures) in
-      gives-as (answer-absent _ absent ∙ sym (answer-blocks _ _ _ [] (shows-none (holds-none _ _ (n .empty .ensures .0) (n .empty .ensures .1))))) (s .settle .ensures)
+      reads-as (answer-absent _ absent ∙ sym (answer-yields _ _ _ (shows-none (holds-none _ _ (n .empty .ensures .0) (n .empty .ensures .1))))) (s .settle .ensures)
 
   same-length-5 : lts.Need-same-length-5 (calls t) (at t) read-joined.Post
   same-length-5 c = search needs
@@ -170,7 +170,7 @@ module _ (t : ℕ) where
   returns-6 c =
       let r = c .before .before in
       let o = one (r .before .before .before .before) in
-      gives-as (answer-joined _ _ (_ ∷ []) (o .2) (omega arith) (sym (append-nil _))) (r .read-instances .ensures)
+      reads-as (answer-joined _ _ (_ ∷ []) (o .2) (omega arith) (sym (append-nil _))) (r .read-instances .ensures)
 
   same-length-6 : lts.Need-same-length-6 (calls t) (at t) read-joined.Post
   same-length-6 c = search needs

@@ -1,7 +1,6 @@
 -- `reading::read` meets its contract: 1, 2, and then what the area of a known carrier answers. Assumes nothing.
 use mathlib.Core.Path.{sym, _∙_}
-use native.Mathlib.Omega.{arith}
-use Rattle.reading.specs.AnswerLaws.{gives-as, read-unknown, read-long, read-known}
+use Rattle.reading.specs.AnswerLaws.{reads-as, reads-refused, read-unknown, read-long, read-known}
 use borrow.Author.Needs.{needs}
 use Rattle.reading.proofs.read.Statement.{statement}
 use Rattle.reading.proofs.read.Tie as tie
@@ -9,18 +8,18 @@ use Rattle.reading.proofs.read.Tie as tie
 returns : tie.Need-returns
 returns c =
     let k = c .before in
-    gives-as (read-unknown _ _ _ (sym (k .before .before .of .ensures) ∙ k .enum-told .given .1)) (c .refused .ensures _ (λ z. omega arith))
+    reads-refused _ (read-unknown _ _ _ (sym (k .before .before .of .ensures) ∙ k .enum-told .given .1)) (c .refused .ensures)
 
 returns-2 : tie.Need-returns-2
 returns-2 c =
     let k = c .before .before .before in
-    gives-as (read-long _ _ _ (sym (k .before .before .of .ensures) ∙ k .c .given .1) (c .before .if1 .taken)) (c .refused2 .ensures _ (λ z. omega arith))
+    reads-refused _ (read-long _ _ _ (sym (k .before .before .of .ensures) ∙ k .c .given .1) (c .before .if1 .taken)) (c .refused2 .ensures)
 
 returns-3 : tie.Need-returns-3
 returns-3 c =
     let e = c .before .before .before .before in
     let k = e .before .before in
-    gives-as (read-known _ _ _ (sym (k .before .before .of .ensures) ∙ k .c .given .1) (e .if1 .left)) (c .before .before .read-area .ensures)
+    reads-as (read-known _ _ _ (sym (k .before .before .of .ensures) ∙ k .c .given .1) (e .if1 .left)) (c .before .before .read-area .ensures)
 
 pub read-spec : {M : Type 1} → statement M
 read-spec =

@@ -8,7 +8,7 @@ use Rattle.carriers.specs.declared.Carrier.{Carrier}
 use Rattle.carriers.specs.declared.Carrier.the-variants.{Dhcp4}
 use Rattle.frames.specs.Frame.{frame}
 use Rattle.reading.specs.Reading.{readFramed}
-use Rattle.reading.specs.AnswerLaws.{gives-as}
+use Rattle.reading.specs.AnswerLaws.{reads-as}
 use borrow.Author.Needs.{needs}
 use Rattle.reading.proofs.read_area.Statement.{statement}
 use Rattle.reading.proofs.read_area.Tie as tie
@@ -26,7 +26,7 @@ returns c =
     let j = c .before .before in
     let e = j .before .before in
     let a = e .before .before .before .before .args in
-    gives-as (ap (λ (k : Carrier). readFramed k (frame k (now (a .area))) (length (now (a .out)))) (e .enum-told .given .1)) (j .read-joined .ensures)
+    reads-as (ap (λ (k : Carrier). readFramed k (frame k (now (a .area))) (length (now (a .out)))) (e .enum-told .given .1)) (j .read-joined .ensures)
 
 pub read-area-spec : {M : Type 1} → statement M
 read-area-spec =

@@ -18,7 +18,7 @@ use Rattle.reading.specs.Reading.{readFramed}
 use Rattle.reading.specs.Tally.{heldOf, Seen, tallyOf, Open}
 use Rattle.reading.specs.Walks.{Tallying}
 use Rattle.reading.specs.TallyLaws.{holds-none, holds-ready, tallying-start, tallying-open, tallying-discarded, tallying-kept, tallying-full, tallying-skips}
-use Rattle.reading.specs.AnswerLaws.{gives-as, gives-from, answer-end, answer-fault}
+use Rattle.reading.specs.AnswerLaws.{reads-as, reads-from, reads-refused, answer-end, answer-fault}
 use borrow.Author.Needs.{needs}
 use Rattle.reading.proofs.read_blocks.Statement.{statement}
 use Rattle.reading.proofs.read_blocks.Tie as tie
@@ -182,8 +182,8 @@ returns c =
     let e = s .before .before in
     let l = e .before .before .before in
     let a = start l .args in
-    gives-from (readFramed (a .c) (frame (a .c) (now (a .area)))) (l .loop .inv .1)
-    (gives-as (answer-end _ _ _ (l .loop .inv .0) (start l .pre .0) (ended e)) (s .settle .ensures))
+    reads-from (readFramed (a .c) (frame (a .c) (now (a .area)))) (l .loop .inv .1)
+    (reads-as (answer-end _ _ _ (l .loop .inv .0) (start l .pre .0) (ended e)) (s .settle .ensures))
 
 same-length-2 : tie.Need-same-length-2 Inv-loop μ-loop
 same-length-2 c = ap length (c .before .before .before .before .loop .inv .1)
@@ -193,8 +193,8 @@ returns-2 c =
     let e = c .before in
     let l = e .before .before .before in
     let a = start l .args in
-    gives-from (readFramed (a .c) (frame (a .c) (now (a .area)))) (l .loop .inv .1)
-    (gives-as (answer-fault _ _ _ (l .loop .inv .0) (broken e)) (c .refused .ensures _ (λ z. omega arith)))
+    reads-from (readFramed (a .c) (frame (a .c) (now (a .area)))) (l .loop .inv .1)
+    (reads-refused _ (answer-fault _ _ _ (l .loop .inv .0) (broken e)) (c .refused .ensures))
 
 pub read-blocks-spec : {M : Type 1} → statement M
 read-blocks-spec =

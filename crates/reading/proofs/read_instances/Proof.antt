@@ -15,7 +15,7 @@ use Rattle.reading.specs.Tally.{heldOf, Seen}
 use Rattle.reading.specs.Walks.{Passed}
 use Rattle.reading.specs.InstanceLaws.{joined-none}
 use Rattle.reading.specs.TallyLaws.{holds-none, holds-few, holds-ready, passed-start, passed-short, passed-past, passed-faulty, passed-kept, passed-full, passed-end}
-use Rattle.reading.specs.AnswerLaws.{gives-as, gives-from, answer-blocks}
+use Rattle.reading.specs.AnswerLaws.{reads-as, reads-from, answer-yields}
 use borrow.Author.Needs.{needs}
 use Rattle.reading.proofs.read_instances.Statement.{statement}
 use Rattle.reading.proofs.read_instances.Tie as tie
@@ -67,7 +67,7 @@ returns-2 : tie.Need-returns-2 Inv-loop μ-loop
 returns-2 c =
     let d = c .before .before in
     let l = d .before .before .before .before in
-    gives-from (readBlocks Dhcp4 (now (start l .args .joined) ∷ [])) (l .loop .inv .1) (d .discard-joined2 .ensures)
+    reads-from (readBlocks Dhcp4 (now (start l .args .joined) ∷ [])) (l .loop .inv .1) (d .discard-joined2 .ensures)
 
 discard-joined-requires-3 : tie.Need-discard-joined-requires-3 Inv-loop μ-loop
 discard-joined-requires-3 c κs =
@@ -82,7 +82,7 @@ returns-3 : tie.Need-returns-3 Inv-loop μ-loop
 returns-3 c =
     let d = c .before .before in
     let l = turn (d .before .before .before) in
-    gives-from (readBlocks Dhcp4 (now (start l .args .joined) ∷ [])) (l .loop .inv .1) (d .discard-joined3 .ensures)
+    reads-from (readBlocks Dhcp4 (now (start l .args .joined) ∷ [])) (l .loop .inv .1) (d .discard-joined3 .ensures)
 
 discard-joined-requires-4 : tie.Need-discard-joined-requires-4 Inv-loop μ-loop
 discard-joined-requires-4 c κs =
@@ -99,7 +99,7 @@ returns-4 : tie.Need-returns-4 Inv-loop μ-loop
 returns-4 c =
     let d = c .before .before in
     let l = turn (d .before .before .before .before .before .before .before) in
-    gives-from (readBlocks Dhcp4 (now (start l .args .joined) ∷ [])) (l .loop .inv .1) (d .discard-joined4 .ensures)
+    reads-from (readBlocks Dhcp4 (now (start l .args .joined) ∷ [])) (l .loop .inv .1) (d .discard-joined4 .ensures)
 
 slot-of-requires : tie.Need-slot-of-requires Inv-loop μ-loop
 slot-of-requires c κs =
@@ -161,8 +161,8 @@ returns-5 c =
     let s = c .before .before in
     let t = s .before .before in
     let l = t .before in
-    gives-from (readBlocks Dhcp4 (now (start l .args .joined) ∷ [])) (l .loop .inv .1)
-    (gives-as (sym (answer-blocks _ _ _ (_ ∷ []) (passed-end _ (l .loop .inv .0) (t .loop-test .left)))) (s .settle .ensures))
+    reads-from (readBlocks Dhcp4 (now (start l .args .joined) ∷ [])) (l .loop .inv .1)
+    (reads-as (sym (answer-yields _ _ _ (passed-end _ (l .loop .inv .0) (t .loop-test .left)))) (s .settle .ensures))
 
 pub read-instances-spec : {M : Type 1} → statement M
 read-instances-spec =

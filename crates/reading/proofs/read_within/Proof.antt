@@ -10,7 +10,7 @@ use Rattle.frames.specs.Frame.{Framed, frame}
 use Rattle.frames.specs.Gather.{Joins, AtMost}
 use Rattle.frames.specs.GatherLaws.{joins-broken}
 use Rattle.reading.specs.Reading.{readFramed}
-use Rattle.reading.specs.AnswerLaws.{gives-as, many-room, many-length, answer-many}
+use Rattle.reading.specs.AnswerLaws.{reads-as, reads-refused, many-room, many-length, answer-many}
 use borrow.Author.Needs.{needs}
 use Rattle.reading.proofs.read_within.Statement.{statement}
 use Rattle.reading.proofs.read_within.Tie as tie
@@ -45,13 +45,13 @@ returns c =
     let j = c .before .before .before .before .before in
     let a = j .before .before .before .before .before .args in
     let broken = joins-broken (frame Dhcp4 (now (a .area))) (now (a .buffer)) (j .join .last .1 .0) (subst (λ (r : Joined). Joins (frame Dhcp4 (now (a .area))) (now (a .buffer)) r (j .join .last .1 .0)) (c .before .enum-told .given .1) (j .join .ensures .0)) in
-    gives-as (ap (λ (f : Framed). readFramed Dhcp4 f (length (now (a .out)))) broken) (c .refused .ensures _ (λ z. omega arith))
+    reads-refused _ (ap (λ (f : Framed). readFramed Dhcp4 f (length (now (a .out)))) broken) (c .refused .ensures)
 
 returns-2 : tie.Need-returns-2
 returns-2 c =
     let s = c .before .before in
     let k = s .before .before .before .before in
-    gives-as (answer-many _ _ _ _ (whole k) _ (start k .pre .2)) (s .read-instances .ensures)
+    reads-as (answer-many _ _ _ _ (whole k) _ (start k .pre .2)) (s .read-instances .ensures)
 
 pub read-within-spec : {M : Type 1} → statement M
 read-within-spec =

@@ -1,17 +1,17 @@
 -- `reading::settle` meets its contract: the tests in their order, and the sheet. Assumes nothing.
 use native.Mathlib.Omega.{arith}
-use Rattle.reading.specs.AnswerLaws.{gives-as, answer-records, answer-room, answer-done}
+use Rattle.reading.specs.AnswerLaws.{reads-refused, reads-done, answer-records, answer-room, answer-done}
 use borrow.Author.Needs.{needs}
 use Rattle.reading.proofs.settle.Statement.{statement}
 use Rattle.reading.proofs.settle.Tie as tie
 
 returns : tie.Need-returns
-returns c = gives-as (answer-records _ _ _ _ (c .before .if1 .taken)) (c .refused .ensures _ (λ z. omega arith))
+returns c = reads-refused _ (answer-records _ _ _ _ (c .before .if1 .taken)) (c .refused .ensures)
 
 returns-2 : tie.Need-returns-2
 returns-2 c =
     let k = c .before .before in
-    gives-as (answer-room _ _ _ _ (k .if1 .left) (c .before .if2 .taken)) (c .refused2 .ensures _ (λ z. omega arith))
+    reads-refused _ (answer-room _ _ _ _ (k .if1 .left) (c .before .if2 .taken)) (c .refused2 .ensures)
 
 put-sheet-requires : tie.Need-put-sheet-requires
 put-sheet-requires c κs =
@@ -25,7 +25,7 @@ returns-3 c =
     let p = c .before .before in
     let e = p .before .before in
     let k = e .before in
-    answer-done _ _ _ _ (k .if1 .left) (e .if2 .left) (p .put-sheet .ensures)
+    reads-done (answer-done _ _ _ _ (k .if1 .left) (e .if2 .left)) (p .put-sheet .ensures)
 
 pub settle-spec : {M : Type 1} → statement M
 settle-spec =

@@ -5,12 +5,12 @@ use native.Mathlib.Omega.{arith}
 use borrow.Author.Needs.{needs}
 use lib.ListN.{length}
 use lib.Seq.{length-take-le}
-use Rattle.tool.proofs.Within.{answered-within}
+use Rattle.reading.specs.AnswerLaws.{reads-fits}
 use Rattle.tool.proofs.read.Statement.{statement}
 use Rattle.tool.proofs.read.Tie as tie
 
 short : (c : tie.After-read) → c .read .result .length ≤ length (c .read .last .1 .1 .0)
-short c = omega (arith, answered-within (c .read .ensures .answered) (c .read .kept .1 .1 .0), c .read .kept .1 .1 .0)
+short c = reads-fits _ (c .read .ensures) (c .read .kept .1 .1 .0)
 
 array-share-prefix-sheet : tie.Need-array-share-prefix-sheet
 array-share-prefix-sheet c = omega (arith, short (c .before .before .before))
