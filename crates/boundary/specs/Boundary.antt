@@ -31,7 +31,8 @@ use Rattle.reading.specs.Reading as reading
 use Rattle.taking.specs.Taking.{same, recordsFrom, takeOf}
 use Rattle.taking.specs.TakenLaws.{same-self}
 use Rattle.pieces.specs.Pieces.{pieces, cutOf}
-use Rattle.written.specs.Writing.{octetsOf, firstFault, anyLarge, written, writeOf}
+use Rattle.vetting.specs.Vetting.{firstFault, vetOf, anyLarge}
+use Rattle.written.specs.Writing.{octetsOf, written, writeOf}
 use Rattle.written.specs.Writing as writing
 use Rattle.boundary.specs.Table.{Piece, IsRead, IsWritten, IsOther, Holds, k1, k2, k3, k4, k5, k6, k7, k8, k9, k10, k11, k12, table, example}
 
@@ -95,7 +96,7 @@ unfolding readOf chosenOf frameFrom numberAt parse part number counted isPadding
     tailFault listOf keptOf unusable unusable4 unusable16
     paramsFault pairsFrom sizeOf keys rising has hasHint stringsFrom alpnGood valueGood allGood
     recordOf frontOf sheetOf
-    writeOf takeOf same recordsFrom hasOf firstFault anyLarge octetsOf layout textOf dotsFrom cutOf pieces
+    writeOf vetOf takeOf same recordsFrom hasOf firstFault anyLarge octetsOf layout textOf dotsFrom cutOf pieces
 boundary =
     back k1 (λ room. refl) (λ room. refl)
     and back k2 (λ room. refl) (λ room. refl)

@@ -3,7 +3,8 @@
 // length 0.
 ghost use lib.ListN.{length};
 ghost use Rattle.reading.specs.Reading.{readOf, Reads};
-ghost use Rattle.written.specs.Writing.{writeOf, Writes};
+ghost use Rattle.written.specs.Writing.{writeOf};
+ghost use Rattle.writing.specs.Writes.{Writes};
 use reading::Reading;
 use writing::Writing;
 
@@ -18,7 +19,7 @@ pub extern "C" fn dnr_read(carrier: u8, area: &[u8], sheet: &mut [u8]) -> Readin
 // Writes the octets of a record sheet: its options, or its attributes.
 #[no_mangle]
 pub extern "C" fn dnr_write(sheet: &[u8], octets: &mut [u8]) -> Writing
-    ensures { λ r. ⌜ Writes (writeOf (now (sheet .entry)) (length (now (octets .entry)))) (now (octets .entry)) (r .number) (r .length) (now (octets .exit)) ⌝ }
+    ensures { λ r. ⌜ Writes (writeOf (now (sheet .entry)) (length (now (octets .entry)))) (now (octets .entry)) r (now (octets .exit)) ⌝ }
 {
     writing::write(sheet, octets)
 }

@@ -5,6 +5,7 @@ use mathlib.Core.List.{List, [], _∷_, _++_, append-assoc, append-nil}
 use Prim.Native.Nat.{ℕ, _+_, _*_, _/_, _%_, _^_, _≤_, _<_}
 use native.Mathlib.Omega.{arith}
 use lib.ListN.{length, length-append}
+use Rattle.numbers.specs.Limit as limit
 use Rattle.carriers.specs.declared.Carrier.{Carrier}
 use Rattle.carriers.specs.declared.Carrier.the-variants.{Dhcp4, Dhcp6, Router, Ike4, Ike6}
 use Rattle.carriers.specs.declared.Form.{Form}
@@ -18,7 +19,7 @@ use Rattle.frames.specs.Emit as emit
 use Rattle.frames.specs.EmitLaws.{option-length}
 use Rattle.frames.specs.Walk.{Plain}
 use Rattle.layouts.specs.Layouts.{carriedAs, carriedOf, ownOption, instanceOf, joinedOf}
-use Rattle.layouts.specs.Writable.{Writable, unpaddedOctets, bodyBy, bodyOctets, optionOctets, instanceOctets, joinedOctets}
+use Rattle.layouts.specs.Writable.{Writable, unpaddedOctets, bodyBy, bodyOctets, optionOctets, instanceOctets, joinedOctets, addressesMost, bodyMost}
 
 pub header-small : (c : Carrier) → headerOf c ≤ 4
 header-small c = omega (arith, headed c .few)
@@ -74,8 +75,8 @@ body-small c full n a p = go (formOf c) full
 whole-addresses : (c : Carrier) (n : ℕ) → 0 < n → n % addressWidth c ≡ 0 → (0 < n / addressWidth c) × (n ≡ n / addressWidth c * addressWidth c)
 whole-addresses c n h = by-address (λ w. n % w ≡ 0 → (0 < n / w) × (n ≡ n / w * w)) (λ e. (omega arith, omega arith)) (λ e. (omega arith, omega arith)) c
 
-few-addresses : (c : Carrier) (n : ℕ) → n / addressWidth c ≤ 63 → n ≤ 1023
-few-addresses c n = by-address (λ w. n / w ≤ 63 → n ≤ 1023) (λ h. omega arith) (λ h. omega arith) c
+pub few-addresses : (c : Carrier) (n : ℕ) → n / addressWidth c ≤ limit.addresses → n ≤ addressesMost
+few-addresses c n = by-address (λ w. n / w ≤ limit.addresses → n ≤ addressesMost) (λ h. omega arith) (λ h. omega arith) c
 
 carried-name : (text : Bool) (r : Fields) → length (carriedAs text r .name) ≤ length (r .name)
 carried-name true r = rw text-length (omega arith)
@@ -109,15 +110,15 @@ module _ (c : Carrier) (r : Fields) (h : Writable c r) where
           fits-full (carriedOf c r) (length (r .addresses) / addressWidth c) e (h .priority) n (k .0) (t .few) (t .short) c (h .lifetime) (k .1)
       go false e = fits-named c r h e
 
-  pub writable-small : (length (r .addresses) ≤ 1023) × (length (r .parameters) ≤ 1024)
+  pub writable-small : (length (r .addresses) ≤ addressesMost) × (length (r .parameters) ≤ limit.parameters)
   writable-small = go (r .full) refl
     where
-      go : (full : Bool) → r .full ≡ full → (length (r .addresses) ≤ 1023) × (length (r .parameters) ≤ 1024)
+      go : (full : Bool) → r .full ≡ full → (length (r .addresses) ≤ addressesMost) × (length (r .parameters) ≤ limit.parameters)
       go true e = let t = h .tail e in (few-addresses c (length (r .addresses)) (t .few), t .short)
       go false e = let k = h .name-only e in rw (k .0, k .1) (omega arith, omega arith)
 
   -- so has its body
-  pub writable-body : length (layout c (carriedOf c r)) ≤ 2321
+  pub writable-body : length (layout c (carriedOf c r)) ≤ bodyMost
   writable-body = rw (body-length c r) (omega (arith, body-small c (r .full) (length (r .name)) (length (r .addresses)) (length (r .parameters)), writable-small, h .short))
 
 -- in carriers 2 to 5 its option can be framed

@@ -3,7 +3,7 @@
 use mathlib.Core.Path.{_≡_}
 use mathlib.Core.Bool.{Bool, true, false, cond}
 use mathlib.Core.List.{List, [], _∷_}
-use Prim.Native.Nat.{ℕ, _+_, _-_, _/_, _%_, _^_, _≤_, _<_}
+use Prim.Native.Nat.{ℕ, _+_, _-_, _*_, _/_, _%_, _^_, _≤_, _<_}
 use lib.ListN.{length}
 use Rattle.numbers.specs.Limit as limit
 use Rattle.carriers.specs.declared.Carrier.{Carrier}
@@ -68,3 +68,17 @@ instanceOctets full n a p = 2 + bodyOctets Dhcp4 full n a p
 abbrev pub joinedOctets : List Fields → ℕ
 joinedOctets [] = 0
 joinedOctets (r ∷ rs) = instanceOctets (r .full) (length (r .name)) (length (r .addresses)) (length (r .parameters)) + joinedOctets rs
+
+-- ---- the most octets that a record takes, whatever its carrier
+
+-- addresses: 63 of 16 octets, and less than one more
+abbrev pub addressesMost : ℕ
+addressesMost = limit.addresses * 16 + 15
+
+-- the body: 19 of counted fields and padding, and a name, addresses and parameters
+abbrev pub bodyMost : ℕ
+bodyMost = 19 + (255 + addressesMost + limit.parameters)
+
+-- the option or attribute: a header of 4
+abbrev pub optionMost : ℕ
+optionMost = 4 + bodyMost

@@ -28,7 +28,8 @@ use Rattle.judge.specs.JudgeLaws.{written-name}
 use Rattle.layouts.specs.Layouts.{carriedOf, ownOption, instanceOf}
 use Rattle.layouts.specs.Writable.{fieldsOf}
 use Rattle.layouts.specs.LayoutsLaws.{writable-fits, writable-body, writable-emits}
-use Rattle.written.specs.Writing.{streamOf, octetsOf}
+use Rattle.vetting.specs.Vetting.{streamOf}
+use Rattle.written.specs.Writing.{octetsOf}
 use Rattle.written.specs.Accepted.{Sound, Accepted}
 use Rattle.written.specs.AcceptedLaws.{writable}
 use Rattle.prefixes.specs.Prefix.{Leading, SelfDelimiting}

@@ -12,7 +12,6 @@ use lib.Seq.{take-at}
 use Rattle.octets.specs.Numbers.{Bytes}
 use Rattle.octets.specs.Lists.{All}
 use Rattle.octets.specs.Over.{over}
-use Rattle.octets.specs.Answer.{Answered, count, left}
 use Rattle.numbers.specs.Refusal as refusal
 use Rattle.carriers.specs.declared.Carrier.{Carrier}
 use Rattle.carriers.specs.declared.Carrier.the-variants.{Dhcp4, Dhcp6, Router, Ike4, Ike6}
@@ -27,10 +26,13 @@ use Rattle.reading.specs.declared.Reading.{Reading}
 use Rattle.reading.specs.Reading.{Done, Answer, refuse, done, readFramed, readOf, Reads}
 use Rattle.reading.specs.AnswerLaws.{read-known}
 use Rattle.taking.specs.Sheet.{NoneFalls}
-use Rattle.written.specs.Writing.{octetsOf, writeOf, numberIn, Writes}
+use Rattle.written.specs.Writing.{octetsOf, writeOf, numberIn}
 use Rattle.written.specs.Writing as writing
 use Rattle.written.specs.Accepted.{Sound, Accepted}
 use Rattle.written.specs.AcceptedLaws.{accepted-writes, accepted-exactly}
+use Rattle.writing.specs.declared.Writing.{Writing}
+use Rattle.writing.specs.Writes.{Writes}
+use Rattle.writing.specs.WritesLaws.{told-number}
 use Rattle.roundtrip.specs.Returns.{answerKept}
 use Rattle.roundtrip.specs.RecordReturns.{kept-room, kept-no-room, blocks-answer}
 use Rattle.roundtrip.specs.OctetsLaws.{octets-few, plain-framed}
@@ -92,11 +94,6 @@ over-front : (bs out : List ℕ) {out′ : List ℕ} {size : ℕ} → size ≡ l
 unfolding over
 over-front bs out n l = ap₂ (λ (n : ℕ) (l : List ℕ). take n l) n l ∙ take-at bs (drop (0 + length bs) out) (length bs) refl
 
--- and so does what a call with number 0 wrote
-answered-front : (bs out out′ : List ℕ) (number size : ℕ) → Answered 0 bs out number size out′ → take size out′ ≡ bs
-unfolding count left
-answered-front bs out out′ number size h = over-front bs out (h .counted) (h .leaves)
-
 -- a sheet says its carrier's number
 sheet-number : (s : List ℕ) (c : Carrier) (rs : List Fields) → s ≡ sheetOf c rs → getD s carrierAt 0 ≡ numberOf c
 unfolding sheetOf frontOf
@@ -120,20 +117,23 @@ written-octets s c rs room a z = go (ltb room (length (octetsOf c rs))) (accepte
     go false e = e
 
 -- what `write` leaves in the buffer, `read` turns back
-pub calls-return : (s out out₁ sheet sheet₁ : List ℕ) (size : ℕ) (r : Reading) → Bytes s
-    → Writes (writeOf s (length out)) out 0 size out₁
-    → Reads (readOf (getD s carrierAt 0) (take size out₁) (length sheet)) sheet r sheet₁
+pub calls-return : (s out out₁ sheet sheet₁ : List ℕ) (w : Writing) (r : Reading) → Bytes s
+    → Writes (writeOf s (length out)) out w out₁ → w .number ≡ 0
+    → Reads (readOf (getD s carrierAt 0) (take (w .length) out₁) (length sheet)) sheet r sheet₁
     → length s ≤ length sheet
     → Restored s r sheet₁
-calls-return s out out₁ sheet sheet₁ size r octets w g room =
-    let z : numberIn (writeOf s (length out)) ≡ 0 = sym (w .numbered) in
+calls-return s out out₁ sheet sheet₁ w r octets v o g room =
+    let z : numberIn (writeOf s (length out)) ≡ 0 =
+    sym (told-number (writeOf s (length out))) ∙ ap (λ (w : Writing). w .number) (sym (v .numbers)) ∙ o in
     let k = accepted-exactly s octets (length out) .0 (inl z) in
     let c : Carrier = k .0 in
     let rs : List Fields = k .1 in
     let a : Accepted s c rs = k .2 in
-    let front : take size out₁ ≡ octetsOf c rs =
-    answered-front (octetsOf c rs) out out₁ 0 size (subst (λ (x : writing.Answer). Writes x out 0 size out₁) (written-octets s c rs (length out) a z) w) in
-    let answer : readOf (getD s carrierAt 0) (take size out₁) (length sheet) ≡ done (returned c rs s) =
+    let gave : Writes (writing.written (octetsOf c rs)) out w out₁ =
+    subst (λ (x : writing.Answer). Writes x out w out₁) (written-octets s c rs (length out) a z) v in
+    let front : take (w .length) out₁ ≡ octetsOf c rs =
+    over-front (octetsOf c rs) out (ap (λ (w : Writing). w .length) (gave .numbers)) (gave .leaves) in
+    let answer : readOf (getD s carrierAt 0) (take (w .length) out₁) (length sheet) ≡ done (returned c rs s) =
     ap₂ (λ (n : ℕ) (l : List ℕ). readOf n l (length sheet)) (sheet-number s c rs (a .is .is)) front ∙ read-write s c rs (length sheet) a room in
     let back : Reads (done (returned c rs s)) sheet r sheet₁ = subst (λ (x : Answer). Reads x sheet r sheet₁) answer g in
     record {

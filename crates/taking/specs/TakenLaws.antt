@@ -141,13 +141,10 @@ refused-by s k =
     (λ d qs p e. let z : _≡_ {A = ℕ} 0 1 = cc in absurd (omega arith))
 
 -- a refusal's number is never 0, which means done
-pub refused-some : (s : List ℕ) (k : ℕ) → takeOf s ≡ refuse k → k ≡ 0 → ⊥
-refused-some s k e z = go (refused-by s k e)
-  where
-    go : Refusing k → ⊥
-    go (inl i) = omega arith
-    go (inr (inl i)) = omega arith
-    go (inr (inr (inl i))) = omega arith
-    go (inr (inr (inr (inl i)))) = omega arith
-    go (inr (inr (inr (inr (inl i))))) = omega arith
-    go (inr (inr (inr (inr (inr i))))) = omega arith
+pub refusing-some : (k : ℕ) → Refusing k → k ≡ 0 → ⊥
+refusing-some k (inl i) z = omega arith
+refusing-some k (inr (inl i)) z = omega arith
+refusing-some k (inr (inr (inl i))) z = omega arith
+refusing-some k (inr (inr (inr (inl i)))) z = omega arith
+refusing-some k (inr (inr (inr (inr (inl i))))) z = omega arith
+refusing-some k (inr (inr (inr (inr (inr i))))) z = omega arith

@@ -12,7 +12,8 @@ use Rattle.octets.specs.Over.{over, Wrote}
 use Rattle.octets.specs.OverLaws.{over-length, then, wrote-none}
 use Rattle.carriers.specs.declared.Carrier.{Carrier}
 use Rattle.carriers.specs.declared.Carrier.the-variants.{Dhcp4}
-use Rattle.carriers.specs.Carriers.{isJoined}
+use Rattle.carriers.specs.declared.Facts.{Facts}
+use Rattle.carriers.specs.Carriers.{factsOf, isJoined}
 use Rattle.carriers.specs.CarriersLaws.{other-joined}
 use Rattle.blocks.specs.Block.{Fields}
 use Rattle.frames.specs.Walk.{Plain}
@@ -20,17 +21,33 @@ use Rattle.frames.specs.WalkLaws.{false-apart}
 use Rattle.pieces.specs.Pieces.{cutOf, cutOctets}
 use Rattle.pieces.specs.PiecesLaws.{cut-length}
 use Rattle.layouts.specs.Layouts.{ownOption, instanceOf}
-use Rattle.layouts.specs.Writable.{Writable, optionOctets}
+use Rattle.layouts.specs.Writable.{Writable}
+use Rattle.records.specs.Records.{headSize}
+use Rattle.sheets.specs.Sheets.{frontSize}
 use Rattle.taking.specs.declared.Spot.{Spot}
 use Rattle.taking.specs.Spot.{spotOf, fieldsAt, Inside}
 use Rattle.taking.specs.Standing.{Step}
 use Rattle.taking.specs.StandingLaws.{standing-none, standing-step, taken-standing}
-use Rattle.written.specs.Writing.{streamOf, octetsOf}
+use Rattle.taking.specs.Exactly.{sheet-taken}
+use Rattle.vetting.specs.Vetting.{streamOf}
+use Rattle.vetting.specs.Weighing.{cutAt, shareOf}
+use Rattle.vetting.specs.WeighingLaws.{stream-none, stream-one, step-fields, fields-cut}
+use Rattle.written.specs.Writing.{octetsOf}
 use Rattle.written.specs.Accepted.{Sound}
 use Rattle.written.specs.AcceptedLaws.{writable}
-use Rattle.writing.specs.Weighing.{recordsOf, cutAt, shareOf, shareOctets}
-use Rattle.writing.specs.Answering.{Ready, Laying, totalOf, Measured}
-use Rattle.writing.specs.WeighingLaws.{stream-none, stream-one, step-fields, fields-cut}
+use Rattle.writing.specs.Laying.{recordsOf, Ready, Laying, totalOf, Measured}
+
+-- ---- by the carrier's row of the table
+
+module _ (c : Carrier) {f : Facts} (row : f ≡ factsOf c) where
+  pub row-joined : {b : Bool} → f .joined ≡ b → isJoined c ≡ b
+  row-joined e = ap (λ (f : Facts). f .joined) (sym row) ∙ e
+
+  pub total-joined : (n : ℕ) → f .joined ≡ true → cutOctets n ≡ totalOf c n
+  total-joined n e = rw (row-joined e)
+
+  pub total-other : (n : ℕ) → f .joined ≡ false → n ≡ totalOf c n
+  total-other n e = rw (row-joined e)
 
 -- ---- carriers 2 to 5
 
@@ -40,16 +57,6 @@ module _ (c : Carrier) (n : c ≡ Dhcp4 → ⊥) where
 
   other-share : (r : Fields) → ownOption c r ≡ shareOf c r
   other-share r = rw (other-joined c n)
-
-  pub other-size : (full : Bool) (m a p : ℕ) → optionOctets c full m a p ≡ shareOctets c full m a p
-  other-size full m a p = rw (other-joined c n)
-
-  pub other-total : (m : ℕ) → totalOf c m ≡ m
-  other-total m = rw (other-joined c n)
-
-  other-octets : (rs : List Fields) → octetsOf c rs ≡ streamOf c rs
-  unfolding octetsOf
-  other-octets rs = rw (other-joined c n)
 
 -- how many octets the result has
 pub total-octets : (c : Carrier) (rs : List Fields) → totalOf c (length (streamOf c rs)) ≡ length (octetsOf c rs)
@@ -98,12 +105,12 @@ module _ (c : Carrier) (s : List ℕ) (p : Spot) (w : Writable c (fieldsAt s p))
 -- ---- the pass
 
 pub laying-start : {c : Carrier} {s : List ℕ} {from : ℕ} {out : List ℕ} → Ready c s → from + length (streamOf c (recordsOf s)) ≤ length out
-    → Laying c s (recordsOf s) from out 7 from out
+    → Laying c s (recordsOf s) from out frontSize from out
 laying-start {c} {s} {from} {out} r h = record {
   done = [];
   rest = recordsOf s;
   are = refl;
-  standing = taken-standing s (r .taken) .0;
+  standing = taken-standing s (sheet-taken s c (recordsOf s) (r .is)) .0;
   sound = r .sound;
   room = h;
   wrote = wrote-none (omega arith);
@@ -131,7 +138,7 @@ module _ {c : Carrier} {s : List ℕ} {rs : List Fields} {from at o : ℕ} {out 
     pub laying-inside : Inside (length s) at p
     laying-inside = laying-step .stands .inside
 
-    pub laying-further : at + 8 ≤ p .next
+    pub laying-further : at + headSize ≤ p .next
     laying-further = laying-inside .further (laying-step .stands .good)
 
     rest-sound : All (Sound c) (laying-step .first ∷ laying-step .rest)
@@ -190,39 +197,44 @@ over-there k b l h =
     ∙ ap (take (length b)) (drop-at (take k l) (b ++ rest) k t)
     ∙ take-at b rest (length b) refl
 
-pub joined-asked : {c : Carrier} {s : List ℕ} {size total room : ℕ} → c ≡ Dhcp4 → Ready c s → Measured c s size total room
-    → Ready Dhcp4 s × Measured Dhcp4 s size total room
-joined-asked {c} {s} {size} {total} {room} e r m =
-    (subst (λ (k : Carrier). Ready k s) e r, subst (λ (k : Carrier). Measured k s size total room) e m)
+octets-joined : (c : Carrier) (rs : List Fields) → isJoined c ≡ true → octetsOf c rs ≡ cutOf (streamOf c rs)
+unfolding octetsOf
+octets-joined c rs e = ap (λ (j : Bool). cond j (cutOf (streamOf c rs)) (streamOf c rs)) e
 
-module _ {s : List ℕ} {size total room : ℕ} (m : Measured Dhcp4 s size total room) where
+module _ {c : Carrier} (joins : isJoined c ≡ true) {s : List ℕ} {size total room : ℕ} (m : Measured c s size total room) where
   -- where the instances are joined
-  joined-place : (total - size + size ≡ cutOctets size) × (total - size + size ≡ total)
-  joined-place = (omega (arith, m), omega (arith, m))
+  pub joined-place : (size ≤ total) × (total - size + size ≡ cutOctets size) × (total - size + length (streamOf c (recordsOf s)) ≤ room)
+  joined-place =
+      let t : total ≡ cutOctets size = m .totals ∙ ap (λ (j : Bool). cond j (cutOctets size) size) joins in
+      (omega (arith, t), omega (arith, t), omega (arith, t, m .sizes, m .fits))
 
-  pub joined-cut : {out out₁ out₂ : List ℕ} {o r : ℕ} → Wrote (total - size) (streamOf Dhcp4 (recordsOf s)) out o out₁
-      → Wrote 0 (cutOf (take size (drop (total - size) out₁))) out₁ r out₂ → Wrote 0 (octetsOf Dhcp4 (recordsOf s)) out r out₂
-  unfolding octetsOf
+  pub joined-cut : {out out₁ out₂ : List ℕ} {o r : ℕ} → Wrote (total - size) (streamOf c (recordsOf s)) out o out₁
+      → Wrote 0 (cutOf (take size (drop (total - size) out₁))) out₁ r out₂ → Wrote 0 (octetsOf c (recordsOf s)) out r out₂
   joined-cut {out} {out₁} {out₂} {o} {r} w v =
       let from : ℕ = total - size in
-      let joined : List ℕ = streamOf Dhcp4 (recordsOf s) in
+      let joined : List ℕ = streamOf c (recordsOf s) in
       let there : take size (drop from out₁) ≡ joined =
       ap (λ (l : List ℕ). take size (drop from l)) (w .laid)
       ∙ ap (λ (n : ℕ). take n (drop from (over from joined out))) (m .sizes)
       ∙ over-there from joined out (w .room) in
       let u : Wrote 0 (cutOf joined) out₁ r out₂ = subst (λ (l : List ℕ). Wrote 0 (cutOf l) out₁ r out₂) there v in
-      let long : from + length joined ≡ length (cutOf joined) = omega (arith, cut-length joined, joined-place, m) in
-      record {
+      let long : from + length joined ≡ length (cutOf joined) = omega (arith, cut-length joined, joined-place, m .sizes) in
+      let all : Wrote 0 (cutOf joined) out r out₂ = record {
         room = omega (arith, u .room, ap length (w .laid), over-length from joined out (w .room));
         next = u .next;
         laid = u .laid ∙ ap (over 0 (cutOf joined)) (w .laid) ∙ over-covers from (cutOf joined) joined out long (w .room);
-      }
+      } in
+      subst⁻¹ (λ (l : List ℕ). Wrote 0 l out r out₂) (octets-joined c (recordsOf s) joins) all
 
--- ---- the octets in carriers 2 to 5
+-- ---- the other carriers
 
-module _ (c : Carrier) (n : c ≡ Dhcp4 → ⊥) where
+module _ (c : Carrier) (other : isJoined c ≡ false) where
   pub stream-room : {s : List ℕ} {size total room : ℕ} → Measured c s size total room → 0 + length (streamOf c (recordsOf s)) ≤ room
-  stream-room {s} {size} m = omega (arith, m, other-total c n size)
+  stream-room {s} {size} {total} m =
+      let e : total ≡ size = m .totals ∙ ap (λ (j : Bool). cond j (cutOctets size) size) other in
+      omega (arith, m .sizes, m .fits, e)
 
   pub stream-laid : (rs : List Fields) {out out′ : List ℕ} {r : ℕ} → Wrote 0 (streamOf c rs) out r out′ → Wrote 0 (octetsOf c rs) out r out′
-  stream-laid rs {out} {out′} {r} w = subst⁻¹ (λ (l : List ℕ). Wrote 0 l out r out′) (other-octets c n rs) w
+  unfolding octetsOf
+  stream-laid rs {out} {out′} {r} w =
+      subst⁻¹ (λ (j : Bool). Wrote 0 (cond j (cutOf (streamOf c rs)) (streamOf c rs)) out r out′) other w

@@ -1,5 +1,4 @@
-pub mod Weighing
-pub mod Answering
-pub mod WeighingLaws
+pub mod Writes
+pub mod Laying
 pub mod LayingLaws
-pub mod AnsweringLaws
+pub mod WritesLaws

@@ -2,12 +2,12 @@
 -- Assumes nothing.
 use mathlib.Core.Path.{_≡_, refl}
 use mathlib.Core.Logic.{_⊎_, inl, inr, _↔_}
-use mathlib.Core.Bool.{Bool, true, false, cond, not, _||_, true≢false}
+use mathlib.Core.Bool.{Bool, true, false, cond, _||_, true≢false}
 use mathlib.Core.List.{List, [], _∷_}
 use Prim.Native.Nat.{ℕ, _+_, _^_, _≤_, _<_}
 use native.Mathlib.Omega.{arith}
-use borrow.Author.Tests.{eqb-true, eqb-false, eq-eqb, ltb-false, le-ltb}
-use lib.Dec.{ltb, eqb}
+use borrow.Author.Tests.{ltb-false, le-ltb}
+use lib.Dec.{ltb}
 use lib.ListN.{length}
 use Rattle.octets.specs.Numbers.{Bytes}
 use Rattle.octets.specs.Lists.{All}
@@ -22,16 +22,17 @@ use Rattle.carriers.specs.CarriersLaws.{eights-router}
 use Rattle.names.specs.Right.{three}
 use Rattle.blocks.specs.Block.{Fields, optionSize, gap}
 use Rattle.judge.specs.declared.Side.the-variants.{Writing}
-use Rattle.judge.specs.Judge.{faultOf}
-use Rattle.judge.specs.JudgeLaws.{fault-passed, passed-fault, written-name}
-use Rattle.judge.specs.Numbered.{FaultNumber, fault-number}
+use Rattle.judge.specs.Passed.{Passed}
+use Rattle.judge.specs.JudgeLaws.{written-name}
+use Rattle.judge.specs.Numbered.{FaultNumber}
 use Rattle.layouts.specs.Writable.{Writable, WritableTail}
-use Rattle.taking.specs.Taking.{Taken, takeOf}
-use Rattle.taking.specs.Taking as taking
 use Rattle.taking.specs.Sheet.{FitsTail, FitsRecord}
-use Rattle.taking.specs.TakenLaws.{Refusing, refused-by}
-use Rattle.taking.specs.Exactly.{taken-sheet, sheet-taken}
-use Rattle.written.specs.Writing.{octetsOf, firstFault, large, anyLarge, refuse, written, writeRecords, writeTaken, writeOf, numberIn}
+use Rattle.taking.specs.TakenLaws.{Refusing, refusing-some}
+use Rattle.taking.specs.Exactly.{sheet-taken}
+use Rattle.vetting.specs.Vetting.{Vetted, large, anyLarge, vetOf}
+use Rattle.vetting.specs.Vetting as vetting
+use Rattle.vetting.specs.VettingLaws.{passed-faultless, taken-vetted, vet-exactly, vetted-by}
+use Rattle.written.specs.Writing.{octetsOf, refuse, written, writeVetted, writeOf, numberIn}
 use Rattle.written.specs.Accepted.{Sound, Accepted}
 
 -- ---- an accepted record has room in its carrier
@@ -67,43 +68,48 @@ module _ (c : Carrier) (r : Fields) (s : Sound c r) where
         units = s .units;
       }
 
--- ---- the tests on records
+-- ---- 44
 
--- 44
-module _ (r : Fields) where
-  small-units : (c : Carrier) → large c r ≡ false → c ≡ Router → optionSize r + gap (optionSize r) ≤ limit.option
-  small-units c e i = let q = rw i at e in ltb-false _ _ q
+module _ (c : Carrier) (r : Fields) where
+  small-units : large c r ≡ false → c ≡ Router → optionSize r + gap (optionSize r) ≤ limit.option
+  small-units e i = let q = rw i at e in ltb-false _ _ q
 
-  units-small : (c : Carrier) → (c ≡ Router → optionSize r + gap (optionSize r) ≤ limit.option) → large c r ≡ false
-  units-small c h = go (inEights c) refl
+  units-small : (c ≡ Router → optionSize r + gap (optionSize r) ≤ limit.option) → large c r ≡ false
+  units-small h = go (inEights c) refl
     where
       go : (b : Bool) → inEights c ≡ b → cond b (ltb limit.option (optionSize r + gap (optionSize r))) false ≡ false
       go true e = le-ltb limit.option (optionSize r + gap (optionSize r)) (h (eights-router c e))
       go false e = refl
 
--- records that fit a sheet, none with a fault and none large, are those accepted
 module _ (c : Carrier) where
-  pub tested-sound : (rs : List Fields) → All (FitsRecord c) rs → firstFault c rs ≡ 0 → anyLarge c rs ≡ false → All (Sound c) rs
-  unfolding firstFault anyLarge
-  tested-sound [] f e l = tt
-  tested-sound (r ∷ rs) f e l = go (eqb (faultOf Writing c r) 0) (large c r) refl refl (tested-sound rs (f .1)) e l
+  -- records that fit a sheet, without a fault and none large, are those accepted
+  tested-sound : (rs : List Fields) → All (FitsRecord c) rs → All (Passed Writing c) rs → anyLarge c rs ≡ false → All (Sound c) rs
+  unfolding anyLarge
+  tested-sound [] f p l = tt
+  tested-sound (r ∷ rs) f p l = go (large c r) refl (tested-sound rs (f .1) (p .1)) l
     where
-      go : (none big : Bool) → eqb (faultOf Writing c r) 0 ≡ none → large c r ≡ big
-          → (firstFault c rs ≡ 0 → anyLarge c rs ≡ false → All (Sound c) rs)
-          → cond none (firstFault c rs) (faultOf Writing c r) ≡ 0 → big || anyLarge c rs ≡ false → All (Sound c) (r ∷ rs)
-      go true true t b ih e l = absurd (true≢false l)
-      go true false t b ih e l = (record { fits = f .0; passed = fault-passed Writing c r (eqb-true _ _ t); units = small-units r c b }, ih e l)
-      go false big t b ih e l = absurd (eqb-false _ _ t e)
+      go : (big : Bool) → large c r ≡ big → (anyLarge c rs ≡ false → All (Sound c) rs) → big || anyLarge c rs ≡ false → All (Sound c) (r ∷ rs)
+      go true b ih l = absurd (true≢false l)
+      go false b ih l = (record { fits = f .0; passed = p .0; units = small-units c r b }, ih l)
 
-  pub sound-faultless : (rs : List Fields) → All (Sound c) rs → firstFault c rs ≡ 0
-  unfolding firstFault
-  sound-faultless [] h = refl
-  sound-faultless (r ∷ rs) h = rw (eq-eqb (faultOf Writing c r) 0 (passed-fault Writing c r (h .0 .passed))) (sound-faultless rs (h .1))
+  sound-passed : (rs : List Fields) → All (Sound c) rs → All (Passed Writing c) rs
+  sound-passed [] h = tt
+  sound-passed (r ∷ rs) h = (h .0 .passed, sound-passed rs (h .1))
 
-  pub sound-small : (rs : List Fields) → All (Sound c) rs → anyLarge c rs ≡ false
+  sound-small : (rs : List Fields) → All (Sound c) rs → anyLarge c rs ≡ false
   unfolding anyLarge
   sound-small [] h = refl
-  sound-small (r ∷ rs) h = rw (units-small r c (h .0 .units)) (sound-small rs (h .1))
+  sound-small (r ∷ rs) h = rw (units-small c r (h .0 .units)) (sound-small rs (h .1))
+
+-- a sheet is accepted exactly where it is vetted and no record is large
+module _ (s : List ℕ) (c : Carrier) (rs : List Fields) where
+  pub vetted-accepted : Bytes s → vetOf s ≡ vetting.sheet c rs → anyLarge c rs ≡ false → Accepted s c rs
+  vetted-accepted octets e l =
+      let v = vet-exactly s c rs octets .0 e in
+      record { is = v .0; sound = tested-sound c rs (v .0 .each) (v .1) l }
+
+  accepted-vetted : Accepted s c rs → vetOf s ≡ vetting.sheet c rs
+  accepted-vetted a = taken-vetted s (sheet-taken s c rs (a .is)) (passed-faultless c rs (sound-passed c rs (a .sound)))
 
 -- ---- the call
 
@@ -111,8 +117,7 @@ module _ (c : Carrier) where
 pub accepted-writes : (s : List ℕ) (c : Carrier) (rs : List Fields) (room : ℕ) → Accepted s c rs
     → writeOf s room ≡ cond (ltb room (length (octetsOf c rs))) (refuse refusal.room) (written (octetsOf c rs))
 unfolding writeOf
-accepted-writes s c rs room a =
-    rw (sheet-taken s c rs (a .is), sound-faultless c rs (a .sound), sound-small c rs (a .sound))
+accepted-writes s c rs room a = rw (accepted-vetted s c rs a, sound-small c rs (a .sound))
 
 -- with room, its octets
 pub accepted-written : (s : List ℕ) (c : Carrier) (rs : List Fields) (room : ℕ) → Accepted s c rs → length (octetsOf c rs) ≤ room
@@ -124,58 +129,38 @@ abbrev pub Accepting : ℕ → Type 0
 Accepting k = (k ≡ 0) ⊎ (k ≡ refusal.room)
 
 module _ (s : List ℕ) (octets : Bytes s) (room : ℕ) where
-  refused-not : (k : ℕ) → Refusing k → Accepting k → ⊥
-  refused-not k (inl i) (inl e) = omega arith
-  refused-not k (inl i) (inr e) = omega arith
-  refused-not k (inr (inl i)) (inl e) = omega arith
-  refused-not k (inr (inl i)) (inr e) = omega arith
-  refused-not k (inr (inr (inl i))) (inl e) = omega arith
-  refused-not k (inr (inr (inl i))) (inr e) = omega arith
-  refused-not k (inr (inr (inr (inl i)))) (inl e) = omega arith
-  refused-not k (inr (inr (inr (inl i)))) (inr e) = omega arith
-  refused-not k (inr (inr (inr (inr (inl i))))) (inl e) = omega arith
-  refused-not k (inr (inr (inr (inr (inl i))))) (inr e) = omega arith
-  refused-not k (inr (inr (inr (inr (inr i))))) (inl e) = omega arith
-  refused-not k (inr (inr (inr (inr (inr i))))) (inr e) = omega arith
-
-  -- a fault of a record is neither
-  faults-not : (k : ℕ) → FaultNumber k → (k ≡ 0 → ⊥) → Accepting k → ⊥
-  faults-not k n z (inl e) = z e
-  faults-not k (inl o) z (inr e) = z o
-  faults-not k (inr (l, h)) z (inr e) = omega arith
-
-  first-number : (c : Carrier) (rs : List Fields) → FaultNumber (firstFault c rs)
-  unfolding firstFault
-  first-number c [] = inl refl
-  first-number c (r ∷ rs) = go (eqb (faultOf Writing c r) 0) (first-number c rs)
+  -- a refusal of vetting is neither
+  refused-not : (k : ℕ) → vetOf s ≡ vetting.refuse k → Accepting k → ⊥
+  refused-not k e = go (vetted-by s k e)
     where
-      go : (none : Bool) → FaultNumber (firstFault c rs) → FaultNumber (cond none (firstFault c rs) (faultOf Writing c r))
-      go true ih = ih
-      go false ih = fault-number Writing c r
-
-  by-records : (c : Carrier) (rs : List Fields) → takeOf s ≡ taking.sheet c rs → Accepting (numberIn (writeRecords c rs room)) → Accepted s c rs
-  by-records c rs e = go (eqb (firstFault c rs) 0) (anyLarge c rs) refl refl
-    where
-      go : (none big : Bool) → eqb (firstFault c rs) 0 ≡ none → anyLarge c rs ≡ big
-          → Accepting (numberIn (cond (not none) (refuse (firstFault c rs))
-          (cond big (refuse refusal.large)
-          (cond (ltb room (length (octetsOf c rs))) (refuse refusal.room)
-          (written (octetsOf c rs))))))
-          → Accepted s c rs
-      go false big t b a = absurd (faults-not (firstFault c rs) (first-number c rs) (eqb-false _ _ t) a)
-      go true true t b (inl a) = absurd (omega arith)
-      go true true t b (inr a) = absurd (omega arith)
-      go true false t b a =
-          let i = taken-sheet s c rs octets e in
-          record { is = i; sound = tested-sound c rs (i .each) (eqb-true _ _ t) b }
+      go : Refusing k ⊎ (FaultNumber k × (k ≡ 0 → ⊥)) → Accepting k → ⊥
+      go (inl r) (inl z) = refusing-some k r z
+      go (inl (inl i)) (inr z) = omega arith
+      go (inl (inr (inl i))) (inr z) = omega arith
+      go (inl (inr (inr (inl i)))) (inr z) = omega arith
+      go (inl (inr (inr (inr (inl i))))) (inr z) = omega arith
+      go (inl (inr (inr (inr (inr (inl i)))))) (inr z) = omega arith
+      go (inl (inr (inr (inr (inr (inr i)))))) (inr z) = omega arith
+      go (inr (f, n)) (inl z) = n z
+      go (inr (inl o, n)) (inr z) = n o
+      go (inr (inr (l, h), n)) (inr z) = omega arith
 
   answered-accepted : Accepting (numberIn (writeOf s room)) → (c : Carrier) × (rs : List Fields) × Accepted s c rs
   unfolding writeOf
-  answered-accepted = go (takeOf s) refl
+  answered-accepted = go (vetOf s) refl
     where
-      go : (t : Taken) → takeOf s ≡ t → Accepting (numberIn (writeTaken t room)) → (c : Carrier) × (rs : List Fields) × Accepted s c rs
-      go (taking.refuse k) e a = absurd (refused-not k (refused-by s k e) a)
-      go (taking.sheet c rs) e a = (c, rs, by-records c rs e a)
+      records : (c : Carrier) (rs : List Fields) → vetOf s ≡ vetting.sheet c rs → (big : Bool) → anyLarge c rs ≡ big
+          → Accepting (numberIn (cond big (refuse refusal.large)
+          (cond (ltb room (length (octetsOf c rs))) (refuse refusal.room)
+          (written (octetsOf c rs)))))
+          → Accepted s c rs
+      records c rs e true b (inl a) = absurd (omega arith)
+      records c rs e true b (inr a) = absurd (omega arith)
+      records c rs e false b a = vetted-accepted s c rs octets e b
+
+      go : (v : Vetted) → vetOf s ≡ v → Accepting (numberIn (writeVetted v room)) → (c : Carrier) × (rs : List Fields) × Accepted s c rs
+      go (vetting.refuse k) e a = absurd (refused-not k e a)
+      go (vetting.sheet c rs) e a = (c, rs, records c rs e (anyLarge c rs) refl a)
 
   accepted-answered : (c : Carrier) (rs : List Fields) → Accepted s c rs → Accepting (numberIn (writeOf s room))
   accepted-answered c rs a = rw (accepted-writes s c rs room a) (go (ltb room (length (octetsOf c rs))))

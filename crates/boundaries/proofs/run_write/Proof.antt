@@ -2,12 +2,12 @@
 use borrow.Author.Needs.{needs}
 use native.Mathlib.Omega.{arith}
 use Rattle.io.proofs.Counting.{counts}
-use Rattle.octets.specs.AnswerLaws.{answered-fits}
+use Rattle.writing.specs.WritesLaws.{writes-fits}
 use Rattle.boundaries.proofs.run_write.Statement.{statement}
 use Rattle.boundaries.proofs.run_write.Tie as tie
 
 print-buffer-requires : tie.Need-print-buffer-requires
-print-buffer-requires c κs = counts _ _ (answered-fits (c .before .before .before .before .write .ensures) (omega arith))
+print-buffer-requires c κs = counts _ _ (writes-fits _ (c .before .before .before .before .write .ensures) (omega arith))
 
 pub run-write-spec : {M : Type 1} → statement M
 run-write-spec =

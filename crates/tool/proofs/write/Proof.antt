@@ -5,12 +5,12 @@ use native.Mathlib.Omega.{arith}
 use borrow.Author.Needs.{needs}
 use lib.ListN.{length, length-take}
 use lib.Seq.{length-take-le}
-use Rattle.tool.proofs.Within.{answered-within}
+use Rattle.writing.specs.WritesLaws.{writes-fits}
 use Rattle.tool.proofs.write.Statement.{statement}
 use Rattle.tool.proofs.write.Tie as tie
 
 short : (c : tie.After-write) → c .write .result .length ≤ length (c .write .last .1 .0)
-short c = omega (arith, answered-within (c .write .ensures) (c .write .kept .1 .0), c .write .kept .1 .0)
+short c = writes-fits _ (c .write .ensures) (c .write .kept .1 .0)
 
 array-share-prefix-octets : tie.Need-array-share-prefix-octets
 array-share-prefix-octets c = omega (arith, short (c .before .before .before .before .before))

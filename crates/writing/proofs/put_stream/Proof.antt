@@ -4,9 +4,8 @@ use native.Mathlib.Omega.{arith}
 use Prim.Native.Nat.{_-_}
 use lib.ListN.{length}
 use Rattle.taking.specs.StandingLaws.{standing-within}
-use Rattle.writing.specs.Weighing.{recordsOf}
-use Rattle.writing.specs.Answering.{Laying}
-use Rattle.writing.specs.WeighingLaws.{inside-any}
+use Rattle.vetting.specs.WeighingLaws.{inside-any}
+use Rattle.writing.specs.Laying.{recordsOf, Laying}
 use Rattle.writing.specs.LayingLaws.{laying-start, laying-length, laying-end, laying-inside, laying-further, laying-writable, laying-room, laying-next}
 use Rattle.writing.proofs.put_stream.Statement.{statement}
 use Rattle.writing.proofs.put_stream.Tie as tie

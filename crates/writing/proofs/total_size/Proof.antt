@@ -1,23 +1,18 @@
--- `writing::total_size` meets its contract, by the carrier. Assumes nothing.
-use mathlib.Core.Path.{_≡_, sym}
-use mathlib.Core.Logic.{⊎-elim}
-use native.Mathlib.Omega.{arith}
-use Rattle.carriers.specs.declared.Carrier.the-variants.{Dhcp4}
-use Rattle.writing.specs.LayingLaws.{other-total}
+-- `writing::total_size` meets its contract, by the carrier's row of the table. Assumes nothing.
+use mathlib.Core.Path.{_∙_}
 use borrow.Author.Needs.{needs}
+use Rattle.writing.specs.LayingLaws.{total-joined, total-other}
 use Rattle.writing.proofs.total_size.Statement.{statement}
 use Rattle.writing.proofs.total_size.Tie as tie
 
--- in the arm of the other carriers
-other : (c : tie.At-match-keys2) → c .before .args .c ≡ Dhcp4 → ⊥
-other c e =
-    ⊎-elim (λ q. omega arith) (⊎-elim (λ q. omega arith) (⊎-elim (λ q. omega arith) (λ q. omega arith))) (rw e at (c .match .keys2))
-
 returns : tie.Need-returns
-returns c = rw (c .before .enum-told .given .1) (c .cut-size .ensures)
+returns c =
+    let k = c .before in
+    let a = k .before .before .args in
+    c .cut-size .ensures ∙ total-joined (a .c) (k .before .facts .ensures) (a .size) (k .if1 .taken)
 
 returns-2 : tie.Need-returns-2
-returns-2 c = sym (other-total (c .before .args .c) (other c) (c .before .args .size))
+returns-2 c = let a = c .before .before .args in total-other (a .c) (c .before .facts .ensures) (a .size) (c .if1 .left)
 
 pub total-size-spec : {M : Type 1} → statement M
-total-size-spec = tie.close (tie.spec (λ c. search needs) (λ c κs. search needs) returns returns-2)
+total-size-spec = tie.close (tie.spec (λ c κs. search needs) (λ c κs. search needs) returns returns-2)

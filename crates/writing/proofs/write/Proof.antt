@@ -1,6 +1,6 @@
--- `writing::write` meets its contract: the sheet is refused as it is taken, or its records decide. Assumes nothing.
+-- `writing::write` meets its contract: the sheet is refused as it is vetted, or 44, 5 and its octets decide. Assumes nothing.
 use mathlib.Core.Path.{sym, _∙_}
-use Rattle.writing.specs.AnsweringLaws.{gives-as, write-refused, write-taken}
+use Rattle.writing.specs.WritesLaws.{writes-as, write-refused, write-vetted}
 use borrow.Author.Needs.{needs}
 use Rattle.writing.proofs.write.Statement.{statement}
 use Rattle.writing.proofs.write.Tie as tie
@@ -9,21 +9,20 @@ write-sheet-requires : tie.Need-write-sheet-requires
 write-sheet-requires c κs =
     let k = c .before .before in
     let t = k .before .before in
-    write-taken (t .before .before .before .args .s .now) 0 (sym (k .carrier .given .1) ∙ t .take .ensures) .0
+    write-vetted (t .before .before .before .args .s .now) 0 (sym (k .carrier .given .1) ∙ t .vet .ensures) .0
 
 returns : tie.Need-returns
 returns c =
     let k = c .before .before in
     let t = k .before .before in
-    let a = write-refused (t .before .before .before .args .s .now) _ (sym (k .k .given .1) ∙ t .take .ensures) in
-    gives-as (a .0) (c .refused .ensures _ (a .1))
+    writes-as (write-refused (t .before .before .before .args .s .now) _ (sym (k .k .given .1) ∙ t .vet .ensures)) (c .refused .ensures _)
 
 returns-2 : tie.Need-returns-2
 returns-2 c =
     let w = c .before .before in
     let k = w .before .before .before in
     let t = k .before .before in
-    gives-as (write-taken (t .before .before .before .args .s .now) _ (sym (k .carrier .given .1) ∙ t .take .ensures) .1) (w .write-sheet .ensures)
+    writes-as (write-vetted (t .before .before .before .args .s .now) _ (sym (k .carrier .given .1) ∙ t .vet .ensures) .1) (w .write-sheet .ensures)
 
 pub write-spec : {M : Type 1} → statement M
 write-spec =

@@ -1,4 +1,4 @@
--- `writing::weigh` meets its contract. The invariant: what was found of the records passed. The measure is what is left of the sheet.
+-- `vetting::weigh` meets its contract. The invariant: what was found of the records passed. The measure is what is left of the sheet.
 -- Assumes nothing.
 use mathlib.Core.Path.{refl}
 use native.Mathlib.Omega.{arith}
@@ -7,10 +7,10 @@ use lib.ListN.{length}
 use borrow.Author.Needs.{needs}
 use Rattle.octets.specs.NumbersLaws.{bytes-at}
 use Rattle.taking.specs.StandingLaws.{standing-within}
-use Rattle.writing.specs.Weighing.{recordsOf, Weighing}
-use Rattle.writing.specs.WeighingLaws.{inside-any, weighing-start, weighing-fits, weighing-inside, weighing-further, weighing-faulty, weighing-next, weighing-end}
-use Rattle.writing.proofs.weigh.Statement.{statement}
-use Rattle.writing.proofs.weigh.Tie as tie
+use Rattle.vetting.specs.Weighing.{recordsOf, Weighing}
+use Rattle.vetting.specs.WeighingLaws.{inside-any, weighing-start, weighing-fits, weighing-inside, weighing-further, weighing-faulty, weighing-next, weighing-end}
+use Rattle.vetting.proofs.weigh.Statement.{statement}
+use Rattle.vetting.proofs.weigh.Tie as tie
 
 abbrev Inv-loop : tie.InvT-loop
 Inv-loop c s at₀ large₀ size₀ at large size = Weighing c s (recordsOf s) at large size
@@ -38,7 +38,7 @@ returns c =
     let w = c .before .before in
     let p = w .before in
     weighing-faulty (p .before .before .loop .inv) (p .record-at .ensures .0) (p .before .loop-test .taken) (w .weigh-record .ensures) (c .before .if1 .taken)
-    (c .faulty .ensures .0) (c .faulty .ensures .1)
+    (c .faulty .ensures .0)
 
 add-size : tie.Need-add-size Inv-loop μ-loop
 add-size c =

@@ -1,6 +1,5 @@
--- The octets that a sheet's records take, and what the first pass over them finds: the first fault, 21 to 28, whether a record is large (44),
--- and how many octets they are one after another (01, Numbers given back: "Writing checks .. 21 to 28 record by record, then 44, then
--- 5"). Assumes nothing: these are definitions.
+-- The octets that a sheet's records take, and what the pass over them finds: the first fault, 21 to 28, whether a record is large (44), and how
+-- many octets they are one after another. Assumes nothing: these are definitions.
 use mathlib.Core.Path.{_≡_}
 use mathlib.Core.Bool.{Bool, false, cond, _||_}
 use mathlib.Core.List.{List, []}
@@ -16,13 +15,13 @@ use Rattle.judge.specs.declared.Side.the-variants.{Writing}
 use Rattle.judge.specs.declared.Judged.{Judged}
 use Rattle.judge.specs.Judge.{judgedOf, faultOf}
 use Rattle.layouts.specs.Layouts.{ownOption, instanceOf}
-use Rattle.layouts.specs.Writable.{fieldsOf, optionOctets, instanceOctets}
+use Rattle.layouts.specs.Writable.{fieldsOf, optionOctets, instanceOctets, addressesMost, optionMost}
 use Rattle.taking.specs.declared.Spot.{Spot}
 use Rattle.taking.specs.Taking.{Taken, refuse, sheet, takeOf}
 use Rattle.taking.specs.Sheet.{FitsRecord}
 use Rattle.taking.specs.Standing.{Standing}
-use Rattle.written.specs.Writing.{streamOf, firstFault, large, anyLarge}
-use Rattle.writing.specs.declared.Weighed.{Weighed}
+use Rattle.vetting.specs.declared.Weighed.{Weighed}
+use Rattle.vetting.specs.Vetting.{streamOf, firstFault, large, anyLarge}
 
 -- ---- the records of a sheet
 
@@ -71,29 +70,23 @@ largeBy c n = cond (inEights c) (ltb limit.option n) false
 pub record Light (n a p : ℕ) : Type 0 where
   pub some : 2 ≤ n
   pub name : n ≤ 255
-  pub addresses : a ≤ 1023
+  pub addresses : a ≤ addressesMost
   pub parameters : p ≤ limit.parameters
 
 -- ---- what the pass finds
-
--- a record's share has no more octets than these, whatever its carrier: 4 of a header, 19 of counted fields and padding, and its name,
--- addresses and parameters
-abbrev pub most : ℕ
-most = 2325
 
 -- of one record: its fault; or 0, whether it is large, and its octets
 pub record WeighsOne (c : Carrier) (r : Fields) (w : Weighed) : Type 0 where
   pub first : w .fault ≡ faultOf Writing c r
   pub large-is : w .fault ≡ 0 → w .large ≡ large c r
   pub size-is : w .fault ≡ 0 → w .size ≡ length (shareOf c r)
-  pub small : w .size ≤ most
+  pub small : w .size ≤ optionMost
 
 -- of all records
 pub record Weighs (c : Carrier) (rs : List Fields) (w : Weighed) : Type 0 where
   pub first : w .fault ≡ firstFault c rs
   pub large-is : w .fault ≡ 0 → w .large ≡ anyLarge c rs
   pub size-is : w .fault ≡ 0 → w .size ≡ length (streamOf c rs)
-  pub small : w .size ≤ most * limit.records
 
 -- of the records rs those before an index have no fault; `large` and `size` are what is found of them
 pub record Weighing (c : Carrier) (s : List ℕ) (rs : List Fields) (at : ℕ) (large : Bool) (size : ℕ) : Type 0 where
@@ -103,4 +96,4 @@ pub record Weighing (c : Carrier) (s : List ℕ) (rs : List Fields) (at : ℕ) (
   pub faults : firstFault c rs ≡ firstFault c rest
   pub larges : anyLarge c rs ≡ (large || anyLarge c rest)
   pub sizes : length (streamOf c rs) ≡ size + length (streamOf c rest)
-  pub small : size + most * length rest ≤ most * limit.records
+  pub small : size + optionMost * length rest ≤ optionMost * limit.records

@@ -1,20 +1,21 @@
--- The octets of a record and of records, and each turn of the first pass. Assumes nothing.
+-- The octets of a record and of records, and each turn of the pass that weighs them. Assumes nothing.
 use mathlib.Core.Path.{_≡_, refl, sym, ap, _∙_, subst, subst⁻¹}
 use mathlib.Core.Bool.{Bool, true, false, cond, _||_}
 use mathlib.Core.List.{List, [], _∷_, _++_, map}
-use Prim.Native.Nat.{ℕ, suc, _+_, _-_, _/_, _≤_, _<_}
+use Prim.Native.Nat.{ℕ, suc, _+_, _-_, _*_, _≤_, _<_}
 use native.Mathlib.Omega.{arith}
-use borrow.Author.Tests.{eq-eqb, ne-eqb}
+use borrow.Author.Tests.{eq-eqb, ne-eqb, eqb-true, eqb-false}
 use lib.ListN.{length, take, drop, length-append, length-drop}
 use lib.Seq.{length-take-le}
-use lib.Dec.{ltb}
+use lib.Dec.{ltb, eqb}
 use Rattle.numbers.specs.Limit as limit
 use Rattle.octets.specs.Lists.{All, flat}
 use Rattle.octets.specs.Numbers.{Bytes}
 use Rattle.carriers.specs.declared.Carrier.{Carrier}
 use Rattle.carriers.specs.declared.Carrier.the-variants.{Dhcp4, Router}
-use Rattle.carriers.specs.Carriers.{addressWidth, inEights, isJoined}
-use Rattle.carriers.specs.CarriersLaws.{by-address, eights-router}
+use Rattle.carriers.specs.declared.Facts.{Facts}
+use Rattle.carriers.specs.Carriers.{factsOf, addressWidth, inEights, isJoined}
+use Rattle.carriers.specs.CarriersLaws.{eights-router}
 use Rattle.names.specs.Right.{three}
 use Rattle.blocks.specs.Block.{Fields, gap, optionSize}
 use Rattle.judge.specs.declared.Side.the-variants.{Writing}
@@ -22,18 +23,20 @@ use Rattle.judge.specs.declared.Judged.{Judged}
 use Rattle.judge.specs.Judge.{faultOf}
 use Rattle.judge.specs.Passed.{Passed}
 use Rattle.judge.specs.JudgeLaws.{fault-passed, written-name}
-use Rattle.layouts.specs.Writable.{unpaddedOctets, optionOctets, instanceOctets}
+use Rattle.layouts.specs.Writable.{unpaddedOctets, optionOctets, instanceOctets, optionMost}
 use Rattle.layouts.specs.Layouts.{ownOption, instanceOf, joinedOf}
-use Rattle.layouts.specs.LayoutsLaws.{header-small, own-length, instance-length, body-small}
+use Rattle.layouts.specs.LayoutsLaws.{header-small, own-length, instance-length, body-small, few-addresses}
+use Rattle.records.specs.Records.{headSize}
+use Rattle.sheets.specs.Sheets.{frontSize}
 use Rattle.taking.specs.declared.Spot.{Spot}
 use Rattle.taking.specs.Sheet.{FitsTail, FitsRecord, IsSheet}
 use Rattle.taking.specs.Spot.{spotOf, fieldsAt, Inside}
 use Rattle.taking.specs.Standing.{Step}
 use Rattle.taking.specs.StandingLaws.{standing-none, standing-step, taken-standing}
 use Rattle.taking.specs.Exactly.{taken-sheet}
-use Rattle.written.specs.Writing.{streamOf, firstFault, large, anyLarge}
-use Rattle.writing.specs.declared.Weighed.{Weighed}
-use Rattle.writing.specs.Weighing.{recordsOf, TakenAs, cutAt, judgedBy, shareOf, shareOctets, weightOf, largeBy, Light, WeighsOne, Weighs, Weighing}
+use Rattle.vetting.specs.declared.Weighed.{Weighed}
+use Rattle.vetting.specs.Vetting.{streamOf, firstFault, large, anyLarge}
+use Rattle.vetting.specs.Weighing.{recordsOf, TakenAs, cutAt, judgedBy, shareOf, shareOctets, weightOf, largeBy, Light, WeighsOne, Weighs, Weighing}
 
 -- ---- octets
 
@@ -77,13 +80,20 @@ large-by c r = go (inEights c) refl
         ∙ ap (ltb limit.option) (weight (r .full) (length (r .name)) (length (r .addresses)) (length (r .parameters)))
     go false e = refl
 
--- only carrier 3 has a limit
-pub other-limit : (c : Carrier) (n : ℕ) → (c ≡ Router → ⊥) → largeBy c n ≡ false
-other-limit c n h = go (inEights c) refl
-  where
-    go : (b : Bool) → inEights c ≡ b → cond b (ltb limit.option n) false ≡ false
-    go true e = absurd (h (eights-router c e))
-    go false e = refl
+-- the two ways out of the code, by the carrier's row of the table
+module _ (c : Carrier) {f : Facts} (row : f ≡ factsOf c) where
+  pub large-eights : (n : ℕ) → f .eights ≡ true → ltb limit.option n ≡ largeBy c n
+  large-eights n e = let i : inEights c ≡ true = ap (λ (f : Facts). f .eights) (sym row) ∙ e in rw i
+
+  pub large-never : (n : ℕ) → f .eights ≡ false → false ≡ largeBy c n
+  large-never n e = let i : inEights c ≡ false = ap (λ (f : Facts). f .eights) (sym row) ∙ e in rw i
+
+  module _ (full : Bool) (n a p : ℕ) where
+    pub share-joined : f .joined ≡ true → instanceOctets full n a p ≡ shareOctets c full n a p
+    share-joined e = let i : isJoined c ≡ true = ap (λ (f : Facts). f .joined) (sym row) ∙ e in rw i
+
+    pub share-other : f .joined ≡ false → optionOctets c full n a p ≡ shareOctets c full n a p
+    share-other e = let i : isJoined c ≡ false = ap (λ (f : Facts). f .joined) (sym row) ∙ e in rw i
 
 share-small : (c : Carrier) (full : Bool) (n a p : ℕ) → shareOctets c full n a p ≤ 23 + (n + a + p)
 share-small c full n a p = go (isJoined c)
@@ -93,9 +103,6 @@ share-small c full n a p = go (isJoined c)
     go false = omega (arith, header-small c, body-small c full n a p)
 
 -- ---- a record without a fault is small
-
-few-octets : (c : Carrier) (n : ℕ) → n / addressWidth c ≤ 63 → n ≤ 1023
-few-octets c n = by-address (λ w. n / w ≤ 63 → n ≤ 1023) (λ h. omega arith) (λ h. omega arith) c
 
 passed-light : (c : Carrier) (r : Fields) → FitsRecord c r → faultOf Writing c r ≡ 0
     → Light (length (r .name)) (length (r .addresses)) (length (r .parameters))
@@ -109,8 +116,22 @@ passed-light c r f e =
         → Passed Writing c r → Light (length (r .name)) (length (r .addresses)) (length (r .parameters))
     go h k true u t p =
         let q = p .tail u in
-        record { some = h; name = k; addresses = few-octets c (length (r .addresses)) (q .few); parameters = q .short }
+        record { some = h; name = k; addresses = few-addresses c (length (r .addresses)) (q .few); parameters = q .short }
     go h k false u t p = record { some = h; name = k; addresses = rw (t .0) (omega arith); parameters = rw (t .1) (omega arith) }
+
+-- so are records that have a place in a sheet and no fault, one after another
+pub stream-small : (c : Carrier) (rs : List Fields) → All (FitsRecord c) rs → firstFault c rs ≡ 0 → length (streamOf c rs) ≤ optionMost * length rs
+unfolding firstFault
+stream-small c [] f e = omega (arith, ap length (stream-none c))
+stream-small c (r ∷ rs) f e = go (eqb (faultOf Writing c r) 0) refl (stream-small c rs (f .1)) e
+  where
+    go : (none : Bool) → eqb (faultOf Writing c r) 0 ≡ none → (firstFault c rs ≡ 0 → length (streamOf c rs) ≤ optionMost * length rs)
+        → cond none (firstFault c rs) (faultOf Writing c r) ≡ 0 → length (streamOf c (r ∷ rs)) ≤ optionMost * suc (length rs)
+    go true t ih e =
+        let l = passed-light c r (f .0) (eqb-true _ _ t) in
+        let k = share-small c (r .full) (length (r .name)) (length (r .addresses)) (length (r .parameters)) in
+        omega (arith, stream-length c r rs, share-length c r, k, l, ih e)
+    go false t ih e = absurd (eqb-false _ _ t e)
 
 -- ---- the fields that stand at a spot, as the code cuts them out
 
@@ -129,7 +150,7 @@ inside-any {n} {at} {p} i = record {
   addresses = i .addresses;
   parameters = i .parameters;
   next = i .next;
-  further = λ g. let k : at + 8 ≤ p .next = i .further g in omega arith;
+  further = λ g. let k : at + headSize ≤ p .next = i .further g in omega arith;
 }
 
 module _ (s : List ℕ) (p : Spot) where
@@ -217,7 +238,7 @@ step-fields t =
     let h = t .stands in
     rw (h .priority, h .lifetime, h .full, h .name, h .addresses, h .parameters)
 
-pub weighing-start : (c : Carrier) (s : List ℕ) → Bytes s → TakenAs c s → Weighing c s (recordsOf s) 7 false 0
+pub weighing-start : (c : Carrier) (s : List ℕ) → Bytes s → TakenAs c s → Weighing c s (recordsOf s) frontSize false 0
 weighing-start c s octets e =
     let t = taken-standing s e in
     let i : IsSheet s c (recordsOf s) = taken-sheet s c (recordsOf s) octets e in
@@ -245,22 +266,21 @@ module _ {c : Carrier} {s : List ℕ} {rs : List Fields} {at size : ℕ} {big : 
   pub weighing-inside : Inside (length s) at p
   weighing-inside = weighing-step .stands .inside
 
-  pub weighing-further : at + 8 ≤ p .next
+  pub weighing-further : at + headSize ≤ p .next
   weighing-further = weighing-inside .further (weighing-step .stands .good)
 
   module _ {one : Weighed} (o : WeighsOne c (fieldsAt s p) one) where
     first-is : one .fault ≡ faultOf Writing c (weighing-step .first)
     first-is = o .first ∙ ap (faultOf Writing c) (step-fields weighing-step)
 
-    pub weighing-faulty : {r : Weighed} → (one .fault ≡ 0 → ⊥) → r .fault ≡ one .fault → r .size ≡ 0 → Weighs c rs r
-    weighing-faulty n k z =
+    pub weighing-faulty : {r : Weighed} → (one .fault ≡ 0 → ⊥) → r .fault ≡ one .fault → Weighs c rs r
+    weighing-faulty n k =
         let t = weighing-step in
         let f = first-faulty c (t .first) (t .rest) (λ q. n (first-is ∙ q)) in
         record {
           first = k ∙ first-is ∙ sym f ∙ ap (firstFault c) (sym (t .are)) ∙ sym (w .faults);
           large-is = λ q. absurd (n (sym k ∙ q));
           size-is = λ q. absurd (n (sym k ∙ q));
-          small = omega arith;
         }
 
     pub weighing-next : {l : Bool} → one .fault ≡ 0 → l ≡ (big || one .large) → Weighing c s rs (p .next) l (size + one .size)
@@ -301,5 +321,4 @@ weighing-end {c} {s} {rs} {at} {size} {big} w h e l k =
           ∙ ap (λ (x : List Fields). big || anyLarge c x) (sym z)
           ∙ sym (w .larges);
       size-is = λ _. omega (arith, k, w .sizes, ap (λ (x : List Fields). length (streamOf c x)) z, ap length (stream-none c));
-      small = omega (arith, k, w .small);
     }

@@ -1,10 +1,10 @@
--- `writing::weigh_record` meets its contract: the judge's fault, or how many octets the record takes. Assumes nothing.
+-- `vetting::weigh_record` meets its contract: the judge's fault, or how many octets the record takes. Assumes nothing.
 use mathlib.Core.Path.{refl, sym, _∙_}
 use native.Mathlib.Omega.{arith}
-use Rattle.writing.specs.WeighingLaws.{light-at, judged-at, weighs-faulty, weighs-passed}
+use Rattle.vetting.specs.WeighingLaws.{light-at, judged-at, weighs-faulty, weighs-passed}
 use borrow.Author.Needs.{needs}
-use Rattle.writing.proofs.weigh_record.Statement.{statement}
-use Rattle.writing.proofs.weigh_record.Tie as tie
+use Rattle.vetting.proofs.weigh_record.Statement.{statement}
+use Rattle.vetting.proofs.weigh_record.Tie as tie
 
 abbrev start : tie.After-judge-fields → tie.Start
 start c = c .before .before .before .before .before .before .before .before

@@ -1,7 +1,7 @@
--- What holds while a sheet's octets are laid, and what the call gives back. Assumes nothing: these are definitions.
+-- What is known of a sheet once it is vetted, and what holds while its octets are laid. Assumes nothing: these are definitions.
 use mathlib.Core.Path.{_≡_}
-use mathlib.Core.Bool.{cond}
-use mathlib.Core.List.{List, _++_}
+use mathlib.Core.Bool.{Bool, cond}
+use mathlib.Core.List.{List, [], _++_}
 use Prim.Native.Nat.{ℕ, _+_, _≤_}
 use lib.ListN.{length}
 use Rattle.octets.specs.Lists.{All}
@@ -11,15 +11,30 @@ use Rattle.carriers.specs.Carriers.{isJoined}
 use Rattle.blocks.specs.Block.{Fields}
 use Rattle.pieces.specs.Pieces.{cutOctets}
 use Rattle.taking.specs.Standing.{Standing}
-use Rattle.written.specs.Writing.{streamOf, Answer, Writes}
-use Rattle.written.specs.Accepted.{Sound}
-use Rattle.writing.specs.declared.Writing.{Writing}
-use Rattle.writing.specs.Weighing.{recordsOf, TakenAs}
+use Rattle.vetting.specs.Vetting.{Vetted, refuse, sheet, vetOf, streamOf, anyLarge}
+use Rattle.written.specs.Accepted.{Sound, Accepted}
 
--- s is a sheet of carrier c, and each of its records is accepted
-pub record Ready (c : Carrier) (s : List ℕ) : Type 0 where
-  pub taken : TakenAs c s
-  pub sound : All (Sound c) (recordsOf s)
+-- ---- a vetted sheet
+
+abbrev pub recordsIn : Vetted → List Fields
+recordsIn (refuse k) = []
+recordsIn (sheet c rs) = rs
+
+-- the records of the sheet s
+abbrev pub recordsOf : List ℕ → List Fields
+recordsOf s = recordsIn (vetOf s)
+
+-- s is vetted as a sheet of carrier c: whether a record is large, and how many octets the records take one after another
+pub record Found (c : Carrier) (s : List ℕ) (big : Bool) (size : ℕ) : Type 0 where
+  pub vetted : vetOf s ≡ sheet c (recordsOf s)
+  pub larges : big ≡ anyLarge c (recordsOf s)
+  pub sizes : size ≡ length (streamOf c (recordsOf s))
+
+-- s is a sheet of carrier c, and it is accepted
+abbrev pub Ready : Carrier → List ℕ → Type 0
+Ready c s = Accepted s c (recordsOf s)
+
+-- ---- its octets
 
 -- of the records rs those before an index of s are laid over `out` from an index on, and there is room for the others
 pub record Laying (c : Carrier) (s : List ℕ) (rs : List Fields) (from : ℕ) (out : List ℕ) (at o : ℕ) (out′ : List ℕ) : Type 0 where
@@ -40,7 +55,3 @@ pub record Measured (c : Carrier) (s : List ℕ) (size total room : ℕ) : Type 
   pub sizes : size ≡ length (streamOf c (recordsOf s))
   pub totals : total ≡ totalOf c size
   pub fits : total ≤ room
-
--- the numbers that the call returns are those of the answer
-abbrev pub Gives : Answer → List ℕ → Writing → List ℕ → Type 0
-Gives a out r out′ = Writes a out (r .number) (r .length) out′

@@ -1,0 +1,4 @@
+pub mod Vetting
+pub mod Weighing
+pub mod WeighingLaws
+pub mod VettingLaws

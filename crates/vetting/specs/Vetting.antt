@@ -1,0 +1,64 @@
+-- Vetting a sheet (01, Numbers given back: "Writing checks 2, 40, 41, 42, 4, 43, then 21 to 28 record by record, then 44, then 5"): the one test of a
+-- sheet, 2 to 28, that every call makes which takes one; and what else the call returns of a sheet that passes it, for 44 and 5. Assumes nothing:
+-- these are definitions.
+use mathlib.Core.Bool.{Bool, false, cond, _||_}
+use mathlib.Core.List.{List, [], _∷_, map}
+use Prim.Native.Nat.{ℕ, _+_}
+use lib.Dec.{ltb, eqb}
+use lib.ListN.{length}
+use Rattle.octets.specs.Lists.{flat}
+use Rattle.numbers.specs.Limit as limit
+use Rattle.carriers.specs.declared.Carrier.{Carrier}
+use Rattle.carriers.specs.Carriers.{inEights, isJoined}
+use Rattle.blocks.specs.Block.{Fields, optionSize, gap}
+use Rattle.judge.specs.declared.Side.the-variants.{Writing}
+use Rattle.judge.specs.Judge.{faultOf}
+use Rattle.layouts.specs.Layouts.{ownOption, joinedOf}
+use Rattle.taking.specs.Taking.{Taken, takeOf}
+use Rattle.taking.specs.Taking as taking
+use Rattle.vetting.specs.declared.Vetted as returned
+use Rattle.vetting.specs.declared.Vetted.the-variants.{Refused, Sheet}
+
+-- ---- the test
+
+-- a refusal's number, or a carrier and its records
+pub data Vetted : Type 0 where
+  refuse : ℕ → Vetted
+  sheet : Carrier → List Fields → Vetted
+
+-- the first fault, 21 to 28, of the first record that has one, or 0
+unfoldable pub firstFault : Carrier → List Fields → ℕ
+firstFault c [] = 0
+firstFault c (r ∷ rs) = cond (eqb (faultOf Writing c r) 0) (firstFault c rs) (faultOf Writing c r)
+
+-- 21 to 28
+abbrev pub vetRecords : Carrier → List Fields → Vetted
+vetRecords c rs = cond (eqb (firstFault c rs) 0) (sheet c rs) (refuse (firstFault c rs))
+
+-- 2, 40, 41, 42, 4, 43
+abbrev pub vetTaken : Taken → Vetted
+vetTaken (taking.refuse k) = refuse k
+vetTaken (taking.sheet c rs) = vetRecords c rs
+
+unfoldable pub vetOf : List ℕ → Vetted
+vetOf s = vetTaken (takeOf s)
+
+-- ---- what is measured with it
+
+-- the records one after another, in sheet order: in carrier 1 the instances joined, else an option or attribute each
+abbrev pub streamOf : Carrier → List Fields → List ℕ
+streamOf c rs = cond (isJoined c) (joinedOf rs) (flat (map (ownOption c) rs))
+
+-- 44: a carrier 3 record above 2,040 octets when rounded
+abbrev pub large : Carrier → Fields → Bool
+large c r = cond (inEights c) (ltb limit.option (optionSize r + gap (optionSize r))) false
+
+unfoldable pub anyLarge : Carrier → List Fields → Bool
+anyLarge c [] = false
+anyLarge c (r ∷ rs) = large c r || anyLarge c rs
+
+-- what the call returns: the refusal's number; or the carrier, how many records there are, whether one is large, and how many octets they
+-- take one after another
+abbrev pub told : Vetted → returned.Vetted
+told (refuse k) = Refused k
+told (sheet c rs) = Sheet c (length rs) (anyLarge c rs) (length (streamOf c rs))

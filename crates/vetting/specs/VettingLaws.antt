@@ -1,0 +1,168 @@
+-- Vetting accepts exactly the sheets whose records have no fault, and refuses by 2, 40, 41, 42, 4, 43 or 21 to 28; each way out of the code agrees
+-- with `vetOf`, and what its answer says. Assumes nothing.
+use mathlib.Core.Path.{_≡_, refl, sym, ap, _∙_}
+use mathlib.Core.Logic.{_⊎_, inl, inr, _↔_}
+use mathlib.Core.Bool.{Bool, true, false, cond}
+use mathlib.Core.List.{List, [], _∷_}
+use Prim.Native.Nat.{ℕ, _*_, _≤_}
+use native.Mathlib.Omega.{arith}
+use borrow.Author.Tests.{eqb-true, eqb-false, eq-eqb, ne-eqb}
+use lib.Dec.{eqb}
+use lib.ListN.{length}
+use Rattle.octets.specs.Numbers.{Bytes}
+use Rattle.octets.specs.Lists.{All}
+use Rattle.numbers.specs.Limit as limit
+use Rattle.carriers.specs.declared.Carrier.{Carrier}
+use Rattle.blocks.specs.Block.{Fields}
+use Rattle.judge.specs.declared.Side.the-variants.{Writing}
+use Rattle.judge.specs.Judge.{faultOf}
+use Rattle.judge.specs.Passed.{Passed}
+use Rattle.judge.specs.JudgeLaws.{fault-passed, passed-fault}
+use Rattle.judge.specs.Numbered.{FaultNumber, fault-number}
+use Rattle.layouts.specs.Writable.{optionMost}
+use Rattle.taking.specs.declared.Took.the-variants as took
+use Rattle.taking.specs.Taking.{Taken, takeOf}
+use Rattle.taking.specs.Taking as taking
+use Rattle.taking.specs.Took.{tookOf}
+use Rattle.taking.specs.Sheet.{IsSheet}
+use Rattle.taking.specs.TakenLaws.{Refusing, refused-by}
+use Rattle.taking.specs.StandingLaws.{took-refused, took-sheet}
+use Rattle.taking.specs.Exactly.{taken-sheet, sheet-taken}
+use Rattle.vetting.specs.declared.Vetted as returned
+use Rattle.vetting.specs.declared.Vetted.the-variants.{Refused, Sheet}
+use Rattle.vetting.specs.declared.Weighed.{Weighed}
+use Rattle.vetting.specs.Vetting.{Vetted, refuse, sheet, firstFault, vetRecords, vetTaken, vetOf, streamOf, anyLarge, told}
+use Rattle.vetting.specs.Weighing.{recordsIn, recordsOf, TakenAs, Weighs}
+use Rattle.vetting.specs.WeighingLaws.{stream-small}
+
+-- ---- records without a fault
+
+module _ (c : Carrier) where
+  pub faultless-passed : (rs : List Fields) → firstFault c rs ≡ 0 → All (Passed Writing c) rs
+  unfolding firstFault
+  faultless-passed [] e = tt
+  faultless-passed (r ∷ rs) e = go (eqb (faultOf Writing c r) 0) refl (faultless-passed rs) e
+    where
+      go : (none : Bool) → eqb (faultOf Writing c r) 0 ≡ none → (firstFault c rs ≡ 0 → All (Passed Writing c) rs)
+          → cond none (firstFault c rs) (faultOf Writing c r) ≡ 0 → All (Passed Writing c) (r ∷ rs)
+      go true t ih e = (fault-passed Writing c r (eqb-true _ _ t), ih e)
+      go false t ih e = absurd (eqb-false _ _ t e)
+
+  pub passed-faultless : (rs : List Fields) → All (Passed Writing c) rs → firstFault c rs ≡ 0
+  unfolding firstFault
+  passed-faultless [] h = refl
+  passed-faultless (r ∷ rs) h = rw (passed-fault Writing c r (h .0)) (passed-faultless rs (h .1))
+
+  first-number : (rs : List Fields) → FaultNumber (firstFault c rs)
+  unfolding firstFault
+  first-number [] = inl refl
+  first-number (r ∷ rs) = go (eqb (faultOf Writing c r) 0) (first-number rs)
+    where
+      go : (none : Bool) → FaultNumber (firstFault c rs) → FaultNumber (cond none (firstFault c rs) (faultOf Writing c r))
+      go true ih = ih
+      go false ih = fault-number Writing c r
+
+-- ---- the test
+
+module _ (s : List ℕ) where
+  -- what holds of each refusal and of a sheet without a fault holds
+  by-vetted : (P : Vetted → Type 0) → ((k : ℕ) → Refusing k → P (refuse k))
+      → ((k : ℕ) → FaultNumber k → (k ≡ 0 → ⊥) → P (refuse k))
+      → ((c : Carrier) (rs : List Fields) → takeOf s ≡ taking.sheet c rs → firstFault c rs ≡ 0 → P (sheet c rs))
+      → P (vetOf s)
+  unfolding vetOf
+  by-vetted P refusing faulty good = go (takeOf s) refl
+    where
+      records : (c : Carrier) (rs : List Fields) → takeOf s ≡ taking.sheet c rs → (none : Bool) → eqb (firstFault c rs) 0 ≡ none
+          → P (cond none (sheet c rs) (refuse (firstFault c rs)))
+      records c rs e true t = good c rs e (eqb-true _ _ t)
+      records c rs e false t = faulty (firstFault c rs) (first-number c rs) (eqb-false _ _ t)
+
+      go : (t : Taken) → takeOf s ≡ t → P (vetTaken t)
+      go (taking.refuse k) e = refusing k (refused-by s k e)
+      go (taking.sheet c rs) e = records c rs e (eqb (firstFault c rs) 0) refl
+
+  pub vetted-taken : {c : Carrier} {rs : List Fields} → vetOf s ≡ sheet c rs → (takeOf s ≡ taking.sheet c rs) × (firstFault c rs ≡ 0)
+  vetted-taken {c} {rs} =
+      by-vetted (λ v. v ≡ sheet c rs → (takeOf s ≡ taking.sheet c rs) × (firstFault c rs ≡ 0))
+      (λ k h e. let z : _≡_ {A = ℕ} 0 1 = cc in absurd (omega arith))
+      (λ k h n e. let z : _≡_ {A = ℕ} 0 1 = cc in absurd (omega arith))
+      (λ d qs t f e. let i : d ≡ c = cc in let j : qs ≡ rs = cc in (rw (← i, ← j) t, rw (← i, ← j) f))
+
+  pub taken-vetted : {c : Carrier} {rs : List Fields} → takeOf s ≡ taking.sheet c rs → firstFault c rs ≡ 0 → vetOf s ≡ sheet c rs
+  unfolding vetOf
+  taken-vetted e z = rw (e, z)
+
+  -- vetting accepts octets as carrier c and records rs exactly if they are the sheet of these, and no record has one of 21 to 28
+  pub vet-exactly : (c : Carrier) (rs : List Fields) → Bytes s → (vetOf s ≡ sheet c rs) ↔ (IsSheet s c rs × All (Passed Writing c) rs)
+  vet-exactly c rs octets = (accepts, λ g. taken-vetted (sheet-taken s c rs (g .0)) (passed-faultless c rs (g .1)))
+    where
+      accepts : vetOf s ≡ sheet c rs → IsSheet s c rs × All (Passed Writing c) rs
+      accepts e = let t = vetted-taken e in (taken-sheet s c rs octets (t .0), faultless-passed c rs (t .1))
+
+  -- ---- the refusals: 2, 40, 41, 42, 4, 43, and 21 to 28
+
+  pub vetted-by : (k : ℕ) → vetOf s ≡ refuse k → Refusing k ⊎ (FaultNumber k × (k ≡ 0 → ⊥))
+  vetted-by k =
+      by-vetted (λ v. v ≡ refuse k → Refusing k ⊎ (FaultNumber k × (k ≡ 0 → ⊥)))
+      (λ j h e. let i : j ≡ k = cc in inl (rw (← i) h))
+      (λ j h n e. let i : j ≡ k = cc in inr (rw (← i) h, rw (← i) n))
+      (λ c rs t f e. let z : _≡_ {A = ℕ} 0 1 = cc in absurd (omega arith))
+
+-- ---- the ways out of the code
+
+module _ {c : Carrier} {rs : List Fields} {w : Weighed} (g : Weighs c rs w) where
+  pub vet-faulty : (w .fault ≡ 0 → ⊥) → Refused (w .fault) ≡ told (vetRecords c rs)
+  vet-faulty n = rw (← g .first, ne-eqb (w .fault) 0 n)
+
+  pub vet-passed : {n : ℕ} → w .fault ≡ 0 → n ≡ length rs → Sheet c n (w .large) (w .size) ≡ told (vetRecords c rs)
+  vet-passed z e =
+      let f : firstFault c rs ≡ 0 = sym (g .first) ∙ z in
+      rw (f, e, g .large-is z, g .size-is z)
+
+module _ (s : List ℕ) where
+  pub vet-refused : {k : ℕ} → took.Refused k ≡ tookOf (takeOf s) → Refused k ≡ told (vetOf s)
+  unfolding vetOf
+  vet-refused e = rw (took-refused s e)
+
+  module _ {c : Carrier} {n : ℕ} (e : took.Sheet c n ≡ tookOf (takeOf s)) where
+    pub vet-taken : TakenAs c s × (n ≡ length (recordsOf s))
+    vet-taken =
+        let k = took-sheet s e in
+        let i : recordsOf s ≡ k .0 = ap recordsIn (k .1) in
+        (k .1 ∙ ap (taking.sheet c) (sym i), sym (k .2) ∙ ap length (sym i))
+
+    pub vet-sheet : {r : returned.Vetted} → r ≡ told (vetRecords c (recordsOf s)) → r ≡ told (vetOf s)
+    unfolding vetOf
+    vet-sheet i = i ∙ ap (λ (t : Taken). told (vetTaken t)) (sym (vet-taken .0))
+
+-- ---- what the answer of `vet` says
+
+pub told-refused : (s : List ℕ) {k : ℕ} → Refused k ≡ told (vetOf s) → vetOf s ≡ refuse k
+told-refused s {k} = go (vetOf s)
+  where
+    go : (v : Vetted) → Refused k ≡ told v → v ≡ refuse k
+    go (refuse j) e = cc
+    go (sheet c rs) e = let z : _≡_ {A = ℕ} 0 1 = cc in absurd (omega arith)
+
+-- the sheet is that of some records, of which the numbers speak
+pub record Says (s : List ℕ) (c : Carrier) (count : ℕ) (large : Bool) (size : ℕ) : Type 0 where
+  pub records : List Fields
+  pub vetted : vetOf s ≡ sheet c records
+  pub counts : count ≡ length records
+  pub larges : large ≡ anyLarge c records
+  pub sizes : size ≡ length (streamOf c records)
+
+pub told-sheet : (s : List ℕ) {c : Carrier} {n : ℕ} {l : Bool} {z : ℕ} → Sheet c n l z ≡ told (vetOf s) → Says s c n l z
+told-sheet s {c} {n} {l} {z} = go (vetOf s) refl
+  where
+    go : (v : Vetted) → vetOf s ≡ v → Sheet c n l z ≡ told v → Says s c n l z
+    go (refuse k) i e = let z : _≡_ {A = ℕ} 0 1 = cc in absurd (omega arith)
+    go (sheet d rs) i e = record { records = rs; vetted = cc; counts = cc; larges = cc; sizes = cc }
+
+-- the octets of at most 16 records
+pub vetted-small : (s : List ℕ) {c : Carrier} {rs : List Fields} → Bytes s → vetOf s ≡ sheet c rs → length (streamOf c rs) ≤ optionMost * limit.records
+vetted-small s {c} {rs} octets e =
+    let t = vetted-taken s e in
+    let i : IsSheet s c rs = taken-sheet s c rs octets (t .0) in
+    omega (arith, stream-small c rs (i .each) (t .1), i .few)
