@@ -1,2 +1,3 @@
 pub mod Words
-pub mod WordsLaws
+pub mod Encoded
+pub mod EncodedLaws

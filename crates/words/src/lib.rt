@@ -1,109 +1,72 @@
 // The numbers given back, in words (document 01, "Numbers given back").
-ghost use Prim.Native.Nat.{_≤_};
+ghost use mathlib.Core.Path.{_≡_};
+ghost use Prim.Native.Nat.{_+_, _≤_};
+ghost use lib.ListN.{length, drop};
 ghost use Rattle.chars.specs.Puts.{Puts};
 ghost use Rattle.words.specs.Words.{wordsOf};
+ghost use Rattle.words.specs.Encoded.{Found, breakAt};
 use chars::put_all;
-use numbers::Fault;
-use numbers::Refusal;
+use octets::wide;
 
-// Writes the words of a number.
+// Writes the words of a number. The table has an entry to a line: the number as an octet (here in hexadecimal), its words and a line break.
 pub fn put_words(out: &mut [u8], at: usize, number: usize) -> usize
     ensures { λ r. ⌜ Puts at (wordsOf number) (now (out .entry)) r (now (out .exit)) ⌝ }
 {
-    match number {
-        0 => put_all(out, at, b"done"),
-        Refusal::CARRIER => put_all(out, at, b"carrier number not 1 to 5"),
-        Refusal::INPUT => put_all(out, at, b"input longer than 40,960 octets"),
-        Refusal::FRAMING => put_framing(out, at),
-        Refusal::RECORDS => put_all(out, at, b"more than 16 records"),
-        Refusal::ROOM => put_all(out, at, b"output shorter than the result"),
-        _ => put_fault(out, at, number),
-    }
-}
-
-fn put_framing(out: &mut [u8], at: usize) -> usize
-    ensures { λ r. ⌜ Puts at (wordsOf 3) (now (out .entry)) r (now (out .exit)) ⌝ }
-{
-    let next = put_all(
+    put_found(
         out,
         at,
-        b"area framing: a header or body runs past the end, ",
-    );
-    put_all(out, next, b"or a length of 0 in a router advertisement")
-}
-
-// Writes the words of a refusal of writing, or that the number is unknown.
-fn put_refusal(out: &mut [u8], at: usize, number: usize) -> usize
-    requires { ⌜ (6 ≤ number) × (20 ≤ number → 30 ≤ number) ⌝ }
-    ensures { λ r. ⌜ Puts at (wordsOf number) (now (out .entry)) r (now (out .exit)) ⌝ }
-{
-    match number {
-        Refusal::SHEET => put_all(
-            out,
-            at,
-            b"not a record sheet: shorter than 7 octets, or not RSV",
-        ),
-        Refusal::VERSION => put_all(out, at, b"record sheet version not 1"),
-        Refusal::SHEET_CARRIER => put_all(out, at, b"record sheet carrier not 1 to 5"),
-        Refusal::TILING => put_tiling(out, at),
-        Refusal::LARGE => put_all(out, at, b"router advertisement record above 2,040 octets"),
-        _ => put_all(out, at, b"unknown number"),
-    }
-}
-
-fn put_tiling(out: &mut [u8], at: usize) -> usize
-    ensures { λ r. ⌜ Puts at (wordsOf 43) (now (out .entry)) r (now (out .exit)) ⌝ }
-{
-    let next = put_all(
-        out,
-        at,
-        b"record sheet does not tile, a mode is not 0 or 1, ",
-    );
-    put_all(
-        out,
-        next,
-        b"priorities fall, or a lifetime stands where none belongs",
+        number,
+        b"\x00done\n\
+          \x01carrier number not 1 to 5\n\
+          \x02input longer than 40,960 octets\n\
+          \x03area framing: a header or body runs past the end, or a length of 0 in a router advertisement\n\
+          \x04more than 16 records\n\
+          \x05output shorter than the result\n\
+          \x14a field runs past the end of its block, an instance past the joined data, or no instance\n\
+          \x15priority 0 (AliasMode)\n\
+          \x16name not acceptable\n\
+          \x17no addresses, their length is no multiple, or name only in IKEv2\n\
+          \x18more than 63 addresses, or over 1,024 octets of parameters\n\
+          \x19no usable address, or an unusable one in a sheet\n\
+          \x1aparameters: tiling, order or key 65535\n\
+          \x1bparameter key 4 or 6 (address hints)\n\
+          \x1cvalue of parameter key 0, 1, 2 or 3\n\
+          \x1dpadding is not 0 to 7 zeros\n\
+          \x28not a record sheet: shorter than 7 octets, or not RSV\n\
+          \x29record sheet version not 1\n\
+          \x2arecord sheet carrier not 1 to 5\n\
+          \x2brecord sheet does not tile, a mode is not 0 or 1, priorities fall, or a lifetime stands where none belongs\n\
+          \x2crouter advertisement record above 2,040 octets\n",
     )
 }
 
-// Writes the words of a fault, or else of a refusal of writing.
-fn put_fault(out: &mut [u8], at: usize, number: usize) -> usize
-    requires { ⌜ 6 ≤ number ⌝ }
-    ensures { λ r. ⌜ Puts at (wordsOf number) (now (out .entry)) r (now (out .exit)) ⌝ }
+// Writes the words of a number in a table, or that it is unknown.
+fn put_found(out: &mut [u8], at: usize, number: usize, table: &[u8]) -> usize
+    ensures { λ r. ⌜ Found at number (now (table .entry)) (now (out .entry)) r (now (out .exit)) ⌝ }
 {
-    match number {
-        Fault::FIELD => put_field(out, at),
-        Fault::PRIORITY => put_all(out, at, b"priority 0 (AliasMode)"),
-        Fault::NAME => put_all(out, at, b"name not acceptable"),
-        Fault::ADDRESSES => put_all(
-            out,
-            at,
-            b"no addresses, their length is no multiple, or name only in IKEv2",
-        ),
-        Fault::LIMIT => put_limit(out, at),
-        Fault::DROPPED => put_all(out, at, b"no usable address, or an unusable one in a sheet"),
-        Fault::PARAMETERS => put_all(out, at, b"parameters: tiling, order or key 65535"),
-        Fault::HINT => put_all(out, at, b"parameter key 4 or 6 (address hints)"),
-        Fault::VALUE => put_all(out, at, b"value of parameter key 0, 1, 2 or 3"),
-        Fault::PADDING => put_all(out, at, b"padding is not 0 to 7 zeros"),
-        _ => put_refusal(out, at, number),
+    let mut i = 0;
+    while i < table.len() {
+        let from = i + 1;
+        let end = line_end(table, from);
+        if wide(table[i]) == number {
+            return put_all(out, at, &table[from..end]);
+        }
+        i = end + 1;
     }
+    put_all(out, at, b"unknown number")
 }
 
-fn put_field(out: &mut [u8], at: usize) -> usize
-    ensures { λ r. ⌜ Puts at (wordsOf 20) (now (out .entry)) r (now (out .exit)) ⌝ }
+// The index of the first line break of s at `from` or after it, or its end.
+fn line_end(s: &[u8], from: usize) -> usize
+    requires { ⌜ from ≤ length (now s) ⌝ }
+    ensures { λ r. ⌜ (r ≡ from + breakAt (drop from (now (s .entry)))) × (r ≤ length (now (s .entry))) ⌝ }
 {
-    let next = put_all(out, at, b"a field runs past the end of its block, ");
-    put_all(
-        out,
-        next,
-        b"an instance past the joined data, or no instance",
-    )
-}
-
-fn put_limit(out: &mut [u8], at: usize) -> usize
-    ensures { λ r. ⌜ Puts at (wordsOf 24) (now (out .entry)) r (now (out .exit)) ⌝ }
-{
-    let next = put_all(out, at, b"more than 63 addresses, ");
-    put_all(out, next, b"or over 1,024 octets of parameters")
+    let mut i = from;
+    while i < s.len() {
+        if s[i] == b'\n' {
+            return i;
+        }
+        i += 1;
+    }
+    i
 }

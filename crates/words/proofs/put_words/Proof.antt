@@ -1,60 +1,14 @@
--- `words::put_words` meets its contract: each arm writes the words of its number. Assumes nothing.
+-- `words::put_words` meets its contract: the octets of its table are those of the definition's. Assumes nothing.
 use borrow.Author.Needs.{needs}
-use Rattle.words.specs.WordsLaws.{puts-of}
-use Rattle.words.specs.Words.{table, wordsIn}
+use mathlib.Core.Path.{refl}
+use Rattle.words.specs.Words.{table}
+use Rattle.words.specs.Encoded.{encoded, plain, unbroken}
 use Rattle.words.proofs.put_words.Statement.{statement}
 use Rattle.words.proofs.put_words.Tie as tie
 
 returns : tie.Need-returns
-unfolding wordsIn table
-returns c = let w = c .before .before in puts-of (w .before .before .before .match .keys1) (w .put-all .ensures .1)
-
-returns-2 : tie.Need-returns-2
-unfolding wordsIn table
-returns-2 c = let w = c .before .before in puts-of (w .before .before .before .match .keys2) (w .put-all2 .ensures .1)
-
-returns-3 : tie.Need-returns-3
-unfolding wordsIn table
-returns-3 c = let w = c .before .before in puts-of (w .before .before .before .match .keys3) (w .put-all3 .ensures .1)
-
-returns-4 : tie.Need-returns-4
-returns-4 c = let w = c .before .before in puts-of (w .before .before .match .keys4) (w .put-framing .ensures)
-
-returns-5 : tie.Need-returns-5
-unfolding wordsIn table
-returns-5 c = let w = c .before .before in puts-of (w .before .before .before .match .keys5) (w .put-all4 .ensures .1)
-
-returns-6 : tie.Need-returns-6
-unfolding wordsIn table
-returns-6 c = let w = c .before .before in puts-of (w .before .before .before .match .keys6) (w .put-all5 .ensures .1)
+unfolding table encoded plain unbroken
+returns c = c .before .before .put-found .ensures table refl refl
 
 pub put-words-spec : {M : Type 1} → statement M
-put-words-spec =
-    tie.close
-    (tie.spec
-    (λ c. search needs)
-    (λ c κs. search needs)
-    (λ c. search needs)
-    (λ c κs. search needs)
-    (λ c. search needs)
-    (λ c κs. search needs)
-    (λ c κs. search needs)
-    (λ c. search needs)
-    (λ c κs. search needs)
-    (λ c. search needs)
-    (λ c κs. search needs)
-    (λ c κs. search needs)
-    (λ c. search needs)
-    returns
-    (λ c. search needs)
-    returns-2
-    (λ c. search needs)
-    returns-3
-    (λ c. search needs)
-    returns-4
-    (λ c. search needs)
-    returns-5
-    (λ c. search needs)
-    returns-6
-    (λ c. search needs)
-    (λ c. search needs))
+put-words-spec = tie.close (tie.spec (λ c. search needs) (λ c κs. search needs) (λ c. search needs) returns)
