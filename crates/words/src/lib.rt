@@ -1,4 +1,4 @@
-// The numbers given back, in words (document 01, "Numbers given back").
+// The numbers given back, in words (document 01, "Numbers given back"), and the lookup of a number in any such table.
 ghost use mathlib.Core.Path.{_≡_};
 ghost use Prim.Native.Nat.{_+_, _≤_};
 ghost use lib.ListN.{length, drop};
@@ -41,7 +41,7 @@ pub fn put_words(out: &mut [u8], at: usize, number: usize) -> usize
 }
 
 // Writes the words of a number in a table, or that it is unknown.
-fn put_found(out: &mut [u8], at: usize, number: usize, table: &[u8]) -> usize
+pub fn put_found(out: &mut [u8], at: usize, number: usize, table: &[u8]) -> usize
     ensures { λ r. ⌜ Found at number (now (table .entry)) (now (out .entry)) r (now (out .exit)) ⌝ }
 {
     let mut i = 0;

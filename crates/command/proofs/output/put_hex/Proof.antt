@@ -1,0 +1,35 @@
+-- `command::output::put_hex` meets its contract. The loop's invariant: `out` and the pair of digits keep their lengths. Assumes nothing.
+use mathlib.Core.Path.{_≡_}
+use Prim.Native.Nat.{_-_, _≤_}
+use native.Mathlib.Omega.{arith}
+use borrow.Author.Needs.{needs}
+use lib.ListN.{length}
+use Rattle.io.proofs.Counting.{counts}
+use Rattle.command.proofs.output.put_hex.Statement.{statement}
+use Rattle.command.proofs.output.put_hex.Tie as tie
+
+abbrev Inv-loop : tie.InvT-loop
+Inv-loop out₀ s pair₀ o₀ i₀ out pair o i = (i ≤ length s) × (o ≤ length out) × (length out ≡ length out₀) × (length pair ≡ 2)
+
+abbrev μ-loop : tie.MeasureT-loop
+μ-loop out₀ s pair₀ o₀ i₀ out pair o i = length s - i
+
+pub put-hex-spec : {M : Type 1} → statement M
+put-hex-spec =
+    tie.close
+    (tie.spec
+    Inv-loop
+    μ-loop
+    (λ c. search needs)
+    (λ c. search needs)
+    (λ c. search needs)
+    (λ c κs. search needs)
+    (λ c. search needs)
+    (λ c κs. search needs)
+    (λ c κs. search needs)
+    (λ c κs. search needs)
+    (λ c. search needs)
+    (λ c. search needs)
+    (λ c. search needs)
+    (λ c. search needs)
+    (λ c. counts _ _ (search needs)))

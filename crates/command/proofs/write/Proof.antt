@@ -1,0 +1,33 @@
+-- `command::write` is safe: the octets that were written lie within their buffer. Assumes nothing.
+use mathlib.Core.Path.{sym}
+use Prim.Native.Nat.{_≤_}
+use native.Mathlib.Omega.{arith}
+use borrow.Author.Needs.{needs}
+use lib.ListN.{length}
+use lib.Seq.{length-take-le}
+use Rattle.writing.specs.WritesLaws.{writes-fits}
+use Rattle.command.proofs.write.Statement.{statement}
+use Rattle.command.proofs.write.Tie as tie
+
+short : (c : tie.After-write) → c .write .result .length ≤ length (c .write .last .1 .0)
+short c = writes-fits _ (c .write .ensures) (c .write .kept .1 .0)
+
+array-share-prefix-octets : tie.Need-array-share-prefix-octets
+array-share-prefix-octets c = omega (arith, short (c .before .before .before))
+
+slice-aggregate-give-octets : tie.Need-slice-aggregate-give-octets
+slice-aggregate-give-octets c = sym (length-take-le _ _ (short (c .before .before .before .before)))
+
+pub write-spec : {M : Type 1} → statement M
+write-spec =
+    tie.close
+    (tie.spec
+    (λ c. search needs)
+    (λ c κs. search needs)
+    (λ c κs. search needs)
+    (λ c. search needs)
+    array-share-prefix-octets
+    slice-aggregate-give-octets
+    (λ c κs. search needs)
+    (λ c. search needs)
+    (λ c. search needs))

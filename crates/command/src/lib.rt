@@ -1,0 +1,227 @@
+// The command `dnr`: an area becomes a record sheet, a sheet becomes octets, and a sheet is shown as text or as JSON.
+// `execute` is the whole program: it takes the arguments, and its answer is the exit status (0 done, 1 refused by a number of document
+// 01, 2 anything else). A result is made whole in memory before any of it is written. What is read and what is
+// written, no contract can say; the work itself is that of `reading`, `writing` and `showing`.
+mod args;
+mod help;
+mod input;
+mod links;
+mod messages;
+mod output;
+
+ghost use Prim.Native.Nat.{_≤_};
+ghost use lib.ListN.{length};
+ghost use Rattle.io.specs.Counts.{Counts};
+use args::Asked;
+use args::Command;
+use chars::put_all;
+use hexes::Hex;
+use libc::STDERR_FILENO;
+use libc::STDOUT_FILENO;
+use messages::put_count;
+use numbers::Limit;
+use numbers::Refusal;
+use reading::Reading;
+
+// Octets that hold the text of any sheet: 16 for each of its own. A parameter without a value takes 4 octets of a sheet and 45 of JSON at most,
+// an octet of a value 5, a mandatory key 18 for its 2, an address 42.
+const TEXT: usize = 16 * Limit::SHEET;
+
+// Octets that hold what any sheet is written as: 16 records of `Limit::RECORD` octets, and less than 64 more for each.
+const OCTETS: usize = Limit::INPUT;
+
+// ---- read
+
+// Writes what a reading is printed as, and returns how many octets that is.
+fn put_reading(out: &mut [u8], r: Reading, sheet: &[u8]) -> usize
+    ensures { λ n. ⌜ Counts n (now (out .exit)) ⌝ }
+{
+    let end = showing::put_sheet(out, 0, sheet, false);
+    let found = put_count(out, end, b"\nfound ", r.found);
+    let discarded = put_count(out, found, b", discarded ", r.discarded);
+    put_all(out, discarded, b"\n")
+}
+
+// Writes the numbers of a reading in JSON.
+fn put_numbers(out: &mut [u8], r: Reading) -> usize {
+    let found = put_count(out, 0, b"{\"found\":", r.found);
+    let discarded = put_count(out, found, b",\"discarded\":", r.discarded);
+    put_count(out, discarded, b",\"fault\":", r.fault)
+}
+
+// Writes a reading in JSON, and returns how many octets that is.
+fn put_json(out: &mut [u8], r: Reading, sheet: &[u8]) -> usize
+    ensures { λ n. ⌜ Counts n (now (out .exit)) ⌝ }
+{
+    let next = put_numbers(out, r);
+    let from = put_all(out, next, b",\"sheet\":");
+    let end = showing::put_sheet(out, from, sheet, true);
+    put_all(out, end, b"}\n")
+}
+
+// Writes a reading as it is asked for.
+fn put_result(out: &mut [u8], r: Reading, sheet: &[u8], json: bool) -> usize
+    ensures { λ n. ⌜ Counts n (now (out .exit)) ⌝ }
+{
+    if json {
+        return put_json(out, r, sheet);
+    }
+    put_reading(out, r, sheet)
+}
+
+// Prints a reading, or saves its sheet.
+fn give_reading(a: Asked, r: Reading, sheet: &[u8], text: &mut [u8]) -> i32 {
+    if a.output != 0 {
+        return output::save(a.output, sheet);
+    }
+    let n = put_result(text, r, sheet, a.json);
+    output::print(&text[..n])
+}
+
+// Reads an area.
+fn read(a: Asked, name: &[u8], area: &[u8], text: &mut [u8]) -> i32 {
+    let mut sheet = [0u8; Limit::SHEET];
+    let r = reading::read(a.carrier, area, &mut sheet);
+    if r.number != 0 {
+        return messages::refused(name, r.number);
+    }
+    let n = r.length;
+    let status = give_reading(a, r, &sheet[..n], text);
+    if r.discarded != 0 {
+        messages::warn(r.discarded, r.found, r.fault);
+    }
+    status
+}
+
+// ---- write and show
+
+// Prints octets as hexadecimal text, or saves them.
+fn give_octets(a: Asked, s: &[u8], text: &mut [u8]) -> i32 {
+    if a.output != 0 {
+        return output::save(a.output, s);
+    }
+    output::print_hex(s, text)
+}
+
+// Writes the octets of a sheet.
+fn write(a: Asked, name: &[u8], sheet: &[u8], text: &mut [u8]) -> i32 {
+    let mut octets = [0u8; OCTETS];
+    let w = writing::write(sheet, &mut octets);
+    if w.number != 0 {
+        return messages::refused(name, w.number);
+    }
+    let n = w.length;
+    give_octets(a, &octets[..n], text)
+}
+
+// Prints a sheet.
+fn print_sheet(sheet: &[u8], json: bool, text: &mut [u8]) -> i32 {
+    let n = showing::show(sheet, text, json);
+    output::print(&text[..n])
+}
+
+// Shows a sheet that writing accepts.
+fn show(a: Asked, name: &[u8], sheet: &[u8], text: &mut [u8]) -> i32 {
+    let mut octets = [0u8; OCTETS];
+    let w = writing::write(sheet, &mut octets);
+    if w.number != 0 {
+        return messages::refused(name, w.number);
+    }
+    print_sheet(sheet, a.json, text)
+}
+
+// ---- the command
+
+// Does what is asked with the octets that were given.
+fn perform(a: Asked, name: &[u8], s: &[u8]) -> i32 {
+    let mut text = [0u8; TEXT];
+    perform_in(a, name, s, &mut text)
+}
+
+// The same with room for the text. Where a long array is lent as an array, no proof computes its length.
+fn perform_in(a: Asked, name: &[u8], s: &[u8], text: &mut [u8; TEXT]) -> i32 {
+    if a.command == Command::READ {
+        return read(a, name, s, text);
+    }
+    if a.command == Command::WRITE {
+        return write(a, name, s, text);
+    }
+    show(a, name, s, text)
+}
+
+// Takes the input as octets, or as hexadecimal text that has nothing in it.
+fn perform_plain(a: Asked, name: &[u8], text: &[u8]) -> i32 {
+    if input::is_blank(text) {
+        return perform(a, name, &text[..0]);
+    }
+    if a.hex {
+        return messages::not_hex(name);
+    }
+    perform(a, name, text)
+}
+
+// Takes the input as hexadecimal text where it is such, unless it is to be taken as it is.
+fn perform_on(a: Asked, name: &[u8], text: &[u8]) -> i32 {
+    if a.raw {
+        return perform(a, name, text);
+    }
+    let mut octets = [0u8; Limit::INPUT];
+    match hexes::decode(text, &mut octets) {
+        Hex::Octets(n) => perform(a, name, &octets[..n]),
+        Hex::NoRoom => messages::refused(name, Refusal::INPUT),
+        Hex::Other => perform_plain(a, name, text),
+    }
+}
+
+// Reads the input, and does what is asked with it.
+fn run_on(a: Asked, name: &[u8], text: &mut [u8]) -> i32 {
+    let got = input::read(a.input, name, text);
+    if got.failed {
+        return 2;
+    }
+    let n = got.length;
+    if input::MOST < n {
+        return messages::refused(name, Refusal::INPUT);
+    }
+    perform_on(a, name, &text[..n])
+}
+
+// The same with room for the input.
+fn run_in(a: Asked, text: &mut [u8; input::ROOM]) -> i32 {
+    let mut path = io::buffer();
+    let n = input::name(a.input, &mut path);
+    run_on(a, &path[..n], text)
+}
+
+// The same.
+fn run(a: Asked) -> i32 {
+    let mut text = [0u8; input::ROOM];
+    run_in(a, &mut text)
+}
+
+// Prints the help that was asked for.
+fn print_help() -> i32 {
+    if help::print(STDOUT_FILENO) {
+        return 0;
+    }
+    messages::failed(b"standard output")
+}
+
+// The command, with the arguments of the process; its answer is the exit status.
+pub fn execute() -> i32 {
+    if os::arg_count() < 2 {
+        help::print(STDERR_FILENO);
+        return 2;
+    }
+    let a = args::given();
+    if a.wrong != 0 {
+        return messages::usage(a);
+    }
+    if a.command == Command::HELP {
+        return print_help();
+    }
+    if a.command == Command::VERSION {
+        return output::print(b"dnr 0.1.0\n");
+    }
+    run(a)
+}

@@ -1,0 +1,149 @@
+// What is written: to standard output, or to a file, which is either replaced whole or left as it was.
+ghost use Prim.Native.Nat.{_<_};
+ghost use Rattle.io.specs.Counts.{Counts};
+use crate::args::same;
+use crate::links;
+use crate::messages;
+use chars::put;
+use chars::put_all;
+use libc::PATH_MAX;
+use libc::SEEK_END;
+use libc::STDOUT_FILENO;
+
+// Octets of a path with an ending.
+const PART: usize = PATH_MAX + 8;
+
+// Prints octets.
+pub fn print(s: &[u8]) -> i32 {
+    if io::write_all(STDOUT_FILENO, s) {
+        return 0;
+    }
+    messages::failed(b"standard output")
+}
+
+// ---- hexadecimal text
+
+// What follows octet i of n: a line break after the sixteenth of a line and after the last, else a space.
+fn after(i: usize, n: usize) -> u8
+    requires { ⌜ i < n ⌝ }
+{
+    if i % 16 == 15 {
+        return b'\n';
+    }
+    if i + 1 == n {
+        return b'\n';
+    }
+    b' '
+}
+
+// Writes octets as hexadecimal text, as far as there is room, and returns how long it is.
+fn put_hex(out: &mut [u8], s: &[u8]) -> usize
+    ensures { λ r. ⌜ Counts r (now (out .exit)) ⌝ }
+{
+    let mut pair = [0u8; 2];
+    let mut o = 0;
+    let mut i = 0;
+    while i < s.len() {
+        hexes::put_octet(&mut pair, 0, s[i]);
+        let next = put_all(out, o, &pair);
+        o = put(out, next, after(i, s.len()));
+        i += 1;
+    }
+    o
+}
+
+// Prints octets as hexadecimal text.
+pub fn print_hex(s: &[u8], text: &mut [u8]) -> i32 {
+    let n = put_hex(text, s);
+    print(&text[..n])
+}
+
+// ---- files
+
+// Writes octets to what is open and closes it; answers whether both could be done, and says why where not.
+fn write_out(fd: i32, name: &[u8], s: &[u8]) -> bool {
+    if !io::write_all(fd, s) {
+        messages::failed(name);
+        libc::close(fd);
+        return false;
+    }
+    if libc::close(fd) != 0 {
+        messages::failed(name);
+        return false;
+    }
+    true
+}
+
+// Writes octets to what is no regular file.
+fn write_through(fd: i32, name: &[u8], s: &[u8]) -> i32 {
+    if write_out(fd, name, s) {
+        return 0;
+    }
+    2
+}
+
+// Writes octets to a new file `part`, and gives it the name `path` when it is whole.
+fn replace_by(part: &[u8], path: &[u8], name: &[u8], s: &[u8]) -> i32 {
+    let fd = os::create(part);
+    if fd < 0 {
+        return messages::failed(name);
+    }
+    if !write_out(fd, name, s) {
+        os::unlink(part);
+        return 2;
+    }
+    if os::rename(part, path) != 0 {
+        messages::failed(name);
+        os::unlink(part);
+        return 2;
+    }
+    0
+}
+
+// Makes a file of octets at a path, or replaces it.
+fn replace_at(path: &[u8], name: &[u8], s: &[u8]) -> i32 {
+    let mut part = [0u8; PART];
+    let end = put_all(&mut part, 0, path);
+    let n = put_all(&mut part, end, b".part");
+    replace_by(&part[..n], path, name, s)
+}
+
+// Makes a file of octets, or replaces the one that a name leads to.
+fn replace(name: &[u8], s: &[u8]) -> i32 {
+    let mut path = io::buffer();
+    let n = put_all(&mut path, 0, name);
+    let m = links::follow(&mut path, n);
+    replace_at(&path[..m], name, s)
+}
+
+// Whether what is open is a regular file: only such a file can be given a length, here the one that it has.
+fn is_regular(fd: i32) -> bool {
+    let end = libc::lseek(fd, 0, SEEK_END);
+    libc::ftruncate(fd, end) == 0
+}
+
+// Saves octets under a name.
+fn save_as(name: &[u8], s: &[u8]) -> i32 {
+    if same(name, b"-") {
+        return print(s);
+    }
+    let fd = os::open_append(name);
+    if fd < 0 {
+        if os::errno() == libc::ENOENT {
+            return replace(name, s);
+        }
+        return messages::failed(name);
+    }
+    if is_regular(fd) {
+        libc::close(fd);
+        return replace(name, s);
+    }
+    write_through(fd, name, s)
+}
+
+// Saves octets under the name that is argument i.
+pub fn save(i: usize, s: &[u8]) -> i32 {
+    let mut name = io::buffer();
+    let n = os::arg(i, &mut name);
+    save_as(&name[..n], s)
+}
