@@ -13,6 +13,7 @@ use Rattle.carriers.specs.declared.Carrier.{Carrier}
 use Rattle.carriers.specs.declared.Carrier.the-variants.{Router}
 use Rattle.carriers.specs.declared.Form.{Form}
 use Rattle.carriers.specs.declared.Form.the-variants.{Wire, Padded, Text}
+use Rattle.blocks.specs.declared.Head.{Head}
 use Rattle.carriers.specs.Carriers.{headerOf, lengthWidth, formOf, lifetimeWidth, addressWidth}
 
 -- what a block says; `name` and `addresses` are as carried, so in carriers 4 and 5 the name is text
@@ -23,6 +24,13 @@ pub record Fields : Type 0 where
   pub name : List ℕ
   pub addresses : List ℕ
   pub parameters : List ℕ
+
+-- the fields of a head and of three parts
+abbrev pub headWith : ℕ → ℕ → Bool → Head
+headWith p t full = record { priority = p; lifetime = t; full = full }
+
+abbrev pub fieldsOf : Head → List ℕ → List ℕ → List ℕ → Fields
+fieldsOf h n a q = record { priority = h .priority; lifetime = h .lifetime; full = h .full; name = n; addresses = a; parameters = q }
 
 -- the two forms
 abbrev pub nameOnly : ℕ → ℕ → List ℕ → Fields
@@ -105,13 +113,21 @@ putAfterName c f = cond (f .full) (putCounted (lengthWidth c) (f .addresses) (f 
 abbrev pub gap : ℕ → ℕ
 gap n = (8 - n % 8) % 8
 
--- octets of a carrier 3 option before its padding, type and length counted (01, "10 + name octets, or 14 + name + addresses + parameters")
-abbrev pub optionSize : Fields → ℕ
-optionSize f = cond (f .full) (14 + length (f .name) + length (f .addresses) + length (f .parameters)) (10 + length (f .name))
+-- octets of a carrier 3 body before its padding, with a name of n octets, a of addresses and p of parameters: priority 2, lifetime 4, ADN
+-- length 2 and the name; in the full form also an address length of 2, a parameter length of 2, and both parts (RFC 9463 §6.1)
+abbrev pub unpadded : Bool → ℕ → ℕ → ℕ → ℕ
+unpadded full n a p = cond full (12 + n + a + p) (8 + n)
 
--- the fewest zeros (01, "rounded up to 8")
+-- the zeros after a body of n octets: with its header before it, it is brought to the next multiple of 8 (01, "Padding brings the option to
+-- the next multiple of 8")
+abbrev pub paddingAfter : ℕ → ℕ
+paddingAfter n = gap (headerOf Router + n)
+
+abbrev pub paddingOf : Fields → ℕ
+paddingOf f = paddingAfter (unpadded (f .full) (length (f .name)) (length (f .addresses)) (length (f .parameters)))
+
 abbrev pub padding : Fields → List ℕ
-padding f = zeros (gap (optionSize f))
+padding f = zeros (paddingOf f)
 
 abbrev pub putAfterNamePadded : Fields → List ℕ
 putAfterNamePadded f =
@@ -133,18 +149,20 @@ layoutBy Text c f = putAttribute c f
 unfoldable pub layout : Carrier → Fields → List ℕ
 layout c f = layoutBy (formOf c) c f
 
--- octets of the body that fields are laid out to: L in carrier 1, the option's length in carriers 2, 4 and 5, and in carrier 3 the option's
--- octets without type and length
-abbrev pub sizeBy : Form → Carrier → Fields → ℕ
-sizeBy Wire c f =
-    cond (f .full)
-    (2 + lengthWidth c + lengthWidth c + length (f .name) + length (f .addresses) + length (f .parameters))
-    (2 + lengthWidth c + length (f .name))
-sizeBy Padded c f = optionSize f + gap (optionSize f) - headerOf Router
-sizeBy Text c f = 4 + length (f .addresses) + length (f .name) + length (f .parameters)
+-- octets of a body with a name of n octets, a of addresses and p of parameters: L in carrier 1, the option's length in carriers 2, 4 and 5,
+-- and in carrier 3 what follows type and length
+abbrev pub sizeBy : Form → Carrier → Bool → ℕ → ℕ → ℕ → ℕ
+sizeBy Wire c full n a p = cond full (2 + lengthWidth c + lengthWidth c + n + a + p) (2 + lengthWidth c + n)
+sizeBy Padded c full n a p = unpadded full n a p + paddingAfter (unpadded full n a p)
+sizeBy Text c full n a p = 4 + a + n + p
 
+-- octets of the body that fields are laid out to
 abbrev pub sizeOf : Carrier → Fields → ℕ
-sizeOf c f = sizeBy (formOf c) c f
+sizeOf c f = sizeBy (formOf c) c (f .full) (length (f .name)) (length (f .addresses)) (length (f .parameters))
+
+-- octets of a carrier 3 option
+abbrev pub optionSize : Fields → ℕ
+optionSize f = headerOf Router + sizeOf Router f
 
 -- ---- what can be laid out, and what a carrier can bring
 
@@ -162,7 +180,7 @@ abbrev pub FitsRouter : Fields → Type 0
 FitsRouter f =
     Tail (f .full)
     ((length (f .addresses) < 256 ^ lengthWidth Router) × (length (f .parameters) < 256 ^ lengthWidth Router)
-    × (4 ≤ length (f .addresses) + length (f .parameters) + gap (optionSize f)))
+    × (4 ≤ length (f .addresses) + length (f .parameters) + paddingOf f))
     f
 
 -- carriers 4 and 5: always the full form, with whole addresses whose number has room

@@ -20,7 +20,7 @@ use Rattle.carriers.specs.declared.Form.{Form}
 use Rattle.carriers.specs.declared.Form.the-variants.{Wire, Padded, Text}
 use Rattle.carriers.specs.Carriers.{lengthWidth, formOf, lifetimeIn, lifetimeWidth, addressWidth}
 use Rattle.carriers.specs.CarriersLaws.{padded-router, length-width, address-width}
-use Rattle.blocks.specs.Block.{Fields, Parsed, bad, fields, nameOnly, whole, short, opening, afterName, isPadding, padded, afterNamePadded, attribute, parseBy, parse, putOpening, putAfterName, gap, putAfterNamePadded, putAttribute, layoutBy, layout, FitsNamed, FitsRouter, FitsAttribute, FitsBy, Fits, PossibleBy, Possible}
+use Rattle.blocks.specs.Block.{Fields, Parsed, bad, fields, nameOnly, whole, short, opening, afterName, isPadding, padded, afterNamePadded, attribute, parseBy, parse, putOpening, putAfterName, paddingAfter, putAfterNamePadded, putAttribute, layoutBy, layout, FitsNamed, FitsRouter, FitsAttribute, FitsBy, Fits, PossibleBy, Possible}
 
 -- ---- laid out, then split
 
@@ -48,7 +48,7 @@ afterNamePadded-read : (p t : ℕ) (n : List ℕ) (b : Bool) (a q : List ℕ)
     → let f : Fields = record { priority = p; lifetime = t; full = b; name = n; addresses = a; parameters = q } in
     FitsRouter f → afterNamePadded p t n (putAfterNamePadded f) ≡ fields f
 afterNamePadded-read p t n true a q h =
-    let g : ℕ = gap (14 + length n + length a + length q) in
+    let g : ℕ = paddingAfter (12 + length n + length a + length q) in
     let l : List ℕ = putCounted 2 a (putCounted 2 q (zeros g)) in
     let e : length l ≡ 4 + length a + length q + g = simp (length-append, length-replicate) (omega arith) in
     let k : 8 ≤ length l = omega (arith, h .2) in
@@ -57,7 +57,7 @@ afterNamePadded-read p t n true a q h =
     let hq : length q < 256 ^ 2 = h .1 in
     rw (le-ltb (length l) 8 k) (simp (counted-read, padded-read))
 afterNamePadded-read p t n false a q h =
-    let g : ℕ = gap (10 + length n) in
+    let g : ℕ = paddingAfter (8 + length n) in
     let s : g < 8 = omega arith in
     let k : length (zeros g) < 8 = rw length-replicate s in
     rw (h .0, h .1, lt-ltb (length (zeros g)) 8 k) (padded-read g (nameOnly p t n) s)
@@ -147,14 +147,14 @@ router-says P b h k =
     let Q : List ℕ → Fields → Type 0 = λ l f. let b : List ℕ = be 2 p ++ (be 4 u ++ putCounted 2 n l) in Possible Router b → P b f in
     test-says (Q l) (length l) 8 _ _
     (λ _. padded-says (Q l) l (nameOnly p u n) (λ z few m.
-    let g : length l ≡ gap (10 + length n) = omega (arith, length-append n l) in
+    let g : length l ≡ paddingAfter (8 + length n) = omega (arith, length-append n l) in
     rw (z ∙ ap zeros g) (k (nameOnly p u n) hp hu hn (refl, refl))))
     (λ big. given-says (Q l) (counted short 2 l (λ a l. counted short 2 l (λ q l. padded l (whole p u n a q)))) big
     (counted-says short 2 (λ l. Says (λ f. 8 ≤ length l → Q l f)) l _ h (λ _. tt) (λ a l ha _ h.
     counted-says short 2 (λ l. Says (λ f. 8 ≤ length (putCounted 2 a l) → Q (putCounted 2 a l) f)) l _ h (λ _. tt) (λ q l hq _ h.
     padded-says (λ f. 8 ≤ length (putCounted 2 a (putCounted 2 q l)) → Q (putCounted 2 a (putCounted 2 q l)) f) l (whole p u n a q) (λ z few big m.
     let e : length (putCounted 2 n (putCounted 2 a (putCounted 2 q l))) ≡ 6 + length n + length a + length q + length l = simp length-append (omega arith) in
-    let g : length l ≡ gap (14 + length n + length a + length q) = omega arith in
+    let g : length l ≡ paddingAfter (12 + length n + length a + length q) = omega arith in
     rw (z ∙ ap zeros g) (k (whole p u n a q) hp hu hn (ha, hq, omega (arith, length-append a (putCounted 2 q l), length-append q l)))))))))
 
 attribute-says : (c : Carrier) (P : List ℕ → Fields → Type 0) (b : List ℕ) → lifetimeWidth c ≡ 0 → 0 < addressWidth c → Bytes b

@@ -1,6 +1,6 @@
 -- How many octets a layout has, and which fields fit. Assumes nothing.
 use mathlib.Core.Path.{_≡_, refl, ap}
-use mathlib.Core.Bool.{Bool, true, false, true≢false}
+use mathlib.Core.Bool.{Bool, true, false, cond, true≢false}
 use mathlib.Core.List.{List}
 use Prim.Native.Nat.{ℕ, _+_, _*_, _%_, _^_, _≤_, _<_}
 use native.Mathlib.Omega.{arith}
@@ -11,15 +11,16 @@ use Rattle.carriers.specs.declared.Carrier.{Carrier}
 use Rattle.carriers.specs.declared.Carrier.the-variants.{Dhcp4, Dhcp6, Router, Ike4, Ike6}
 use Rattle.carriers.specs.declared.Form.{Form}
 use Rattle.carriers.specs.declared.Form.the-variants.{Wire, Padded, Text}
-use Rattle.carriers.specs.Carriers.{formOf, lifetimeIn, lifetimeWidth, addressWidth, textIn, asText}
+use Rattle.carriers.specs.Carriers.{headerOf, formOf, lifetimeIn, lifetimeWidth, addressWidth, textIn, asText}
 use Rattle.carriers.specs.CarriersLaws.{length-room, text-width, padded-router}
 use Rattle.blocks.specs.Block.{Fields, nameOnly, gap, optionSize, layoutBy, layout, sizeBy, sizeOf, FitsBy, Fits, PossibleBy, Possible}
 
-size-router : (f : Fields) (b : Bool) → f .full ≡ b → length (layoutBy Padded Router f) ≡ sizeBy Padded Router f
+size-router : (f : Fields) (b : Bool) → f .full ≡ b → length (layoutBy Padded Router f) ≡ sizeOf Router f
 size-router f true e = simp (e, length-append, length-replicate) (omega arith)
 size-router f false e = simp (e, length-append, length-replicate) (omega arith)
 
-size-at : (k : Form) (c : Carrier) (f : Fields) (b : Bool) → formOf c ≡ k → f .full ≡ b → length (layoutBy k c f) ≡ sizeBy k c f
+size-at : (k : Form) (c : Carrier) (f : Fields) (b : Bool) → formOf c ≡ k → f .full ≡ b
+    → length (layoutBy k c f) ≡ sizeBy k c (f .full) (length (f .name)) (length (f .addresses)) (length (f .parameters))
 size-at Wire c f true q e = let t = ap lifetimeIn q in simp (e, length-append, length-be) (omega arith)
 size-at Wire c f false q e = let t = ap lifetimeIn q in simp (e, length-append, length-be) (omega arith)
 size-at Padded c f b q e = rw (padded-router c q) (size-router f b e)
@@ -29,23 +30,29 @@ pub length-layout : (c : Carrier) (f : Fields) → length (layout c f) ≡ sizeO
 unfolding layout
 length-layout c f = size-at (formOf c) c f (f .full) refl refl
 
--- ---- carrier 3: type, length and layout are together the least multiple of 8 that is `optionSize` or more
+-- ---- carrier 3 (01, "10 + name octets, or 14 + name + addresses + parameters, rounded up to 8")
 
-some-size : (f : Fields) (b : Bool) → f .full ≡ b → 2 ≤ optionSize f
-some-size f true e = rw e (omega arith)
-some-size f false e = rw e (omega arith)
+abbrev pub stated : Fields → ℕ
+stated f = cond (f .full) (14 + length (f .name) + length (f .addresses) + length (f .parameters)) (10 + length (f .name))
 
-option-length : (f : Fields) → 2 + length (layout Router f) ≡ optionSize f + gap (optionSize f)
-option-length f = rw (length-layout Router f) (omega (arith, some-size f (f .full) refl))
+-- the option is the least multiple of 8 that is so many octets or more
+pub option-rounded : (f : Fields) → optionSize f ≡ stated f + gap (stated f)
+option-rounded f = go (f .full)
+  where
+    go : (full : Bool) → let n : ℕ = length (f .name) in let a : ℕ = length (f .addresses) in let p : ℕ = length (f .parameters) in
+        let m : ℕ = cond full (14 + n + a + p) (10 + n) in
+        headerOf Router + sizeBy Padded Router full n a p ≡ m + gap m
+    go true = omega arith
+    go false = omega arith
 
-pub option-multiple : (f : Fields) → (2 + length (layout Router f)) % 8 ≡ 0
-option-multiple f = rw (option-length f) (omega arith)
+pub option-multiple : (f : Fields) → optionSize f % 8 ≡ 0
+option-multiple f = rw (option-rounded f) (omega arith)
 
-pub option-enough : (f : Fields) → optionSize f ≤ 2 + length (layout Router f)
-option-enough f = rw (option-length f) (omega arith)
+pub option-enough : (f : Fields) → stated f ≤ optionSize f
+option-enough f = rw (option-rounded f) (omega arith)
 
-pub option-least : (f : Fields) (m : ℕ) → m % 8 ≡ 0 → optionSize f ≤ m → 2 + length (layout Router f) ≤ m
-option-least f m e h = rw (option-length f) (omega arith)
+pub option-least : (f : Fields) (m : ℕ) → m % 8 ≡ 0 → stated f ≤ m → optionSize f ≤ m
+option-least f m e h = rw (option-rounded f) (omega arith)
 
 -- what is laid out is a body that its carrier can bring
 pub layout-possible : (c : Carrier) (f : Fields) → Possible c (layout c f)
@@ -53,7 +60,7 @@ layout-possible c f = go (formOf c) refl
   where
     go : (k : Form) → formOf c ≡ k → PossibleBy k (layout c f)
     go Wire e = tt
-    go Padded e = rw (padded-router c e) (omega (arith, option-multiple f))
+    go Padded e = rw (padded-router c e, length-layout Router f) (omega (arith, option-multiple f))
     go Text e = tt
 
 -- ---- records within the limits (01, "The record sheet") fit their carrier

@@ -12,6 +12,14 @@ ghost use Rattle.blocks.specs.Block.{isPadding, afterName, afterNamePadd
 ghost use Rattle.blocks.specs.Places.{Named, pastName, told, Inside, Ranged};
 use carriers::Carrier;
 
+// What a record says in numbers beside its parts: priority, lifetime (0 but in carrier 3), and whether it has the full form (mode 1) or a
+// name only (mode 0).
+pub struct Head {
+    pub priority: usize,
+    pub lifetime: usize,
+    pub full: bool,
+}
+
 // Where the fields of a body stand, or its fault.
 pub enum Places {
     Bad {

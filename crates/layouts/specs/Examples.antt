@@ -8,9 +8,8 @@ use lib.ListN.{length, length-replicate}
 use Rattle.octets.specs.Numbers.{be, zeros}
 use Rattle.carriers.specs.declared.Carrier.the-variants.{Dhcp6, Router, Ike6}
 use Rattle.texts.specs.Texts.{dotsFrom, textOf}
-use Rattle.blocks.specs.Block.{Fields, layout}
+use Rattle.blocks.specs.Block.{Fields, headWith, fieldsOf, layout}
 use Rattle.layouts.specs.Layouts.{ownOption, joinedOf}
-use Rattle.layouts.specs.Writable.{fieldsOf}
 use Rattle.layouts.specs.LayoutsLaws.{joined-length}
 
 -- doh1.example.com in wire form, and as text
@@ -33,24 +32,24 @@ A = 32 ∷ 1 ∷ 13 ∷ 184 ∷ 1 ∷ 34 ∷ 3 ∷ 0 ∷ 0 ∷ 0 ∷ 0 ∷ 0 ∷
 abbrev option1 : List ℕ
 option1 = 0 ∷ 144 ∷ 0 ∷ 48 ∷ 0 ∷ 1 ∷ 0 ∷ 18 ∷ (N ++ (0 ∷ 16 ∷ (A ++ P)))
 
-k1 : (ownOption Dhcp6 (fieldsOf 1 0 true N A P) ≡ option1) × (length option1 ≡ 52)
+k1 : (ownOption Dhcp6 (fieldsOf (headWith 1 0 true) N A P) ≡ option1) × (length option1 ≡ 52)
 unfolding layout
 k1 = (refl, refl)
 
 abbrev option3 : List ℕ
 option3 = 144 ∷ 4 ∷ 0 ∷ 1 ∷ 0 ∷ 0 ∷ 14 ∷ 16 ∷ 0 ∷ 18 ∷ (N ++ (0 ∷ 0 ∷ 0 ∷ 0 ∷ []))
 
-k3 : (ownOption Router (fieldsOf 1 3600 false N [] []) ≡ option3) × (length option3 ≡ 32)
+k3 : (ownOption Router (fieldsOf (headWith 1 3600 false) N [] []) ≡ option3) × (length option3 ≡ 32)
 unfolding layout
 k3 = (refl, refl)
 
 -- length octet 7, no padding
-k4 : ownOption Router (fieldsOf 1 3600 true N A P) ≡ 144 ∷ 7 ∷ 0 ∷ 1 ∷ 0 ∷ 0 ∷ 14 ∷ 16 ∷ 0 ∷ 18 ∷ (N ++ (0 ∷ 16 ∷ (A ++ (0 ∷ 8 ∷ P))))
+k4 : ownOption Router (fieldsOf (headWith 1 3600 true) N A P) ≡ 144 ∷ 7 ∷ 0 ∷ 1 ∷ 0 ∷ 0 ∷ 14 ∷ 16 ∷ 0 ∷ 18 ∷ (N ++ (0 ∷ 16 ∷ (A ++ (0 ∷ 8 ∷ P))))
 unfolding layout
 k4 = refl
 
 -- length 44, ADN length 16
-k5 : ownOption Ike6 (fieldsOf 1 0 true N A P) ≡ 0 ∷ 28 ∷ 0 ∷ 44 ∷ 0 ∷ 1 ∷ 1 ∷ 16 ∷ (A ++ (T ++ P))
+k5 : ownOption Ike6 (fieldsOf (headWith 1 0 true) N A P) ≡ 0 ∷ 28 ∷ 0 ∷ 44 ∷ 0 ∷ 1 ∷ 1 ∷ 16 ∷ (A ++ (T ++ P))
 unfolding layout textOf dotsFrom
 k5 = refl
 
@@ -58,7 +57,7 @@ k5 = refl
 
 -- address 192.0.2.1, and one parameter with key 65,280 and n zero octets
 abbrev long : ℕ → Fields
-long n = fieldsOf 1 0 true N (192 ∷ 0 ∷ 2 ∷ 1 ∷ []) (be 2 65280 ++ (be 2 n ++ zeros n))
+long n = fieldsOf (headWith 1 0 true) N (192 ∷ 0 ∷ 2 ∷ 1 ∷ []) (be 2 65280 ++ (be 2 n ++ zeros n))
 
 long-length : (n : ℕ) → length (joinedOf (long n ∷ [])) ≡ 32 + n
 long-length n = joined-length (long n ∷ []) ∙ omega (arith, length-replicate {A = ℕ} n 0)

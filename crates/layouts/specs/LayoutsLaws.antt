@@ -2,7 +2,7 @@
 use mathlib.Core.Path.{_≡_, refl, sym, ap, ap₂, _∙_}
 use mathlib.Core.Bool.{Bool, true, false, cond, true≢false}
 use mathlib.Core.List.{List, [], _∷_, _++_, append-assoc, append-nil}
-use Prim.Native.Nat.{ℕ, _+_, _*_, _/_, _%_, _^_, _≤_, _<_}
+use Prim.Native.Nat.{ℕ, _+_, _-_, _*_, _/_, _%_, _^_, _≤_, _<_}
 use native.Mathlib.Omega.{arith}
 use lib.ListN.{length, length-append}
 use Rattle.numbers.specs.Limit as limit
@@ -13,13 +13,13 @@ use Rattle.carriers.specs.declared.Form.the-variants.{Wire, Padded, Text}
 use Rattle.carriers.specs.Carriers.{headerOf, addressWidth, formOf, textIn, asText}
 use Rattle.carriers.specs.CarriersLaws.{headed, by-address, length-width, length-room}
 use Rattle.texts.specs.Convert.{text-length}
-use Rattle.blocks.specs.Block.{Fields, layout, sizeBy, FitsBy, Fits}
+use Rattle.blocks.specs.Block.{Fields, layout, unpadded, sizeBy, FitsBy, Fits}
 use Rattle.blocks.specs.Sizes.{length-layout, layout-possible, fits-full}
 use Rattle.frames.specs.Emit as emit
 use Rattle.frames.specs.EmitLaws.{option-length}
 use Rattle.frames.specs.Walk.{Plain}
 use Rattle.layouts.specs.Layouts.{carriedAs, carriedOf, ownOption, instanceOf, joinedOf}
-use Rattle.layouts.specs.Writable.{Writable, unpaddedOctets, bodyBy, bodyOctets, optionOctets, instanceOctets, joinedOctets, addressesMost, bodyMost}
+use Rattle.layouts.specs.Writable.{Writable, overhead, mostAddresses, mostBody, bodyBy, bodyOctets, optionOctets, instanceOctets, joinedOctets}
 
 pub header-small : (c : Carrier) → headerOf c ≤ 4
 header-small c = omega (arith, headed c .few)
@@ -28,12 +28,13 @@ header-small c = omega (arith, headed c .few)
 
 pub body-length : (c : Carrier) (r : Fields)
     → length (layout c (carriedOf c r)) ≡ bodyOctets c (r .full) (length (r .name)) (length (r .addresses)) (length (r .parameters))
-body-length c r = length-layout c (carriedOf c r) ∙ go (formOf c)
+body-length c r =
+    length-layout c (carriedOf c r)
+    ∙ ap (λ (n : ℕ). sizeBy (formOf c) c (r .full) n (length (r .addresses)) (length (r .parameters))) (carried (asText c))
   where
-    go : (k : Form) → sizeBy k c (carriedAs (textIn k) r) ≡ bodyBy k c (r .full) (length (r .name)) (length (r .addresses)) (length (r .parameters))
-    go Wire = refl
-    go Padded = refl
-    go Text = rw text-length
+    carried : (text : Bool) → length (carriedAs text r .name) ≡ cond text (length (r .name) - 2) (length (r .name))
+    carried true = text-length (r .name)
+    carried false = refl
 
 pub own-length : (c : Carrier) (r : Fields)
     → length (ownOption c r) ≡ optionOctets c (r .full) (length (r .name)) (length (r .addresses)) (length (r .parameters))
@@ -54,16 +55,15 @@ joined-append [] ss = refl
 joined-append (r ∷ rs) ss =
     ap (λ (l : List ℕ). instanceOf r ++ l) (joined-append rs ss) ∙ sym (append-assoc (instanceOf r) (joinedOf rs) (joinedOf ss))
 
--- of carrier 3, before the padding
-pub unpadded-body : (full : Bool) (n a p : ℕ) {r : ℕ} → n + a + p < 65536 → r ≡ cond full (12 + n + a + p) (8 + n) → (2 + r ≡ unpaddedOctets full n a p) × (r < 65548)
-unpadded-body true n a p h e = (omega arith, omega arith)
-unpadded-body false n a p h e = (omega arith, omega arith)
+-- before the padding of carrier 3
+pub unpadded-small : (full : Bool) (n a p : ℕ) → unpadded full n a p ≤ overhead + (n + a + p)
+unpadded-small true n a p = omega arith
+unpadded-small false n a p = omega arith
 
--- a body has at most 19 octets more than name, addresses and parameters together
-pub body-small : (c : Carrier) (full : Bool) (n a p : ℕ) → bodyOctets c full n a p ≤ 19 + (n + a + p)
+pub body-small : (c : Carrier) (full : Bool) (n a p : ℕ) → bodyOctets c full n a p ≤ overhead + (n + a + p)
 body-small c full n a p = go (formOf c) full
   where
-    go : (k : Form) (full : Bool) → bodyBy k c full n a p ≤ 19 + (n + a + p)
+    go : (k : Form) (full : Bool) → bodyBy k c full n a p ≤ overhead + (n + a + p)
     go Wire true = omega (arith, length-width c)
     go Wire false = omega (arith, length-width c)
     go Padded true = omega arith
@@ -75,8 +75,8 @@ body-small c full n a p = go (formOf c) full
 whole-addresses : (c : Carrier) (n : ℕ) → 0 < n → n % addressWidth c ≡ 0 → (0 < n / addressWidth c) × (n ≡ n / addressWidth c * addressWidth c)
 whole-addresses c n h = by-address (λ w. n % w ≡ 0 → (0 < n / w) × (n ≡ n / w * w)) (λ e. (omega arith, omega arith)) (λ e. (omega arith, omega arith)) c
 
-pub few-addresses : (c : Carrier) (n : ℕ) → n / addressWidth c ≤ limit.addresses → n ≤ addressesMost
-few-addresses c n = by-address (λ w. n / w ≤ limit.addresses → n ≤ addressesMost) (λ h. omega arith) (λ h. omega arith) c
+pub few-addresses : (c : Carrier) (n : ℕ) → n % addressWidth c ≡ 0 → n / addressWidth c ≤ limit.addresses → n ≤ mostAddresses
+few-addresses c n = by-address (λ w. n % w ≡ 0 → n / w ≤ limit.addresses → n ≤ mostAddresses) (λ e h. omega arith) (λ e h. omega arith) c
 
 carried-name : (text : Bool) (r : Fields) → length (carriedAs text r .name) ≤ length (r .name)
 carried-name true r = rw text-length (omega arith)
@@ -110,15 +110,15 @@ module _ (c : Carrier) (r : Fields) (h : Writable c r) where
           fits-full (carriedOf c r) (length (r .addresses) / addressWidth c) e (h .priority) n (k .0) (t .few) (t .short) c (h .lifetime) (k .1)
       go false e = fits-named c r h e
 
-  pub writable-small : (length (r .addresses) ≤ addressesMost) × (length (r .parameters) ≤ limit.parameters)
+  pub writable-small : (length (r .addresses) ≤ mostAddresses) × (length (r .parameters) ≤ limit.parameters)
   writable-small = go (r .full) refl
     where
-      go : (full : Bool) → r .full ≡ full → (length (r .addresses) ≤ addressesMost) × (length (r .parameters) ≤ limit.parameters)
-      go true e = let t = h .tail e in (few-addresses c (length (r .addresses)) (t .few), t .short)
+      go : (full : Bool) → r .full ≡ full → (length (r .addresses) ≤ mostAddresses) × (length (r .parameters) ≤ limit.parameters)
+      go true e = let t = h .tail e in (few-addresses c (length (r .addresses)) (t .whole) (t .few), t .short)
       go false e = let k = h .name-only e in rw (k .0, k .1) (omega arith, omega arith)
 
   -- so has its body
-  pub writable-body : length (layout c (carriedOf c r)) ≤ bodyMost
+  pub writable-body : length (layout c (carriedOf c r)) ≤ mostBody
   writable-body = rw (body-length c r) (omega (arith, body-small c (r .full) (length (r .name)) (length (r .addresses)) (length (r .parameters)), writable-small, h .short))
 
 -- in carriers 2 to 5 its option can be framed

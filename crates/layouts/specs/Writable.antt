@@ -9,20 +9,8 @@ use Rattle.numbers.specs.Limit as limit
 use Rattle.carriers.specs.declared.Carrier.{Carrier}
 use Rattle.carriers.specs.declared.Carrier.the-variants.{Dhcp4, Router}
 use Rattle.carriers.specs.declared.Form.{Form}
-use Rattle.carriers.specs.declared.Form.the-variants.{Wire, Padded, Text}
-use Rattle.carriers.specs.Carriers.{headerOf, addressWidth, lengthWidth, formOf, lifetimeWidth, asText}
-use Rattle.blocks.specs.Block.{Fields, gap, optionSize}
-
--- the record of these parts
-abbrev pub fieldsOf : ℕ → ℕ → Bool → List ℕ → List ℕ → List ℕ → Fields
-fieldsOf priority lifetime full name addresses parameters = record {
-  priority = priority;
-  lifetime = lifetime;
-  full = full;
-  name = name;
-  addresses = addresses;
-  parameters = parameters;
-}
+use Rattle.carriers.specs.Carriers.{headerOf, addressWidth, formOf, lifetimeWidth, textIn, asText}
+use Rattle.blocks.specs.Block.{Fields, sizeBy, optionSize}
 
 -- the full form, with addresses of w octets: one address or more, and both within their limits (01, 23 and 24)
 pub record WritableTail (w : ℕ) (r : Fields) : Type 0 where
@@ -39,22 +27,31 @@ pub record Writable (c : Carrier) (r : Fields) : Type 0 where
   pub short : length (r .name) ≤ 255
   pub tail : r .full ≡ true → WritableTail (addressWidth c) r
   pub name-only : r .full ≡ false → (r .addresses ≡ []) × (r .parameters ≡ []) × (asText c ≡ false)
-  pub units : c ≡ Router → optionSize r + gap (optionSize r) ≤ limit.option  -- 44
+  pub units : c ≡ Router → optionSize r ≤ limit.option  -- 44
 
 -- ---- octets by lengths: a name of n octets in wire form, a of addresses, p of parameters
 
--- carrier 3, type and length counted, before the padding (01, "10 + name octets, or 14 + name + addresses + parameters")
-abbrev pub unpaddedOctets : Bool → ℕ → ℕ → ℕ → ℕ
-unpaddedOctets full n a p = cond full (14 + n + a + p) (10 + n)
-
 -- the body; as text the name is 2 octets shorter
 abbrev pub bodyBy : Form → Carrier → Bool → ℕ → ℕ → ℕ → ℕ
-bodyBy Wire c full n a p = cond full (2 + lengthWidth c + lengthWidth c + n + a + p) (2 + lengthWidth c + n)
-bodyBy Padded c full n a p = unpaddedOctets full n a p + gap (unpaddedOctets full n a p) - headerOf Router
-bodyBy Text c full n a p = 4 + a + (n - 2) + p
+bodyBy k c full n a p = sizeBy k c full (cond (textIn k) (n - 2) n) a p
 
 abbrev pub bodyOctets : Carrier → Bool → ℕ → ℕ → ℕ → ℕ
 bodyOctets c full n a p = bodyBy (formOf c) c full n a p
+
+-- octets that a body has at most beside name, addresses and parameters: 12 in carrier 3, and padding of 7
+abbrev pub overhead : ℕ
+overhead = 19
+
+-- octets of addresses, and of a body, at most: 63 addresses of 16; a name of 255 with as many addresses and 1,024 octets of parameters
+abbrev pub mostAddresses : ℕ
+mostAddresses = limit.addresses * 16
+
+abbrev pub mostBody : ℕ
+mostBody = overhead + (255 + mostAddresses + limit.parameters)
+
+-- octets of an option or attribute at most, with a header of 4
+abbrev pub mostOption : ℕ
+mostOption = 4 + mostBody
 
 -- carriers 2 to 5: the option or attribute
 abbrev pub optionOctets : Carrier → Bool → ℕ → ℕ → ℕ → ℕ
@@ -68,17 +65,3 @@ instanceOctets full n a p = 2 + bodyOctets Dhcp4 full n a p
 abbrev pub joinedOctets : List Fields → ℕ
 joinedOctets [] = 0
 joinedOctets (r ∷ rs) = instanceOctets (r .full) (length (r .name)) (length (r .addresses)) (length (r .parameters)) + joinedOctets rs
-
--- ---- the most octets that a record takes, whatever its carrier
-
--- addresses: 63 of 16 octets, and less than one more
-abbrev pub addressesMost : ℕ
-addressesMost = limit.addresses * 16 + 15
-
--- the body: 19 of counted fields and padding, and a name, addresses and parameters
-abbrev pub bodyMost : ℕ
-bodyMost = 19 + (255 + addressesMost + limit.parameters)
-
--- the option or attribute: a header of 4
-abbrev pub optionMost : ℕ
-optionMost = 4 + bodyMost

@@ -17,13 +17,13 @@ use Rattle.carriers.specs.declared.Form.the-variants.{Text}
 use Rattle.carriers.specs.Carriers.{addressWidth, lengthWidth, formOf, lifetimeIn, lifetimeWidth, textIn, asText}
 use Rattle.texts.specs.Texts.{textOf}
 use Rattle.texts.specs.Convert.{text-length}
-use Rattle.blocks.specs.Block.{Fields, putAfterName, gap, optionSize, layoutBy, layout, FitsBy, Fits}
+use Rattle.blocks.specs.Block.{Fields, putAfterName, paddingOf, layoutBy, layout, FitsBy, Fits}
 use Rattle.frames.specs.Emit.{headOf}
 use Rattle.blocks.specs.Places.{Named}
 use Rattle.blocks.specs.Sizes.{length-layout}
 use Rattle.carriers.specs.CarriersLaws.{length-width, text-width, wire-form, text-form}
 use Rattle.layouts.specs.Layouts.{carriedAs, carriedOf, ownOption, instanceOf}
-use Rattle.layouts.specs.Writable.{fieldsOf, Writable, bodyBy, bodyOctets}
+use Rattle.layouts.specs.Writable.{bodyBy, bodyOctets}
 use Rattle.layouts.specs.LayoutsLaws.{body-length}
 
 -- the first of some zeros are zeros
@@ -103,10 +103,10 @@ module _ (r : Fields) where
   pub router-least : 8 + length (r .name) ≤ length (layout Router r)
   router-least = router-sizes (r .full) refl
 
-  router-full : r .full ≡ true → length (layout Router r) ≡ 12 + length (r .name) + length (r .addresses) + length (r .parameters) + gap (optionSize r)
+  router-full : r .full ≡ true → length (layout Router r) ≡ 12 + length (r .name) + length (r .addresses) + length (r .parameters) + paddingOf r
   router-full e = rw (length-layout Router r, e) (omega arith)
 
-  router-name-only : r .full ≡ false → length (layout Router r) ≡ 8 + length (r .name) + gap (optionSize r)
+  router-name-only : r .full ≡ false → length (layout Router r) ≡ 8 + length (r .name) + paddingOf r
   router-name-only e = rw (length-layout Router r, e) (omega arith)
 
   pub router-asks : Fits Router r → r .full ≡ true → (length (r .addresses) < 65536) × (length (r .parameters) < 65536)
@@ -115,11 +115,11 @@ module _ (r : Fields) where
   unfoldable router-layout : Bool → List ℕ → List ℕ
   router-layout b l = be 2 (r .priority) ++ (be 4 (r .lifetime) ++ putCounted 2 (r .name) (cond b (putCounted 2 (r .addresses) (putCounted 2 (r .parameters) l)) l))
 
-  router-laid : (b : Bool) → r .full ≡ b → layout Router r ≡ router-layout b (zeros (gap (optionSize r)))
+  router-laid : (b : Bool) → r .full ≡ b → layout Router r ≡ router-layout b (zeros (paddingOf r))
   unfolding layout router-layout
   router-laid b e = rw e
 
-  module _ (g : ℕ) (is : g ≡ gap (optionSize r)) {at i j k : ℕ} {l l₁ l₂ l₃ : List ℕ} (x : Wrote at (be 2 (r .priority)) l i l₁)
+  module _ (g : ℕ) (is : g ≡ paddingOf r) {at i j k : ℕ} {l l₁ l₂ l₃ : List ℕ} (x : Wrote at (be 2 (r .priority)) l i l₁)
       (y : Wrote i (be 4 (r .lifetime)) l₁ j l₂) (z : Wrote j (be 2 (length (r .name)) ++ r .name) l₂ k l₃) where
     pub wrote-router-full : {m n o : ℕ} {l₄ l₅ l₆ : List ℕ} → r .full ≡ true → Wrote k (be 2 (length (r .addresses)) ++ r .addresses) l₃ m l₄
         → Wrote m (be 2 (length (r .parameters)) ++ r .parameters) l₄ n l₅ → Wrote n (zeros g) l₅ o l₆ → Wrote at (layout Router r) l o l₆
@@ -193,24 +193,11 @@ module _ (r : Fields) where
         → Wrote at (layout c (carriedOf c r)) l o l₆
     wrote-attribute v w = rw (attribute-layout c text, ← is) (then x (then y (then z (then u (then v w)))))
 
--- ---- the record of the parts that a carrier has
+-- ---- the fields as a carrier has them
 
-text-no-lifetime : (c : Carrier) → asText c ≡ true → lifetimeWidth c ≡ 0
-text-no-lifetime c e = ap lifetimeIn (text-form (formOf c) e)
-
-module _ (c : Carrier) (p t : ℕ) (full : Bool) (n a q : List ℕ) (h : Writable c (fieldsOf p t full n a q)) where
-  no-lifetime : lifetimeWidth c ≡ 0 → t ≡ 0
-  no-lifetime e = let k : t < 256 ^ 0 = rw e at (h .lifetime) in omega arith
-
-  pub carried-named : Named c → carriedOf c (fieldsOf p t full n a q) ≡ fieldsOf p 0 full n a q
-  carried-named k = rw (k .1, no-lifetime (k .0))
-
-  pub carried-attribute : asText c ≡ true → carriedOf c (fieldsOf p t full n a q) ≡ carriedOf c (fieldsOf p 0 true n a q)
-  carried-attribute e = rw (no-lifetime (text-no-lifetime c e), always-full full refl)
-    where
-      always-full : (b : Bool) → full ≡ b → full ≡ true
-      always-full true f = f
-      always-full false f = absurd (true≢false (sym e ∙ h .name-only f .2))
+-- in carriers 1 and 2 they are as they came
+pub carried-named : (c : Carrier) (r : Fields) → Named c → carriedOf c r ≡ r
+carried-named c r k = rw (k .1)
 
 module _ (c : Carrier) (r : Fields) (e : c ≡ Router) where
   pub router-fits : Fits c (carriedOf c r) → Fits Router r

@@ -10,11 +10,12 @@ ghost use Rattle.octets.specs.Numbers.{be, zeros};
 ghost use Rattle.octets.specs.Over.{Wrote};
 ghost use Rattle.carriers.specs.declared.Carrier.the-variants.{Dhcp4, Router};
 ghost use Rattle.carriers.specs.Carriers.{headerOf, asText};
-ghost use Rattle.blocks.specs.Block.{gap, layout, Fits};
+ghost use Rattle.blocks.specs.Block.{fieldsOf, unpadded, paddingAfter, layout, Fits};
 ghost use Rattle.blocks.specs.Places.{Named};
 ghost use Rattle.frames.specs.Walk.{Plain};
 ghost use Rattle.layouts.specs.Layouts.{carriedOf, ownOption, instanceOf};
-ghost use Rattle.layouts.specs.Writable.{fieldsOf, Writable, unpaddedOctets, bodyOctets, optionOctets, instanceOctets};
+ghost use Rattle.layouts.specs.Writable.{Writable, overhead, bodyOctets, optionOctets, instanceOctets};
+use blocks::Head;
 use carriers::Carrier;
 use carriers::Form;
 
@@ -27,35 +28,28 @@ fn by_form(full: bool, whole: usize, bare: usize) -> usize
     if full { whole } else { bare }
 }
 
-// How many zeros bring n octets to the next multiple of 8.
-fn gap_after(n: usize) -> usize
-    ensures { λ r. ⌜ r ≡ gap n ⌝ }
-    ensures { λ r. ⌜ r < 8 ⌝ }
-{
-    (8 - n % 8) % 8
-}
-
 // Octets of a carrier 3 body before its padding.
 fn unpadded_size(full: bool, nlen: usize, alen: usize, plen: usize) -> usize
     requires { ⌜ nlen + alen + plen < 65536 ⌝ }
-    ensures { λ r. ⌜ (headerOf Router + r ≡ unpaddedOctets full nlen alen plen) × (r < 65548) ⌝ }
+    ensures { λ r. ⌜ r ≡ unpadded full nlen alen plen ⌝ }
+    ensures { λ r. ⌜ r ≤ overhead + (nlen + alen + plen) ⌝ }
 {
     by_form(full, 12 + nlen + alen + plen, 8 + nlen)
 }
 
-// The zeros of a carrier 3 body of so many octets before them.
+// The zeros after a carrier 3 body of `size` octets.
 fn padding_size(size: usize) -> usize
-    requires { ⌜ size < 65548 ⌝ }
-    ensures { λ r. ⌜ (r ≡ gap (headerOf Router + size)) × (r < 8) ⌝ }
+    requires { ⌜ size < overhead + 65536 ⌝ }
+    ensures { λ r. ⌜ (r ≡ paddingAfter size) × (r < 8) ⌝ }
 {
-    gap_after(Carrier::Router.header_size() + size)
+    let n = Carrier::Router.header_size() + size;
+    (8 - n % 8) % 8
 }
 
 // Octets of a carrier 3 body, its padding counted.
 fn padded_size(full: bool, nlen: usize, alen: usize, plen: usize) -> usize
     requires { ⌜ nlen + alen + plen < 65536 ⌝ }
     ensures { λ r. ⌜ r ≡ bodyOctets Router full nlen alen plen ⌝ }
-    ensures { λ r. ⌜ r < 65558 ⌝ }
 {
     let size = unpadded_size(full, nlen, alen, plen);
     size + padding_size(size)
@@ -65,7 +59,7 @@ fn padded_size(full: bool, nlen: usize, alen: usize, plen: usize) -> usize
 fn body_size(c: Carrier, full: bool, nlen: usize, alen: usize, plen: usize) -> usize
     requires { ⌜ (2 ≤ nlen) × (nlen + alen + plen < 65536) ⌝ }
     ensures { λ r. ⌜ r ≡ bodyOctets c full nlen alen plen ⌝ }
-    ensures { λ r. ⌜ r < 65558 ⌝ }
+    ensures { λ r. ⌜ r ≤ overhead + (nlen + alen + plen) ⌝ }
 {
     match c.form() {
         Form::Wire => {
@@ -85,7 +79,7 @@ fn body_size(c: Carrier, full: bool, nlen: usize, alen: usize, plen: usize) -> u
 pub fn option_size(c: Carrier, full: bool, nlen: usize, alen: usize, plen: usize) -> usize
     requires { ⌜ (2 ≤ nlen) × (nlen + alen + plen < 65536) ⌝ }
     ensures { λ r. ⌜ r ≡ optionOctets c full nlen alen plen ⌝ }
-    ensures { λ r. ⌜ r < 65562 ⌝ }
+    ensures { λ r. ⌜ r ≤ headerOf c + (overhead + (nlen + alen + plen)) ⌝ }
 {
     c.header_size() + body_size(c, full, nlen, alen, plen)
 }
@@ -94,7 +88,7 @@ pub fn option_size(c: Carrier, full: bool, nlen: usize, alen: usize, plen: usize
 pub fn instance_size(full: bool, nlen: usize, alen: usize, plen: usize) -> usize
     requires { ⌜ (2 ≤ nlen) × (nlen + alen + plen < 65536) ⌝ }
     ensures { λ r. ⌜ r ≡ instanceOctets full nlen alen plen ⌝ }
-    ensures { λ r. ⌜ r < 65562 ⌝ }
+    ensures { λ r. ⌜ r ≤ 2 + (overhead + (nlen + alen + plen)) ⌝ }
 {
     2 + body_size(Carrier::Dhcp4, full, nlen, alen, plen)
 }
@@ -127,22 +121,21 @@ fn put_named(
     out: &mut [u8],
     at: usize,
     c: Carrier,
-    priority: usize,
-    full: bool,
+    head: Head,
     name: &[u8],
     addresses: &[u8],
     parameters: &[u8],
 ) -> usize
     requires { ⌜ Named c ⌝ }
-    requires { ⌜ Fits c (fieldsOf priority 0 full (now name) (now addresses) (now parameters)) ⌝ }
-    requires { ⌜ at + length (layout c (fieldsOf priority 0 full (now name) (now addresses) (now parameters))) ≤ length (now out) ⌝ }
-    ensures { λ r. ⌜ Wrote at (layout c (fieldsOf priority 0 full (now (name .entry)) (now (addresses .entry)) (now (parameters .entry))))
+    requires { ⌜ Fits c (fieldsOf head (now name) (now addresses) (now parameters)) ⌝ }
+    requires { ⌜ at + length (layout c (fieldsOf head (now name) (now addresses) (now parameters))) ≤ length (now out) ⌝ }
+    ensures { λ r. ⌜ Wrote at (layout c (fieldsOf head (now (name .entry)) (now (addresses .entry)) (now (parameters .entry))))
         (now (out .entry)) r (now (out .exit)) ⌝ }
 {
     let width = c.length_width();
-    let at_name = octets::put16(out, at, priority);
+    let at_name = octets::put16(out, at, head.priority);
     let end = put_counted(out, at_name, width, name);
-    if full {
+    if head.full {
         let at_parameters = put_counted(out, end, width, addresses);
         return octets::copy(out, at_parameters, parameters);
     }
@@ -153,24 +146,27 @@ fn put_named(
 fn put_router(
     out: &mut [u8],
     at: usize,
-    priority: usize,
-    lifetime: usize,
-    full: bool,
+    head: Head,
     name: &[u8],
     addresses: &[u8],
     parameters: &[u8],
 ) -> usize
-    requires { ⌜ Fits Router (fieldsOf priority lifetime full (now name) (now addresses) (now parameters)) ⌝ }
+    requires { ⌜ Fits Router (fieldsOf head (now name) (now addresses) (now parameters)) ⌝ }
     requires { ⌜ length (now name) + length (now addresses) + length (now parameters) < 65536 ⌝ }
-    requires { ⌜ at + length (layout Router (fieldsOf priority lifetime full (now name) (now addresses) (now parameters))) ≤ length (now out) ⌝ }
-    ensures { λ r. ⌜ Wrote at (layout Router (fieldsOf priority lifetime full (now (name .entry)) (now (addresses .entry)) (now (parameters .entry))))
+    requires { ⌜ at + length (layout Router (fieldsOf head (now name) (now addresses) (now parameters))) ≤ length (now out) ⌝ }
+    ensures { λ r. ⌜ Wrote at (layout Router (fieldsOf head (now (name .entry)) (now (addresses .entry)) (now (parameters .entry))))
         (now (out .entry)) r (now (out .exit)) ⌝ }
 {
-    let zeros = padding_size(unpadded_size(full, name.len(), addresses.len(), parameters.len()));
-    let at_lifetime = octets::put16(out, at, priority);
-    let at_name = octets::put32(out, at_lifetime, lifetime);
+    let zeros = padding_size(unpadded_size(
+        head.full,
+        name.len(),
+        addresses.len(),
+        parameters.len(),
+    ));
+    let at_lifetime = octets::put16(out, at, head.priority);
+    let at_name = octets::put32(out, at_lifetime, head.lifetime);
     let end = put_counted(out, at_name, 2, name);
-    if full {
+    if head.full {
         let at_parameters = put_counted(out, end, 2, addresses);
         let at_padding = put_counted(out, at_parameters, 2, parameters);
         return put_zeros(out, at_padding, zeros);
@@ -183,20 +179,20 @@ fn put_attribute(
     out: &mut [u8],
     at: usize,
     c: Carrier,
-    priority: usize,
+    head: Head,
     name: &[u8],
     addresses: &[u8],
     parameters: &[u8],
 ) -> usize
     requires { ⌜ asText c ≡ true ⌝ }
     requires { ⌜ 2 ≤ length (now name) ⌝ }
-    requires { ⌜ Fits c (carriedOf c (fieldsOf priority 0 true (now name) (now addresses) (now parameters))) ⌝ }
-    requires { ⌜ at + length (layout c (carriedOf c (fieldsOf priority 0 true (now name) (now addresses) (now parameters)))) ≤ length (now out) ⌝ }
-    ensures { λ r. ⌜ Wrote at (layout c (carriedOf c (fieldsOf priority 0 true (now (name .entry)) (now (addresses .entry)) (now (parameters .entry)))))
+    requires { ⌜ Fits c (carriedOf c (fieldsOf head (now name) (now addresses) (now parameters))) ⌝ }
+    requires { ⌜ at + length (layout c (carriedOf c (fieldsOf head (now name) (now addresses) (now parameters)))) ≤ length (now out) ⌝ }
+    ensures { λ r. ⌜ Wrote at (layout c (carriedOf c (fieldsOf head (now (name .entry)) (now (addresses .entry)) (now (parameters .entry)))))
         (now (out .entry)) r (now (out .exit)) ⌝ }
 {
     let count = addresses.len() / c.address_width();
-    let at_count = octets::put16(out, at, priority);
+    let at_count = octets::put16(out, at, head.priority);
     let at_nlen = octets::put8(out, at_count, count as u8);
     let at_addresses = octets::put8(out, at_nlen, (name.len() - 2) as u8);
     let at_name = octets::copy(out, at_addresses, addresses);
@@ -209,31 +205,20 @@ fn put_body(
     out: &mut [u8],
     at: usize,
     c: Carrier,
-    priority: usize,
-    lifetime: usize,
-    full: bool,
+    head: Head,
     name: &[u8],
     addresses: &[u8],
     parameters: &[u8],
 ) -> usize
-    requires { ⌜ Writable c (fieldsOf priority lifetime full (now name) (now addresses) (now parameters)) ⌝ }
-    requires { ⌜ at + length (layout c (carriedOf c (fieldsOf priority lifetime full (now name) (now addresses) (now parameters)))) ≤ length (now out) ⌝ }
-    ensures { λ r. ⌜ Wrote at (layout c (carriedOf c (fieldsOf priority lifetime full (now (name .entry)) (now (addresses .entry)) (now (parameters .entry)))))
+    requires { ⌜ Writable c (fieldsOf head (now name) (now addresses) (now parameters)) ⌝ }
+    requires { ⌜ at + length (layout c (carriedOf c (fieldsOf head (now name) (now addresses) (now parameters)))) ≤ length (now out) ⌝ }
+    ensures { λ r. ⌜ Wrote at (layout c (carriedOf c (fieldsOf head (now (name .entry)) (now (addresses .entry)) (now (parameters .entry)))))
         (now (out .entry)) r (now (out .exit)) ⌝ }
 {
     match c.form() {
-        Form::Wire => put_named(out, at, c, priority, full, name, addresses, parameters),
-        Form::Padded => put_router(
-            out,
-            at,
-            priority,
-            lifetime,
-            full,
-            name,
-            addresses,
-            parameters,
-        ),
-        Form::Text => put_attribute(out, at, c, priority, name, addresses, parameters),
+        Form::Wire => put_named(out, at, c, head, name, addresses, parameters),
+        Form::Padded => put_router(out, at, head, name, addresses, parameters),
+        Form::Text => put_attribute(out, at, c, head, name, addresses, parameters),
     }
 }
 
@@ -244,51 +229,38 @@ pub fn put_option(
     out: &mut [u8],
     at: usize,
     c: Carrier,
-    priority: usize,
-    lifetime: usize,
-    full: bool,
+    head: Head,
     name: &[u8],
     addresses: &[u8],
     parameters: &[u8],
 ) -> usize
     requires { ⌜ Plain c ⌝ }
-    requires { ⌜ Writable c (fieldsOf priority lifetime full (now name) (now addresses) (now parameters)) ⌝ }
-    requires { ⌜ at + length (ownOption c (fieldsOf priority lifetime full (now name) (now addresses) (now parameters))) ≤ length (now out) ⌝ }
-    ensures { λ r. ⌜ Wrote at (ownOption c (fieldsOf priority lifetime full (now (name .entry)) (now (addresses .entry)) (now (parameters .entry))))
+    requires { ⌜ Writable c (fieldsOf head (now name) (now addresses) (now parameters)) ⌝ }
+    requires { ⌜ at + length (ownOption c (fieldsOf head (now name) (now addresses) (now parameters))) ≤ length (now out) ⌝ }
+    ensures { λ r. ⌜ Wrote at (ownOption c (fieldsOf head (now (name .entry)) (now (addresses .entry)) (now (parameters .entry))))
         (now (out .entry)) r (now (out .exit)) ⌝ }
 {
-    let size = body_size(c, full, name.len(), addresses.len(), parameters.len());
+    let size = body_size(c, head.full, name.len(), addresses.len(), parameters.len());
     let from = frames::put_header(out, at, c, size);
-    put_body(
-        out,
-        from,
-        c,
-        priority,
-        lifetime,
-        full,
-        name,
-        addresses,
-        parameters,
-    )
+    put_body(out, from, c, head, name, addresses, parameters)
 }
 
 // Writes a record's instance after its 16-bit length, in carrier 1.
 pub fn put_instance(
     out: &mut [u8],
     at: usize,
-    priority: usize,
-    full: bool,
+    head: Head,
     name: &[u8],
     addresses: &[u8],
     parameters: &[u8],
 ) -> usize
-    requires { ⌜ Writable Dhcp4 (fieldsOf priority 0 full (now name) (now addresses) (now parameters)) ⌝ }
-    requires { ⌜ at + length (instanceOf (fieldsOf priority 0 full (now name) (now addresses) (now parameters))) ≤ length (now out) ⌝ }
-    ensures { λ r. ⌜ Wrote at (instanceOf (fieldsOf priority 0 full (now (name .entry)) (now (addresses .entry)) (now (parameters .entry))))
+    requires { ⌜ Writable Dhcp4 (fieldsOf head (now name) (now addresses) (now parameters)) ⌝ }
+    requires { ⌜ at + length (instanceOf (fieldsOf head (now name) (now addresses) (now parameters))) ≤ length (now out) ⌝ }
+    ensures { λ r. ⌜ Wrote at (instanceOf (fieldsOf head (now (name .entry)) (now (addresses .entry)) (now (parameters .entry))))
         (now (out .entry)) r (now (out .exit)) ⌝ }
 {
     let c = Carrier::Dhcp4;
-    let size = body_size(c, full, name.len(), addresses.len(), parameters.len());
+    let size = body_size(c, head.full, name.len(), addresses.len(), parameters.len());
     let from = octets::put16(out, at, size);
-    put_body(out, from, c, priority, 0, full, name, addresses, parameters)
+    put_body(out, from, c, head, name, addresses, parameters)
 }

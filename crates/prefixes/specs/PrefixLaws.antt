@@ -18,7 +18,7 @@ use Rattle.carriers.specs.CarriersLaws.{by-joined}
 use Rattle.names.specs.Names.{IsName}
 use Rattle.texts.specs.Texts.{wireOf, textOf}
 use Rattle.texts.specs.Convert.{wire-text}
-use Rattle.blocks.specs.Block.{Fields, layout}
+use Rattle.blocks.specs.Block.{Fields, headWith, fieldsOf, layout}
 use Rattle.blocks.specs.Exactly.{layout-injective}
 use Rattle.frames.specs.Walk.{Plain}
 use Rattle.frames.specs.WalkLaws.{apart-false, false-apart}
@@ -26,7 +26,6 @@ use Rattle.frames.specs.HeadLaws.{header-pos}
 use Rattle.frames.specs.EmitLaws.{option-length}
 use Rattle.judge.specs.JudgeLaws.{written-name}
 use Rattle.layouts.specs.Layouts.{carriedOf, ownOption, instanceOf}
-use Rattle.layouts.specs.Writable.{fieldsOf}
 use Rattle.layouts.specs.LayoutsLaws.{writable-fits, writable-body, writable-emits}
 use Rattle.vetting.specs.Vetting.{streamOf}
 use Rattle.written.specs.Writing.{octetsOf}
@@ -45,7 +44,7 @@ name-injective false m n a b e = e
 -- so is a record by its fields as the carrier has them
 carried-injective : (c : Carrier) (r q : Fields) → IsName (r .name) → IsName (q .name) → carriedOf c r ≡ carriedOf c q → r ≡ q
 carried-injective c r q m n e =
-    ap₂ (λ (f : Fields) (n : List ℕ). fieldsOf (f .priority) (f .lifetime) (f .full) n (f .addresses) (f .parameters)) e
+    ap₂ (λ (f : Fields) (n : List ℕ). fieldsOf (headWith (f .priority) (f .lifetime) (f .full)) n (f .addresses) (f .parameters)) e
     (name-injective (asText c) (r .name) (q .name) m n (ap (λ (f : Fields). f .name) e))
 
 -- and an accepted record by its body

@@ -10,7 +10,7 @@ use Rattle.octets.specs.Lists.{flat}
 use Rattle.numbers.specs.Limit as limit
 use Rattle.carriers.specs.declared.Carrier.{Carrier}
 use Rattle.carriers.specs.Carriers.{inEights, isJoined}
-use Rattle.blocks.specs.Block.{Fields, optionSize, gap}
+use Rattle.blocks.specs.Block.{Fields, optionSize}
 use Rattle.judge.specs.declared.Side.the-variants.{Writing}
 use Rattle.judge.specs.Judge.{faultOf}
 use Rattle.layouts.specs.Layouts.{ownOption, joinedOf}
@@ -51,7 +51,7 @@ streamOf c rs = cond (isJoined c) (joinedOf rs) (flat (map (ownOption c) rs))
 
 -- 44: a carrier 3 record above 2,040 octets when rounded
 abbrev pub large : Carrier → Fields → Bool
-large c r = cond (inEights c) (ltb limit.option (optionSize r + gap (optionSize r))) false
+large c r = cond (inEights c) (ltb limit.option (optionSize r)) false
 
 unfoldable pub anyLarge : Carrier → List Fields → Bool
 anyLarge c [] = false

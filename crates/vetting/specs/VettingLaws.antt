@@ -19,7 +19,7 @@ use Rattle.judge.specs.Judge.{faultOf}
 use Rattle.judge.specs.Passed.{Passed}
 use Rattle.judge.specs.JudgeLaws.{fault-passed, passed-fault}
 use Rattle.judge.specs.Numbered.{FaultNumber, fault-number}
-use Rattle.layouts.specs.Writable.{optionMost}
+use Rattle.layouts.specs.Writable.{mostOption}
 use Rattle.taking.specs.declared.Took.the-variants as took
 use Rattle.taking.specs.Taking.{Taken, takeOf}
 use Rattle.taking.specs.Taking as taking
@@ -161,7 +161,7 @@ told-sheet s {c} {n} {l} {z} = go (vetOf s) refl
     go (sheet d rs) i e = record { records = rs; vetted = cc; counts = cc; larges = cc; sizes = cc }
 
 -- the octets of at most 16 records
-pub vetted-small : (s : List ℕ) {c : Carrier} {rs : List Fields} → Bytes s → vetOf s ≡ sheet c rs → length (streamOf c rs) ≤ optionMost * limit.records
+pub vetted-small : (s : List ℕ) {c : Carrier} {rs : List Fields} → Bytes s → vetOf s ≡ sheet c rs → length (streamOf c rs) ≤ mostOption * limit.records
 vetted-small s {c} {rs} octets e =
     let t = vetted-taken s e in
     let i : IsSheet s c rs = taken-sheet s c rs octets (t .0) in

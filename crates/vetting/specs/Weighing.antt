@@ -10,12 +10,12 @@ use Rattle.octets.specs.Lists.{All}
 use Rattle.numbers.specs.Limit as limit
 use Rattle.carriers.specs.declared.Carrier.{Carrier}
 use Rattle.carriers.specs.Carriers.{inEights, isJoined}
-use Rattle.blocks.specs.Block.{Fields}
+use Rattle.blocks.specs.Block.{Fields, headWith, fieldsOf}
 use Rattle.judge.specs.declared.Side.the-variants.{Writing}
 use Rattle.judge.specs.declared.Judged.{Judged}
 use Rattle.judge.specs.Judge.{judgedOf, faultOf}
 use Rattle.layouts.specs.Layouts.{ownOption, instanceOf}
-use Rattle.layouts.specs.Writable.{fieldsOf, optionOctets, instanceOctets, addressesMost, optionMost}
+use Rattle.layouts.specs.Writable.{optionOctets, instanceOctets, mostAddresses, mostOption}
 use Rattle.taking.specs.declared.Spot.{Spot}
 use Rattle.taking.specs.Taking.{Taken, refuse, sheet, takeOf}
 use Rattle.taking.specs.Sheet.{FitsRecord}
@@ -42,7 +42,7 @@ TakenAs c s = takeOf s ≡ sheet c (recordsOf s)
 -- the fields that stand at a spot, each from where it begins to where it ends, with a lifetime that may be another
 abbrev pub cutAt : ℕ → List ℕ → Spot → Fields
 cutAt lifetime s p =
-    fieldsOf (p .priority) lifetime (p .full)
+    fieldsOf (headWith (p .priority) lifetime (p .full))
     (take (p .name + p .nlen - p .name) (drop (p .name) s))
     (take (p .addresses + p .alen - p .addresses) (drop (p .addresses) s))
     (take (p .parameters + p .plen - p .parameters) (drop (p .parameters) s))
@@ -70,7 +70,7 @@ largeBy c n = cond (inEights c) (ltb limit.option n) false
 pub record Light (n a p : ℕ) : Type 0 where
   pub some : 2 ≤ n
   pub name : n ≤ 255
-  pub addresses : a ≤ addressesMost
+  pub addresses : a ≤ mostAddresses
   pub parameters : p ≤ limit.parameters
 
 -- ---- what the pass finds
@@ -80,7 +80,7 @@ pub record WeighsOne (c : Carrier) (r : Fields) (w : Weighed) : Type 0 where
   pub first : w .fault ≡ faultOf Writing c r
   pub large-is : w .fault ≡ 0 → w .large ≡ large c r
   pub size-is : w .fault ≡ 0 → w .size ≡ length (shareOf c r)
-  pub small : w .size ≤ optionMost
+  pub small : w .size ≤ mostOption
 
 -- of all records
 pub record Weighs (c : Carrier) (rs : List Fields) (w : Weighed) : Type 0 where
@@ -96,4 +96,4 @@ pub record Weighing (c : Carrier) (s : List ℕ) (rs : List Fields) (at : ℕ) (
   pub faults : firstFault c rs ≡ firstFault c rest
   pub larges : anyLarge c rs ≡ (large || anyLarge c rest)
   pub sizes : length (streamOf c rs) ≡ size + length (streamOf c rest)
-  pub small : size + optionMost * length rest ≤ optionMost * limit.records
+  pub small : size + mostOption * length rest ≤ mostOption * limit.records

@@ -17,13 +17,13 @@ use Rattle.carriers.specs.declared.Facts.{Facts}
 use Rattle.carriers.specs.Carriers.{factsOf, addressWidth, inEights, isJoined}
 use Rattle.carriers.specs.CarriersLaws.{eights-router}
 use Rattle.names.specs.Right.{three}
-use Rattle.blocks.specs.Block.{Fields, gap, optionSize}
+use Rattle.blocks.specs.Block.{Fields, optionSize}
 use Rattle.judge.specs.declared.Side.the-variants.{Writing}
 use Rattle.judge.specs.declared.Judged.{Judged}
 use Rattle.judge.specs.Judge.{faultOf}
 use Rattle.judge.specs.Passed.{Passed}
 use Rattle.judge.specs.JudgeLaws.{fault-passed, written-name}
-use Rattle.layouts.specs.Writable.{unpaddedOctets, optionOctets, instanceOctets, optionMost}
+use Rattle.layouts.specs.Writable.{optionOctets, instanceOctets, mostOption}
 use Rattle.layouts.specs.Layouts.{ownOption, instanceOf, joinedOf}
 use Rattle.layouts.specs.LayoutsLaws.{header-small, own-length, instance-length, body-small, few-addresses}
 use Rattle.records.specs.Records.{headSize}
@@ -70,14 +70,8 @@ stream-length c r rs = ap length (stream-one c r rs) ∙ length-append (shareOf 
 large-by : (c : Carrier) (r : Fields) → largeBy c (weightOf c r) ≡ large c r
 large-by c r = go (inEights c) refl
   where
-    weight : (full : Bool) (n a p : ℕ) → shareOctets Router full n a p ≡ unpaddedOctets full n a p + gap (unpaddedOctets full n a p)
-    weight true n a p = omega arith
-    weight false n a p = omega arith
-
-    go : (b : Bool) → inEights c ≡ b → cond b (ltb limit.option (weightOf c r)) false ≡ cond b (ltb limit.option (optionSize r + gap (optionSize r))) false
-    go true e =
-        ap (λ (d : Carrier). ltb limit.option (weightOf d r)) (eights-router c e)
-        ∙ ap (ltb limit.option) (weight (r .full) (length (r .name)) (length (r .addresses)) (length (r .parameters)))
+    go : (b : Bool) → inEights c ≡ b → cond b (ltb limit.option (weightOf c r)) false ≡ cond b (ltb limit.option (optionSize r)) false
+    go true e = ap (λ (d : Carrier). ltb limit.option (weightOf d r)) (eights-router c e)
     go false e = refl
 
 -- the two ways out of the code, by the carrier's row of the table
@@ -116,17 +110,17 @@ passed-light c r f e =
         → Passed Writing c r → Light (length (r .name)) (length (r .addresses)) (length (r .parameters))
     go h k true u t p =
         let q = p .tail u in
-        record { some = h; name = k; addresses = few-addresses c (length (r .addresses)) (q .few); parameters = q .short }
+        record { some = h; name = k; addresses = few-addresses c (length (r .addresses)) (q .whole) (q .few); parameters = q .short }
     go h k false u t p = record { some = h; name = k; addresses = rw (t .0) (omega arith); parameters = rw (t .1) (omega arith) }
 
 -- so are records that have a place in a sheet and no fault, one after another
-pub stream-small : (c : Carrier) (rs : List Fields) → All (FitsRecord c) rs → firstFault c rs ≡ 0 → length (streamOf c rs) ≤ optionMost * length rs
+pub stream-small : (c : Carrier) (rs : List Fields) → All (FitsRecord c) rs → firstFault c rs ≡ 0 → length (streamOf c rs) ≤ mostOption * length rs
 unfolding firstFault
 stream-small c [] f e = omega (arith, ap length (stream-none c))
 stream-small c (r ∷ rs) f e = go (eqb (faultOf Writing c r) 0) refl (stream-small c rs (f .1)) e
   where
-    go : (none : Bool) → eqb (faultOf Writing c r) 0 ≡ none → (firstFault c rs ≡ 0 → length (streamOf c rs) ≤ optionMost * length rs)
-        → cond none (firstFault c rs) (faultOf Writing c r) ≡ 0 → length (streamOf c (r ∷ rs)) ≤ optionMost * suc (length rs)
+    go : (none : Bool) → eqb (faultOf Writing c r) 0 ≡ none → (firstFault c rs ≡ 0 → length (streamOf c rs) ≤ mostOption * length rs)
+        → cond none (firstFault c rs) (faultOf Writing c r) ≡ 0 → length (streamOf c (r ∷ rs)) ≤ mostOption * suc (length rs)
     go true t ih e =
         let l = passed-light c r (f .0) (eqb-true _ _ t) in
         let k = share-small c (r .full) (length (r .name)) (length (r .addresses)) (length (r .parameters)) in

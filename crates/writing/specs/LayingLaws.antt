@@ -70,21 +70,15 @@ total-octets c rs = go (isJoined c) (streamOf c rs)
 -- ---- one record: what its writer asks, and what it lays
 
 module _ (c : Carrier) (s : List ℕ) (p : Spot) (w : Writable c (fieldsAt s p)) where
-  -- carrier 1, which has no lifetime
+  -- carrier 1
   module _ (e : c ≡ Dhcp4) where
-    instance-cut : cutAt 0 s p ≡ fieldsAt s p
-    instance-cut =
-        let h : p .lifetime < 1 = (rw e at w) .lifetime in
-        let z : 0 ≡ p .lifetime = omega arith in
-        ap (λ (t : ℕ). cutAt t s p) z ∙ fields-cut s p
-
     pub instance-asked : (at : ℕ) {n : ℕ} → at + length (shareOf c (fieldsAt s p)) ≤ n
-        → Writable Dhcp4 (cutAt 0 s p) × (at + length (instanceOf (cutAt 0 s p)) ≤ n)
-    instance-asked at h = (subst⁻¹ (Writable Dhcp4) instance-cut (rw e at w), rw instance-cut (rw e at h))
+        → Writable Dhcp4 (cutAt (p .lifetime) s p) × (at + length (instanceOf (cutAt (p .lifetime) s p)) ≤ n)
+    instance-asked at h = (subst⁻¹ (Writable Dhcp4) (fields-cut s p) (rw e at w), rw (fields-cut s p) (rw e at h))
 
-    pub instance-laid : {at : ℕ} {out out′ : List ℕ} {r : ℕ} → Wrote at (instanceOf (cutAt 0 s p)) out r out′
+    pub instance-laid : {at : ℕ} {out out′ : List ℕ} {r : ℕ} → Wrote at (instanceOf (cutAt (p .lifetime) s p)) out r out′
         → Wrote at (shareOf c (fieldsAt s p)) out r out′
-    instance-laid v = rw e (rw instance-cut at v)
+    instance-laid v = rw e (rw (fields-cut s p) at v)
 
   -- carriers 2 to 5
   module _ (n : c ≡ Dhcp4 → ⊥) where

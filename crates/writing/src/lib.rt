@@ -9,13 +9,14 @@ ghost use lib.ListN.{length};
 ghost use Rattle.octets.specs.Over.{Wrote};
 ghost use Rattle.numbers.specs.Limit as limit;
 ghost use Rattle.carriers.specs.Carriers.{isJoined};
-ghost use Rattle.layouts.specs.Writable.{Writable, optionMost};
+ghost use Rattle.layouts.specs.Writable.{Writable, mostOption};
 ghost use Rattle.taking.specs.Spot.{fieldsAt, Inside};
 ghost use Rattle.vetting.specs.Vetting.{streamOf};
 ghost use Rattle.vetting.specs.Weighing.{shareOf};
 ghost use Rattle.written.specs.Writing.{octetsOf, refuse, writeRecords, writeOf};
 ghost use Rattle.writing.specs.Writes.{Writes};
 ghost use Rattle.writing.specs.Laying.{recordsOf, Found, Ready, totalOf, Measured};
+use blocks::Head;
 use carriers::Carrier;
 use numbers::Refusal;
 use taking::Spot;
@@ -52,23 +53,16 @@ fn put_record(out: &mut [u8], at: usize, c: Carrier, s: &[u8], p: Spot) -> usize
     let name = &s[name_from..name_end];
     let addresses = &s[addresses_from..addresses_end];
     let parameters = &s[parameters_from..parameters_end];
-    let priority = p.priority;
-    let full = p.full;
+    let head = Head {
+        priority: p.priority,
+        lifetime: p.lifetime,
+        full: p.full,
+    };
     match c {
-        Carrier::Dhcp4 => {
-            layouts::put_instance(out, at, priority, full, name, addresses, parameters)
+        Carrier::Dhcp4 => layouts::put_instance(out, at, head, name, addresses, parameters),
+        Carrier::Dhcp6 | Carrier::Router | Carrier::Ike4 | Carrier::Ike6 => {
+            layouts::put_option(out, at, c, head, name, addresses, parameters)
         }
-        Carrier::Dhcp6 | Carrier::Router | Carrier::Ike4 | Carrier::Ike6 => layouts::put_option(
-            out,
-            at,
-            c,
-            priority,
-            p.lifetime,
-            full,
-            name,
-            addresses,
-            parameters,
-        ),
     }
 }
 
@@ -91,7 +85,7 @@ fn put_stream(out: &mut [u8], from: usize, c: Carrier, s: &[u8]) -> usize
 
 // Octets of the result, with records of `size` octets: in carrier 1 they are cut into options.
 fn total_size(c: Carrier, size: usize) -> usize
-    requires { ⌜ size ≤ optionMost * limit.records ⌝ }
+    requires { ⌜ size ≤ mostOption * limit.records ⌝ }
     ensures { λ r. ⌜ r ≡ totalOf c size ⌝ }
 {
     let f = c.facts();

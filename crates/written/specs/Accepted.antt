@@ -7,7 +7,7 @@ use Rattle.octets.specs.Lists.{All}
 use Rattle.numbers.specs.Limit as limit
 use Rattle.carriers.specs.declared.Carrier.{Carrier}
 use Rattle.carriers.specs.declared.Carrier.the-variants.{Router}
-use Rattle.blocks.specs.Block.{Fields, optionSize, gap}
+use Rattle.blocks.specs.Block.{Fields, optionSize}
 use Rattle.judge.specs.declared.Side.the-variants.{Writing}
 use Rattle.judge.specs.Passed.{Passed}
 use Rattle.taking.specs.Sheet.{FitsRecord, IsSheet}
@@ -16,7 +16,7 @@ use Rattle.taking.specs.Sheet.{FitsRecord, IsSheet}
 pub record Sound (c : Carrier) (r : Fields) : Type 0 where
   pub fits : FitsRecord c r
   pub passed : Passed Writing c r
-  pub units : c ≡ Router → optionSize r + gap (optionSize r) ≤ limit.option
+  pub units : c ≡ Router → optionSize r ≤ limit.option
 
 -- s is the sheet of carrier c and records rs, and each of these is accepted
 pub record Accepted (s : List ℕ) (c : Carrier) (rs : List Fields) : Type 0 where

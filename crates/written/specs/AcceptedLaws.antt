@@ -20,7 +20,7 @@ use Rattle.carriers.specs.declared.Form.the-variants.{Wire, Padded, Text}
 use Rattle.carriers.specs.Carriers.{lifetimeWidth, addressWidth, inEights, formOf, lifetimeIn}
 use Rattle.carriers.specs.CarriersLaws.{eights-router}
 use Rattle.names.specs.Right.{three}
-use Rattle.blocks.specs.Block.{Fields, optionSize, gap}
+use Rattle.blocks.specs.Block.{Fields, optionSize}
 use Rattle.judge.specs.declared.Side.the-variants.{Writing}
 use Rattle.judge.specs.Passed.{Passed}
 use Rattle.judge.specs.JudgeLaws.{written-name}
@@ -71,14 +71,14 @@ module _ (c : Carrier) (r : Fields) (s : Sound c r) where
 -- ---- 44
 
 module _ (c : Carrier) (r : Fields) where
-  small-units : large c r ≡ false → c ≡ Router → optionSize r + gap (optionSize r) ≤ limit.option
+  small-units : large c r ≡ false → c ≡ Router → optionSize r ≤ limit.option
   small-units e i = let q = rw i at e in ltb-false _ _ q
 
-  units-small : (c ≡ Router → optionSize r + gap (optionSize r) ≤ limit.option) → large c r ≡ false
+  units-small : (c ≡ Router → optionSize r ≤ limit.option) → large c r ≡ false
   units-small h = go (inEights c) refl
     where
-      go : (b : Bool) → inEights c ≡ b → cond b (ltb limit.option (optionSize r + gap (optionSize r))) false ≡ false
-      go true e = le-ltb limit.option (optionSize r + gap (optionSize r)) (h (eights-router c e))
+      go : (b : Bool) → inEights c ≡ b → cond b (ltb limit.option (optionSize r)) false ≡ false
+      go true e = le-ltb limit.option (optionSize r) (h (eights-router c e))
       go false e = refl
 
 module _ (c : Carrier) where

@@ -2,11 +2,11 @@
 use borrow.Author.Needs.{needs}
 use native.Mathlib.Omega.{arith}
 use mathlib.Core.Path.{_≡_, sym, ap, _∙_}
-use Prim.Native.Nat.{ℕ, _<_}
+use Prim.Native.Nat.{ℕ, _+_, _≤_, _<_}
 use Rattle.carriers.specs.declared.Form.{Form}
 use Rattle.carriers.specs.Carriers.{formOf}
 use Rattle.carriers.specs.CarriersLaws.{length-width}
-use Rattle.layouts.specs.Writable.{bodyBy}
+use Rattle.layouts.specs.Writable.{overhead, bodyBy}
 use Rattle.layouts.specs.LayoutsLaws.{body-small}
 use Rattle.layouts.proofs.body_size.Statement.{statement}
 use Rattle.layouts.proofs.body_size.Tie as tie
@@ -15,7 +15,7 @@ use Rattle.layouts.proofs.body_size.Tie as tie
 sized : (c : tie.After-form) {k : Form} {n : ℕ} → c .form .result ≡ k
     → let a = c .before .args in
     n ≡ bodyBy k (a .c) (a .full) (a .nlen) (a .alen) (a .plen)
-    → (n ≡ bodyBy (formOf (a .c)) (a .c) (a .full) (a .nlen) (a .alen) (a .plen)) × (n < 65558)
+    → (n ≡ bodyBy (formOf (a .c)) (a .c) (a .full) (a .nlen) (a .alen) (a .plen)) × (n ≤ overhead + (a .nlen + a .alen + a .plen))
 sized c {k} {n} e q =
     let a = c .before .args in
     let all = q ∙ ap (λ (k : Form). bodyBy k (a .c) (a .full) (a .nlen) (a .alen) (a .plen)) (sym e ∙ c .form .ensures) in
@@ -30,7 +30,7 @@ returns c =
     sized k (t .enum-told .given .1) (rw (w .length-width .ensures) at (c .by-form .ensures))
 
 returns-2 : tie.Need-returns-2
-returns-2 c = let t = c .before in sized (t .before .before) (t .enum-told2 .given .1) (c .padded-size .ensures .0)
+returns-2 c = let t = c .before in sized (t .before .before) (t .enum-told2 .given .1) (c .padded-size .ensures)
 
 returns-3 : tie.Need-returns-3
 returns-3 c = sized (c .before .before) (c .enum-told3 .given .1) (omega arith)

@@ -7,15 +7,14 @@ use Prim.Native.Nat.{ℕ, _+_, _-_, _/_, _≤_}
 use lib.ListN.{length}
 use Rattle.carriers.specs.Carriers.{addressWidth}
 use Rattle.carriers.specs.CarriersLaws.{address-width}
-use Rattle.blocks.specs.Block.{Fields}
-use Rattle.layouts.specs.Writable.{fieldsOf}
+use Rattle.blocks.specs.Block.{Fields, fieldsOf}
 use Rattle.layouts.specs.Writes.{attribute-length, attribute-asks, text-room, after-text-room, wrote-attribute}
 use Rattle.layouts.proofs.put_attribute.Statement.{statement}
 use Rattle.layouts.proofs.put_attribute.Tie as tie
 
 -- the record that is written
 abbrev written : tie.Start → Fields
-written s = fieldsOf (s .args .priority) 0 true (s .args .name .now) (s .args .addresses .now) (s .args .parameters .now)
+written s = fieldsOf (s .args .head) (s .args .name .now) (s .args .addresses .now) (s .args .parameters .now)
 
 abbrev start : tie.After-address-width → tie.Start
 start c = c .before .before .before .before .before

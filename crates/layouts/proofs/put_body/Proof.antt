@@ -7,29 +7,24 @@ use Rattle.carriers.specs.declared.Form.the-variants.{Wire, Padded, Text}
 use Rattle.carriers.specs.declared.Carrier.the-variants.{Router}
 use Rattle.carriers.specs.Carriers.{formOf, lifetimeIn, textIn, asText}
 use Rattle.carriers.specs.CarriersLaws.{padded-router}
-use Rattle.blocks.specs.Block.{Fields}
+use Rattle.blocks.specs.Block.{Fields, fieldsOf}
 use Rattle.blocks.specs.Places.{Named}
 use Rattle.layouts.specs.Layouts.{carriedOf}
-use Rattle.layouts.specs.Writable.{fieldsOf}
 use Rattle.layouts.specs.LayoutsLaws.{writable-fits, writable-small}
-use Rattle.layouts.specs.Writes.{carried-named, carried-attribute, router-fits, router-body}
+use Rattle.layouts.specs.Writes.{carried-named, router-fits, router-body}
 use Rattle.layouts.proofs.put_body.Statement.{statement}
 use Rattle.layouts.proofs.put_body.Tie as tie
 
 abbrev start : tie.After-form → tie.Start
 start c = c .before .before .before .before .before
 
-module _ (s : tie.Start) where
-  -- the record that is written
-  abbrev written : Fields
-  written = fieldsOf (s .args .priority) (s .args .lifetime) (s .args .full) (s .args .name .now) (s .args .addresses .now) (s .args .parameters .now)
+-- the record that is written
+abbrev written : tie.Start → Fields
+written s = fieldsOf (s .args .head) (s .args .name .now) (s .args .addresses .now) (s .args .parameters .now)
 
-  -- as each kind of carrier has it
-  named : Named (s .args .c) → carriedOf (s .args .c) written ≡ fieldsOf (s .args .priority) 0 (s .args .full) (s .args .name .now) (s .args .addresses .now) (s .args .parameters .now)
-  named k = carried-named (s .args .c) (s .args .priority) (s .args .lifetime) (s .args .full) (s .args .name .now) (s .args .addresses .now) (s .args .parameters .now) (s .pre .0) k
-
-  attribute : asText (s .args .c) ≡ true → carriedOf (s .args .c) written ≡ carriedOf (s .args .c) (fieldsOf (s .args .priority) 0 true (s .args .name .now) (s .args .addresses .now) (s .args .parameters .now))
-  attribute k = carried-attribute (s .args .c) (s .args .priority) (s .args .lifetime) (s .args .full) (s .args .name .now) (s .args .addresses .now) (s .args .parameters .now) (s .pre .0) k
+-- carriers 1 and 2 have it as it came
+named : (s : tie.Start) → Named (s .args .c) → carriedOf (s .args .c) (written s) ≡ written s
+named s k = carried-named (s .args .c) (written s) k
 
 -- what each arm knows of the carrier
 wire : (c : tie.After-enum-told) → Named (start (c .before .before) .args .c)
@@ -59,7 +54,7 @@ put-attribute-requires : tie.Need-put-attribute-requires
 put-attribute-requires c κs =
     let t = c .before in
     let s = start (t .before .before) in
-    (text t, (s .pre .0 .some, (rw (attribute s (text t)) at (writable-fits (s .args .c) (written s) (s .pre .0)), rw (attribute s (text t)) at (s .pre .1))))
+    (text t, (s .pre .0 .some, (writable-fits (s .args .c) (written s) (s .pre .0), s .pre .1)))
 
 returns : tie.Need-returns
 returns c =
@@ -76,9 +71,7 @@ returns-2 c =
 
 returns-3 : tie.Need-returns-3
 returns-3 c =
-    let p = c .before .before in
-    let t = p .before .before in
-    rw (attribute (start (t .before .before)) (text t)) (p .put-attribute .ensures)
+    c .before .before .put-attribute .ensures
 
 pub put-body-spec : {M : Type 1} → statement M
 put-body-spec =

@@ -4,8 +4,7 @@ use native.Mathlib.Omega.{arith}
 use mathlib.Core.Path.{_≡_, sym, _∙_}
 use lib.ListN.{length}
 use Rattle.carriers.specs.declared.Carrier.the-variants.{Dhcp4}
-use Rattle.blocks.specs.Block.{Fields, layout}
-use Rattle.layouts.specs.Writable.{fieldsOf}
+use Rattle.blocks.specs.Block.{Fields, fieldsOf, layout}
 use Rattle.layouts.specs.LayoutsLaws.{body-length, instance-length, writable-small, writable-body}
 use Rattle.layouts.specs.Writes.{wrote-instance}
 use Rattle.layouts.proofs.put_instance.Statement.{statement}
@@ -13,7 +12,7 @@ use Rattle.layouts.proofs.put_instance.Tie as tie
 
 -- the record that is written
 abbrev written : tie.Start → Fields
-written s = fieldsOf (s .args .priority) 0 (s .args .full) (s .args .name .now) (s .args .addresses .now) (s .args .parameters .now)
+written s = fieldsOf (s .args .head) (s .args .name .now) (s .args .addresses .now) (s .args .parameters .now)
 
 abbrev start : tie.After-body-size → tie.Start
 start c = c .before .before .before .before .before

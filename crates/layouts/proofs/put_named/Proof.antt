@@ -4,15 +4,14 @@ use native.Mathlib.Omega.{arith}
 use mathlib.Core.Path.{_≡_}
 use Prim.Native.Nat.{_+_, _≤_}
 use lib.ListN.{length}
-use Rattle.blocks.specs.Block.{Fields, layout}
-use Rattle.layouts.specs.Writable.{fieldsOf}
+use Rattle.blocks.specs.Block.{Fields, fieldsOf, layout}
 use Rattle.layouts.specs.Writes.{counted-size, name-asks, addresses-ask, named-full, named-least, after-addresses-room, wrote-full, wrote-name-only}
 use Rattle.layouts.proofs.put_named.Statement.{statement}
 use Rattle.layouts.proofs.put_named.Tie as tie
 
 -- the record that is written
 abbrev written : tie.Start → Fields
-written s = fieldsOf (s .args .priority) 0 (s .args .full) (s .args .name .now) (s .args .addresses .now) (s .args .parameters .now)
+written s = fieldsOf (s .args .head) (s .args .name .now) (s .args .addresses .now) (s .args .parameters .now)
 
 module _ (c : tie.After-length-width) where
   abbrev start : tie.Start

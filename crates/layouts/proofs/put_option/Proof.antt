@@ -3,10 +3,9 @@ use borrow.Author.Needs.{needs}
 use native.Mathlib.Omega.{arith}
 use mathlib.Core.Path.{_≡_, sym, _∙_}
 use lib.ListN.{length}
-use Rattle.blocks.specs.Block.{Fields, layout}
+use Rattle.blocks.specs.Block.{Fields, fieldsOf, layout}
 use Rattle.frames.specs.EmitLaws.{head-length, option-length}
 use Rattle.layouts.specs.Layouts.{carriedOf}
-use Rattle.layouts.specs.Writable.{fieldsOf}
 use Rattle.layouts.specs.LayoutsLaws.{body-length, writable-small, writable-emits}
 use Rattle.layouts.specs.Writes.{wrote-option}
 use Rattle.layouts.proofs.put_option.Statement.{statement}
@@ -14,7 +13,7 @@ use Rattle.layouts.proofs.put_option.Tie as tie
 
 -- the record that is written
 abbrev written : tie.Start → Fields
-written s = fieldsOf (s .args .priority) (s .args .lifetime) (s .args .full) (s .args .name .now) (s .args .addresses .now) (s .args .parameters .now)
+written s = fieldsOf (s .args .head) (s .args .name .now) (s .args .addresses .now) (s .args .parameters .now)
 
 abbrev start : tie.After-body-size → tie.Start
 start c = c .before .before .before .before .before

@@ -2,22 +2,21 @@
 use borrow.Author.Needs.{needs}
 use native.Mathlib.Omega.{arith}
 use mathlib.Core.Path.{_≡_, ap, _∙_}
-use Rattle.blocks.specs.Block.{Fields, gap, optionSize}
-use Rattle.layouts.specs.Writable.{fieldsOf}
+use Rattle.blocks.specs.Block.{Fields, fieldsOf, paddingAfter, paddingOf}
 use Rattle.layouts.specs.Writes.{router-least, router-asks, addresses-room, parameters-room, zeros-room-full, zeros-room-name-only, wrote-router-full, wrote-router-name-only}
 use Rattle.layouts.proofs.put_router.Statement.{statement}
 use Rattle.layouts.proofs.put_router.Tie as tie
 
 -- the record that is written
 abbrev written : tie.Start → Fields
-written s = fieldsOf (s .args .priority) (s .args .lifetime) (s .args .full) (s .args .name .now) (s .args .addresses .now) (s .args .parameters .now)
+written s = fieldsOf (s .args .head) (s .args .name .now) (s .args .addresses .now) (s .args .parameters .now)
 
 abbrev start : tie.After-padding-size → tie.Start
 start c = c .before .before .before .before .before .before
 
 -- the zeros are those that the record asks for
-padding : (c : tie.After-padding-size) → c .padding-size .result ≡ gap (optionSize (written (start c)))
-padding c = c .padding-size .ensures .0 ∙ ap gap (c .before .unpadded-size .ensures .0)
+padding : (c : tie.After-padding-size) → c .padding-size .result ≡ paddingOf (written (start c))
+padding c = c .padding-size .ensures .0 ∙ ap paddingAfter (c .before .unpadded-size .ensures .0)
 
 -- from each call back to the one before
 abbrev before-put16 : tie.After-put16 → tie.After-padding-size
