@@ -1,9 +1,10 @@
 #!/bin/sh
 # Builds both.c with replay.c and runs every input of the corpus through it once; other inputs may be named instead.
-# DNR_LIB_DIR names the folder of libdnr.a. Ends in 'N passed, M failed'.
+# DNR_LIB_DIR names the folder of libdnr.a, else make builds it where it is not there. Ends in 'N passed, M failed'.
 set -u
 cd "$(dirname "$0")/.." || exit 2
 library=${DNR_LIB_DIR:-target/staticlib}/libdnr.a
+[ -e "$library" ] || make --no-print-directory -s "$library"
 [ "$#" -gt 0 ] || set -- fuzz/corpus/*
 mkdir -p build/fuzz || exit 2
 cargo build --quiet --offline --release --manifest-path host/Cargo.toml -p fuzz &&

@@ -1,10 +1,11 @@
 #!/bin/sh
 # run.sh SECONDS: builds both.c with clang for libFuzzer and runs it for so long, starting from the corpus.
 # What it finds worth keeping goes to build/fuzz/found, and an input on which it stopped to build/fuzz; `sh fuzz/replay.sh FILE` runs
-# that one again. DNR_LIB_DIR names the folder of libdnr.a.
+# that one again. DNR_LIB_DIR names the folder of libdnr.a, else make builds it where it is not there.
 set -eu
 cd "$(dirname "$0")/.."
 library=${DNR_LIB_DIR:-target/staticlib}/libdnr.a
+[ -e "$library" ] || make --no-print-directory -s "$library"
 mkdir -p build/fuzz/found
 # The library is machine code and cannot be instrumented; the branches and comparisons of the reference guide the fuzzer instead.
 RUSTFLAGS="-C codegen-units=1 -C passes=sancov-module -C llvm-args=-sanitizer-coverage-level=3 \
