@@ -1,8 +1,8 @@
 #!/bin/sh
 # Runs every check of the repository and ends in 'N passed, M failed', each check counted; fails where one fails or did not run.
 # Checks: the layout of the sources, rt ci (each crate, must-fail edit and program run), the library built from the proved crate, its header
-# held against the source, the command, the host tests (cargo), the examples, an installation, the fuzzing corpus replayed, the pages
-# held against the sources, and the vectors held against their generators.
+# held against the source, the host tests (cargo), the examples, the fuzzing corpus replayed, the pages held against the sources, the
+# vectors held against their generators, the command, and an installation.
 set -u
 cd "$(dirname "$0")/.."
 log=$(mktemp -d) || exit 2
@@ -99,16 +99,12 @@ made_anew() {
 step "layout of the sources" rt fmt --check
 rt_ci
 step "libdnr.a" rt staticlib dnr
-# the command is proved and linked while the host tests run, which need the library alone
+# the command is proved and linked while the checks run that need the library alone
 { rt staticlib tool && sh tools/build.sh; } >"$log/build" 2>&1 &
 building=$!
 step "include/dnr.h agrees with the source" header_held
 host_tests
-step "build/dnr" command_built
 tool "examples" sh tools/examples.sh
-tool "installation" sh tools/install.sh
-tool "command" sh tools/command.sh
-step "the tour of README.md" python3 tools/tour.py
 tool "replayed inputs" sh fuzz/replay.sh
 step "fuzz/corpus is that of its script" corpus_held
 step "docs/picture.svg is that of its script" picture_held
@@ -116,5 +112,9 @@ step "docs/PROOFS.md names theorems where they stand" python3 tools/theorems.py
 step "docs/TRACE.md names what is there" python3 tools/trace.py
 step "vectors are those of the reference" made_anew vectors
 step "boundary cases are those of their generator" made_anew boundaries boundaries
+step "build/dnr" command_built
+tool "installation" sh tools/install.sh
+tool "command" sh tools/command.sh
+step "the tour of README.md" python3 tools/tour.py
 echo "$passed passed, $failed failed"
 [ "$failed" -eq 0 ]
