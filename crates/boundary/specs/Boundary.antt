@@ -28,7 +28,7 @@ use Rattle.records.specs.Records.{outcomeOf, recordOf}
 use Rattle.sheets.specs.Sheets.{frontOf, sheetOf}
 use Rattle.reading.specs.Reading.{instancesFrom, joinedYield, readOf, done}
 use Rattle.reading.specs.Reading as reading
-use Rattle.taking.specs.Taking.{same, recordsFrom, takeOf}
+use Rattle.taking.specs.Taking.{same, headOf, recordsFrom, takeOf}
 use Rattle.taking.specs.TakenLaws.{same-self}
 use Rattle.pieces.specs.Pieces.{pieces, cutOf}
 use Rattle.vetting.specs.Vetting.{firstFault, vetOf, anyLarge}
@@ -96,7 +96,7 @@ unfolding readOf chosenOf frameFrom numberAt parse part number counted isPadding
     tailFault listOf keptOf unusable unusable4 unusable16
     paramsFault pairsFrom sizeOf keys rising has hasHint stringsFrom alpnGood valueGood allGood
     recordOf frontOf sheetOf
-    writeOf vetOf takeOf same recordsFrom hasOf firstFault anyLarge octetsOf layout textOf dotsFrom cutOf pieces
+    writeOf vetOf takeOf headOf same recordsFrom hasOf firstFault anyLarge octetsOf layout textOf dotsFrom cutOf pieces
 boundary =
     back k1 (λ room. refl) (λ room. refl)
     and back k2 (λ room. refl) (λ room. refl)

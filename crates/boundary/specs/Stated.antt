@@ -15,7 +15,7 @@ use Rattle.frames.specs.Frame.{Framed, framed, frameFrom, frame}
 use Rattle.frames.specs.Frame as area
 use Rattle.blocks.specs.Block.{nameOnly, whole}
 use Rattle.reading.specs.Reading.{readOf, refuse, done}
-use Rattle.taking.specs.Taking.{same, recordsFrom, Taken, sheet, takeOf}
+use Rattle.taking.specs.Taking.{same, headOf, recordsFrom, Taken, sheet, takeOf}
 use Rattle.boundary.specs.Table.{Piece, N, T, P, A, example, k1, k2, k3, k4, k5, k6, k7, k8, k9, k10, k11, k12, table}
 use Rattle.boundary.specs.Boundary.{boundary}
 
@@ -109,7 +109,7 @@ said =
     ∷ []
 
 pub records-said : All (λ (e : Said). takeOf (e .0 .gives .sheet) ≡ e .1) said
-unfolding takeOf same recordsFrom part number counted chosenOf
+unfolding takeOf headOf same recordsFrom part number counted chosenOf
 records-said = (refl, (refl, (refl, (refl, (refl, (refl, (refl, (refl, (refl, (refl, (refl, (refl, (refl, (refl, (refl, (refl, tt))))))))))))))))
 
 -- every piece of the table is named, in the table's order

@@ -20,6 +20,14 @@ chosen-number Router = refl
 chosen-number Ike4 = refl
 chosen-number Ike6 = refl
 
+-- its number has room in one octet
+pub number-room : (c : Carrier) → numberOf c < 256
+number-room Dhcp4 = omega arith
+number-room Dhcp6 = omega arith
+number-room Router = omega arith
+number-room Ike4 = omega arith
+number-room Ike6 = omega arith
+
 -- code and length have one or two octets, in which the carrier's code has room; it has no reserved bit, and is neither padding nor an end
 pub record Headed (c : Carrier) : Type 0 where
   pub some : 0 < headWidth c

@@ -49,10 +49,6 @@ mostAddresses = limit.addresses * 16
 abbrev pub mostBody : ℕ
 mostBody = overhead + (255 + mostAddresses + limit.parameters)
 
--- octets of an option or attribute at most, with a header of 4
-abbrev pub mostOption : ℕ
-mostOption = 4 + mostBody
-
 -- carriers 2 to 5: the option or attribute
 abbrev pub optionOctets : Carrier → Bool → ℕ → ℕ → ℕ → ℕ
 optionOctets c full n a p = headerOf c + bodyOctets c full n a p

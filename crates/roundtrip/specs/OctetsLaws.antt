@@ -18,7 +18,7 @@ use Rattle.frames.specs.WalkLaws.{apart-false}
 use Rattle.blocks.specs.Block.{Fields}
 use Rattle.pieces.specs.PiecesLaws.{cut-length}
 use Rattle.layouts.specs.Layouts.{ownOption, instanceOf, joinedOf}
-use Rattle.layouts.specs.Writable.{mostBody, mostOption}
+use Rattle.layouts.specs.Writable.{mostBody}
 use Rattle.layouts.specs.LayoutsLaws.{header-small, writable-body, writable-emits}
 use Rattle.written.specs.Writing.{octetsOf}
 use Rattle.written.specs.Accepted.{Sound}
@@ -34,14 +34,14 @@ flat-few f P m [] each h = omega arith
 flat-few f P m (x ∷ l) each h =
     omega (arith, length-append (f x) (flat (map f l)), each x (h .0), flat-few f P m l each (h .1))
 
-option-few : (c : Carrier) (r : Fields) → Sound c r → length (ownOption c r) ≤ mostOption
+option-few : (c : Carrier) (r : Fields) → Sound c r → length (ownOption c r) ≤ 4 + mostBody
 option-few c r s = omega (arith, option-length c (bodyOf c r), header-small c, writable-body c r (writable c r s))
 
 instance-few : (r : Fields) → Sound Dhcp4 r → length (instanceOf r) ≤ 2 + mostBody
 instance-few r s = omega (arith, length-append (bodyOf Dhcp4 r) [], writable-body Dhcp4 r (writable Dhcp4 r s))
 
 options-few : (c : Carrier) (rs : List Fields) → All (Sound c) rs → length rs ≤ 16 → length (flat (map (ownOption c) rs)) ≤ limit.input
-options-few c rs s few = omega (arith, flat-few (ownOption c) (Sound c) mostOption rs (option-few c) s)
+options-few c rs s few = omega (arith, flat-few (ownOption c) (Sound c) (4 + mostBody) rs (option-few c) s)
 
 joined-few : (rs : List Fields) → All (Sound Dhcp4) rs → length rs ≤ 16 → length (joinedOf rs) ≤ limit.records * (2 + mostBody)
 joined-few rs s few = omega (arith, flat-few instanceOf (Sound Dhcp4) (2 + mostBody) rs instance-few s)

@@ -12,6 +12,7 @@ use Rattle.svcparams.specs.Entries.{entriesFrom}
 use Rattle.texts.specs.Texts as texts
 use Rattle.ips.specs.Ips.{digit, numeral, text6, mapped, shortened, runOf, longestFrom, around, colons, fieldsOf, zerosAhead}
 use Rattle.taking.specs.Taking.{takeOf, same, recordsFrom}
+use Rattle.taking.specs.Taking as taking
 use Rattle.chars.specs.Ascii.{ascii, decimalOf}
 use Rattle.values.specs.Values.{charOf, escapedOf, valueOf, quoted, keyOf, keysOf, stringsFrom, protocolsOf, carrierOf, nameOf, addressOf}
 use Rattle.lines.specs.Lines as text
@@ -28,17 +29,17 @@ k1 =
 
 -- its text and its JSON, as docs/COMMAND.md has them
 pub k1-text : shownOf false k1 ≡ ascii "DHCPv6 (carrier 2), 1 record\n\ndoh1.example.com\n    priority        1\n    address         2001:db8:122:300::1\n    alpn            dot"
-unfolding takeOf same recordsFrom part number counted chosenOf numeral digit escapedOf valueOf quoted keyOf keysOf stringsFrom protocolsOf carrierOf nameOf addressOf texts.textOf texts.dotsFrom text6 mapped allZero shortened runOf longestFrom around colons fieldsOf zerosAhead listOf sizeOf entriesFrom text.leadOf text.valueBy text.parameterOf text.parametersOf text.addressesOf text.lifetimeOf text.commonOf text.recordOf text.headOf text.textOf
+unfolding takeOf taking.headOf same recordsFrom part number counted chosenOf numeral digit escapedOf valueOf quoted keyOf keysOf stringsFrom protocolsOf carrierOf nameOf addressOf texts.textOf texts.dotsFrom text6 mapped allZero shortened runOf longestFrom around colons fieldsOf zerosAhead listOf sizeOf entriesFrom text.leadOf text.valueBy text.parameterOf text.parametersOf text.addressesOf text.lifetimeOf text.commonOf text.recordOf text.headOf text.textOf
 k1-text = refl
 
 pub k1-json : shownOf true k1
     ≡ ascii "{\"carrier\":2,\"carrierName\":\"DHCPv6\",\"records\":[{\"name\":\"doh1.example.com\",\"priority\":1,\"nameOnly\":false,\"addresses\":[\"2001:db8:122:300::1\"],\"parameters\":[{\"key\":1,\"name\":\"alpn\",\"value\":[\"dot\"]}]}]}"
-unfolding takeOf same recordsFrom part number counted chosenOf numeral digit escapedOf valueOf quoted keyOf keysOf stringsFrom protocolsOf carrierOf nameOf addressOf texts.textOf texts.dotsFrom text6 mapped allZero shortened runOf longestFrom around colons fieldsOf zerosAhead listOf sizeOf entriesFrom json.valueBy json.parameterOf json.parametersOf json.addressesOf json.lifetimeOf json.commonOf json.listsOf json.recordOf json.headOf json.jsonOf
+unfolding takeOf taking.headOf same recordsFrom part number counted chosenOf numeral digit escapedOf valueOf quoted keyOf keysOf stringsFrom protocolsOf carrierOf nameOf addressOf texts.textOf texts.dotsFrom text6 mapped allZero shortened runOf longestFrom around colons fieldsOf zerosAhead listOf sizeOf entriesFrom json.valueBy json.parameterOf json.parametersOf json.addressesOf json.lifetimeOf json.commonOf json.listsOf json.recordOf json.headOf json.jsonOf
 k1-json = refl
 
 -- of octets that are no sheet, nothing is shown
 no-sheet : shownOf false (0 ∷ k1) ≡ []
-unfolding takeOf same
+unfolding takeOf taking.headOf same
 no-sheet = refl
 
 -- a blank, a comma, a quotation mark and an octet above 126 are escaped; in JSON a backslash stands twice

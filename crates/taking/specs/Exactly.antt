@@ -1,6 +1,6 @@
--- A sheet is taken exactly where it is one: `takeOf` gives carrier c and records rs of s where s is their sheet, and nowhere else; and a
+-- What a head says, and that a sheet is taken exactly where it is one: `takeOf` gives carrier c and records rs of s where s is their sheet, and nowhere else; and a
 -- sheet is one of one carrier and one list of records only. Assumes nothing.
-use mathlib.Core.Path.{_≡_, refl, sym, ap, _∙_}
+use mathlib.Core.Path.{_≡_, refl, sym, ap, ap₂, _∙_}
 use mathlib.Core.Logic.{_↔_}
 use mathlib.Core.Bool.{Bool, true, false, cond}
 use mathlib.Core.List.{List, [], _∷_, _++_}
@@ -9,22 +9,22 @@ use native.Mathlib.Omega.{arith}
 use borrow.Author.Tests.{eqb-true}
 use lib.Dec.{eqb}
 use lib.ListN.{length, getD, drop}
-use Rattle.octets.specs.Numbers.{Bytes}
+use Rattle.octets.specs.Numbers.{be, Bytes}
 use Rattle.octets.specs.NumbersLaws.{bytes-drop}
 use Rattle.octets.specs.Lists.{All}
+use Rattle.numbers.specs.Limit as limit
 use Rattle.carriers.specs.declared.Carrier.{Carrier}
 use Rattle.carriers.specs.declared.Carrier.the-variants.{Dhcp4, Dhcp6, Router, Ike4, Ike6}
 use Rattle.carriers.specs.declared.Chosen.{Chosen}
 use Rattle.carriers.specs.declared.Chosen.the-variants.{Known}
 use Rattle.carriers.specs.Carriers.{chosenOf, numberOf}
-use Rattle.carriers.specs.CarriersLaws.{chosen-number}
+use Rattle.carriers.specs.CarriersLaws.{chosen-number, number-room}
 use Rattle.blocks.specs.Block.{Fields}
 use Rattle.records.specs.Records.{recordOf}
-use Rattle.sheets.specs.Sheets.{frontOf, recordsOf, sheetOf}
-use Rattle.sheets.specs.SheetsLaws.{length-sheet}
-use Rattle.taking.specs.Taking.{Records, none, records, onto, recordsFrom, sheet, takeOf}
-use Rattle.taking.specs.Sheet.{FitsRecord, NoneFalls, IsSheet}
-use Rattle.taking.specs.TakenLaws.{Passed, taken-passed, passed-taken}
+use Rattle.sheets.specs.Sheets.{letters, edition, frontSize, carrierAt, countAt, frontOf, recordsOf, sheetOf}
+use Rattle.taking.specs.Taking.{Records, none, records, onto, recordsFrom, head, headOf, sheet, takeOf}
+use Rattle.taking.specs.Sheet.{FitsRecord, NoneFalls, IsHead, IsSheet}
+use Rattle.taking.specs.TakenLaws.{Front, headed-front, front-headed, Passed, taken-passed, passed-taken}
 use Rattle.taking.specs.RecordLaws.{one-read, one-says}
 
 -- ---- the records
@@ -71,37 +71,43 @@ number-chosen n c =
         go true t e = let j : d ≡ c = cc in eqb-true n k t ∙ sym i ∙ ap numberOf j
         go false t e = h e
 
-number-octet : (c : Carrier) → numberOf c % 256 ≡ numberOf c
-number-octet Dhcp4 = refl
-number-octet Dhcp6 = refl
-number-octet Router = refl
-number-octet Ike4 = refl
-number-octet Ike6 = refl
+-- the octets of a head before the rest, octet by octet
+abbrev fronted : ℕ → ℕ → List ℕ → List ℕ
+fronted k n l = letters ++ (be 2 edition ++ (k ∷ n ∷ l))
 
--- the head and what follows it, octet by octet
-head-is : (c : Carrier) (n : ℕ) (l : List ℕ) → n < 256 → frontOf c n ++ l ≡ 82 ∷ 83 ∷ 86 ∷ 0 ∷ 1 ∷ numberOf c ∷ n ∷ l
+front-is : (s : List ℕ) → Front s → s ≡ fronted (getD s carrierAt 0) (getD s countAt 0) (drop frontSize s)
+front-is [] p = absurd (omega (arith, p .long))
+front-is (x0 ∷ []) p = absurd (omega (arith, p .long))
+front-is (x0 ∷ x1 ∷ []) p = absurd (omega (arith, p .long))
+front-is (x0 ∷ x1 ∷ x2 ∷ []) p = absurd (omega (arith, p .long))
+front-is (x0 ∷ x1 ∷ x2 ∷ x3 ∷ []) p = absurd (omega (arith, p .long))
+front-is (x0 ∷ x1 ∷ x2 ∷ x3 ∷ x4 ∷ []) p = absurd (omega (arith, p .long))
+front-is (x0 ∷ x1 ∷ x2 ∷ x3 ∷ x4 ∷ x5 ∷ []) p = absurd (omega (arith, p .long))
+front-is (x0 ∷ x1 ∷ x2 ∷ x3 ∷ x4 ∷ k ∷ n ∷ l) p =
+    let lettered : x0 ∷ x1 ∷ x2 ∷ [] ≡ letters = p .lettered in
+    let version : x3 * 256 + x4 ≡ edition = p .version in
+    let e3 : x3 ≡ 0 = omega arith in
+    let e4 : x4 ≡ 1 = omega arith in
+    cc
+
+is-front : (k n : ℕ) (l : List ℕ) → length (fronted k n l) ≤ limit.input → Front (fronted k n l)
+is-front k n l h = record { short = h; long = omega arith; lettered = refl; version = refl }
+
+-- a head says a carrier octet and a record count exactly if the octets begin so
+pub head-exactly : (s : List ℕ) (k n : ℕ) → (headOf s ≡ head k n) ↔ IsHead s k n
+head-exactly s k n = (says, λ i. rw (i .is) (front-headed (fronted k n (i .rest)) (is-front k n (i .rest) (rw (i .is) at (i .short)))))
+  where
+    says : headOf s ≡ head k n → IsHead s k n
+    says e =
+        let f = headed-front s e in
+        record { rest = drop frontSize s; is = rw (f .1, f .2) at (front-is s (f .0)); short = f .0 .short }
+
+-- a carrier's head and what follows it
+head-is : (c : Carrier) (n : ℕ) (l : List ℕ) → n < 256 → frontOf c n ++ l ≡ fronted (numberOf c) n l
 unfolding frontOf
 head-is c n l h =
     let e : n % 256 ≡ n = omega arith in
-    let o : numberOf c % 256 ≡ numberOf c = number-octet c in
-    cc
-
-passed-head : (s : List ℕ) (c : Carrier) (rs : List Fields) → Passed s c rs → s ≡ frontOf c (getD s 6 0) ++ drop 7 s
-passed-head [] c rs p = absurd (omega (arith, p .seven))
-passed-head (x0 ∷ []) c rs p = absurd (omega (arith, p .seven))
-passed-head (x0 ∷ x1 ∷ []) c rs p = absurd (omega (arith, p .seven))
-passed-head (x0 ∷ x1 ∷ x2 ∷ []) c rs p = absurd (omega (arith, p .seven))
-passed-head (x0 ∷ x1 ∷ x2 ∷ x3 ∷ []) c rs p = absurd (omega (arith, p .seven))
-passed-head (x0 ∷ x1 ∷ x2 ∷ x3 ∷ x4 ∷ []) c rs p = absurd (omega (arith, p .seven))
-passed-head (x0 ∷ x1 ∷ x2 ∷ x3 ∷ x4 ∷ x5 ∷ []) c rs p = absurd (omega (arith, p .seven))
-passed-head (x0 ∷ x1 ∷ x2 ∷ x3 ∷ x4 ∷ x5 ∷ n ∷ l) c rs p =
-    let lettered : x0 ∷ x1 ∷ x2 ∷ [] ≡ 82 ∷ 83 ∷ 86 ∷ [] = p .lettered in
-    let version : x3 * 256 + x4 ≡ 1 = p .version in
-    let e3 : x3 ≡ 0 = omega arith in
-    let e4 : x4 ≡ 1 = omega arith in
-    let e5 : x5 ≡ numberOf c = number-chosen x5 c (p .carrier) in
-    let few : n ≤ 16 = p .few in
-    let is : frontOf c n ++ l ≡ 82 ∷ 83 ∷ 86 ∷ 0 ∷ 1 ∷ numberOf c ∷ n ∷ l = head-is c n l (omega arith) in
+    let o : numberOf c % 256 ≡ numberOf c = omega (arith, number-room c) in
     cc
 
 -- ---- the theorems
@@ -110,28 +116,34 @@ pub taken-sheet : (s : List ℕ) (c : Carrier) (rs : List Fields) → Bytes s �
 unfolding sheetOf
 taken-sheet s c rs h e =
     let p : Passed s c rs = taken-passed s c rs e in
-    let w : Written c (getD s 6 0) 0 (drop 7 s) (records rs) = rw (p .found) at (records-says c (getD s 6 0) 0 (drop 7 s) (bytes-drop 7 s h)) in
+    let n : ℕ = getD s countAt 0 in
+    let w : Written c n 0 (drop frontSize s) (records rs) = rw (p .found) at (records-says c n 0 (drop frontSize s) (bytes-drop frontSize s h)) in
+    let few : length rs ≤ limit.records = omega (arith, w .1, p .few) in
+    let k : getD s carrierAt 0 ≡ numberOf c = number-chosen (getD s carrierAt 0) c (p .carrier) in
     record {
-      is = passed-head s c rs p ∙ ap (λ (n : ℕ). frontOf c n ++ drop 7 s) (sym (w .1)) ∙ ap (λ (l : List ℕ). frontOf c (length rs) ++ l) (w .0);
-      few = omega (arith, w .1, p .few);
+      is =
+          front-is s (p .front)
+          ∙ ap₂ (λ (k n : ℕ). fronted k n (drop frontSize s)) k (sym (w .1))
+          ∙ ap (fronted (numberOf c) (length rs)) (w .0)
+          ∙ sym (head-is c (length rs) (recordsOf c rs) (omega arith));
+      few = few;
       each = w .2;
       order = w .3;
-      short = p .short;
+      short = p .front .short;
     }
-
--- a sheet passes every test
-sheet-passed : (c : Carrier) (rs : List Fields) (l : List ℕ) → length l ≤ 40953 → length rs ≤ 16 → recordsFrom c (length rs) 0 l ≡ records rs
-    → Passed (82 ∷ 83 ∷ 86 ∷ 0 ∷ 1 ∷ numberOf c ∷ length rs ∷ l) c rs
-sheet-passed c rs l h k e = record { short = omega arith; seven = omega arith; lettered = refl; version = refl; carrier = chosen-number c; few = k; found = e }
 
 pub sheet-taken : (s : List ℕ) (c : Carrier) (rs : List Fields) → IsSheet s c rs → takeOf s ≡ sheet c rs
 unfolding sheetOf
 sheet-taken s c rs i =
-    let long : length s ≡ 7 + length (recordsOf c rs) = ap length (i .is) ∙ length-sheet c rs in
-    let few : length rs ≤ 16 = i .few in
-    let laid : s ≡ 82 ∷ 83 ∷ 86 ∷ 0 ∷ 1 ∷ numberOf c ∷ length rs ∷ recordsOf c rs = i .is ∙ head-is c (length rs) (recordsOf c rs) (omega arith) in
-    let p = sheet-passed c rs (recordsOf c rs) (omega (arith, i .short)) few (records-read c 0 rs (i .each) (i .order)) in
-    passed-taken s c rs (rw laid p)
+    let few : length rs ≤ limit.records = i .few in
+    let laid : s ≡ fronted (numberOf c) (length rs) (recordsOf c rs) = i .is ∙ head-is c (length rs) (recordsOf c rs) (omega arith) in
+    rw laid
+    (passed-taken (fronted (numberOf c) (length rs) (recordsOf c rs)) c rs (record {
+      front = is-front (numberOf c) (length rs) (recordsOf c rs) (rw laid at (i .short));
+      carrier = chosen-number c;
+      few = few;
+      found = records-read c 0 rs (i .each) (i .order);
+    }))
 
 pub take-exactly : (s : List ℕ) (c : Carrier) (rs : List Fields) → Bytes s → (takeOf s ≡ sheet c rs) ↔ IsSheet s c rs
 take-exactly s c rs h = (taken-sheet s c rs h, sheet-taken s c rs)

@@ -11,7 +11,7 @@ use Rattle.numbers.specs.Limit as limit
 use Rattle.carriers.specs.declared.Carrier.the-variants.{Dhcp6, Router}
 use Rattle.carriers.specs.Carriers.{chosenOf}
 use Rattle.blocks.specs.Block.{nameOnly, whole}
-use Rattle.taking.specs.Taking.{same, recordsFrom, refuse, sheet, takeOf}
+use Rattle.taking.specs.Taking.{same, headOf, recordsFrom, refuse, sheet, takeOf}
 
 -- doh1.example.com
 abbrev pub name : List ℕ
@@ -41,78 +41,78 @@ k1-length : length k1 ≡ 60
 k1-length = refl
 
 pub k1-taken : takeOf k1 ≡ sheet Dhcp6 (whole 1 0 name address parameters ∷ [])
-unfolding takeOf same recordsFrom part number counted chosenOf
+unfolding takeOf headOf same recordsFrom part number counted chosenOf
 k1-taken = refl
 
 -- K3's sheet: carrier 3, name only, lifetime 3,600
 pub k3-taken : takeOf (head 3 1 ++ named 1 14 16) ≡ sheet Router (nameOnly 1 3600 name ∷ [])
-unfolding takeOf same recordsFrom part number counted chosenOf
+unfolding takeOf headOf same recordsFrom part number counted chosenOf
 k3-taken = refl
 
 -- K6's sheet: no records
 pub empty-taken : takeOf (head 2 0) ≡ sheet Dhcp6 []
-unfolding takeOf same recordsFrom part number counted chosenOf
+unfolding takeOf headOf same recordsFrom part number counted chosenOf
 empty-taken = refl
 
 pub equal-priorities : takeOf (head 2 2 ++ named 5 0 0 ++ named 5 0 0) ≡ sheet Dhcp6 (nameOnly 5 0 name ∷ nameOnly 5 0 name ∷ [])
-unfolding takeOf same recordsFrom part number counted chosenOf
+unfolding takeOf headOf same recordsFrom part number counted chosenOf
 equal-priorities = refl
 
 -- ---- refused
 
-pub long : (s : List ℕ) → 40960 < length s → takeOf s ≡ refuse refusal.input
-unfolding takeOf
+pub long : (s : List ℕ) → limit.input < length s → takeOf s ≡ refuse refusal.input
+unfolding takeOf headOf
 long s h = rw (lt-ltb limit.input (length s) h)
 
 pub too-short : takeOf (take 6 k1) ≡ refuse refusal.sheet
-unfolding takeOf
+unfolding takeOf headOf
 too-short = refl
 
 pub other-letters : takeOf (set k1 2 87) ≡ refuse refusal.sheet
-unfolding takeOf same
+unfolding takeOf headOf same
 other-letters = refl
 
 pub version-2 : takeOf (set k1 4 2) ≡ refuse refusal.version
-unfolding takeOf same
+unfolding takeOf headOf same
 version-2 = refl
 
 pub version-257 : takeOf (set k1 3 1) ≡ refuse refusal.version
-unfolding takeOf same
+unfolding takeOf headOf same
 version-257 = refl
 
 pub carrier-0 : takeOf (set k1 5 0) ≡ refuse refusal.sheetCarrier
-unfolding takeOf same chosenOf
+unfolding takeOf headOf same chosenOf
 carrier-0 = refl
 
 pub carrier-6 : takeOf (set k1 5 6) ≡ refuse refusal.sheetCarrier
-unfolding takeOf same chosenOf
+unfolding takeOf headOf same chosenOf
 carrier-6 = refl
 
 -- count above 16, though the sheet does not tile either
 pub seventeen : takeOf (set k1 6 17) ≡ refuse refusal.records
-unfolding takeOf same recordsFrom part number counted chosenOf
+unfolding takeOf headOf same recordsFrom part number counted chosenOf
 seventeen = refl
 
 pub count-too-large : takeOf (set k1 6 2) ≡ refuse refusal.tiling
-unfolding takeOf same recordsFrom part number counted chosenOf
+unfolding takeOf headOf same recordsFrom part number counted chosenOf
 count-too-large = refl
 
 pub octet-too-many : takeOf (k1 ++ (0 ∷ [])) ≡ refuse refusal.tiling
-unfolding takeOf same recordsFrom part number counted chosenOf
+unfolding takeOf headOf same recordsFrom part number counted chosenOf
 octet-too-many = refl
 
 pub octet-too-few : takeOf (take 59 k1) ≡ refuse refusal.tiling
-unfolding takeOf same recordsFrom part number counted chosenOf
+unfolding takeOf headOf same recordsFrom part number counted chosenOf
 octet-too-few = refl
 
 pub mode-2 : takeOf (set k1 13 2) ≡ refuse refusal.tiling
-unfolding takeOf same recordsFrom part number counted chosenOf
+unfolding takeOf headOf same recordsFrom part number counted chosenOf
 mode-2 = refl
 
 pub falling-priorities : takeOf (head 2 2 ++ named 2 0 0 ++ named 1 0 0) ≡ refuse refusal.tiling
-unfolding takeOf same recordsFrom part number counted chosenOf
+unfolding takeOf headOf same recordsFrom part number counted chosenOf
 falling-priorities = refl
 
 pub lifetime-misplaced : takeOf (set k1 12 1) ≡ refuse refusal.tiling
-unfolding takeOf same recordsFrom part number counted chosenOf
+unfolding takeOf headOf same recordsFrom part number counted chosenOf
 lifetime-misplaced = refl

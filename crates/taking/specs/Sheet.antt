@@ -3,15 +3,16 @@
 -- definitions.
 use mathlib.Core.Path.{_≡_}
 use mathlib.Core.Bool.{Bool, true, false}
-use mathlib.Core.List.{List, [], _∷_}
+use mathlib.Core.List.{List, [], _∷_, _++_}
 use Prim.Native.Nat.{ℕ, _/_, _%_, _≤_, _<_}
 use lib.ListN.{length}
+use Rattle.octets.specs.Numbers.{be}
 use Rattle.octets.specs.Lists.{All}
 use Rattle.numbers.specs.Limit as limit
 use Rattle.carriers.specs.declared.Carrier.{Carrier}
 use Rattle.carriers.specs.Carriers.{addressWidth, lifetimeWidth}
 use Rattle.blocks.specs.Block.{Fields}
-use Rattle.sheets.specs.Sheets.{sheetOf}
+use Rattle.sheets.specs.Sheets.{letters, edition, sheetOf}
 
 -- in mode 1 the addresses are whole and their count and the parameters' length have room; in mode 0 there are none
 abbrev pub FitsTail : ℕ → Bool → List ℕ → List ℕ → Type 0
@@ -30,6 +31,12 @@ pub record FitsRecord (c : Carrier) (r : Fields) : Type 0 where
 abbrev pub NoneFalls : ℕ → List Fields → Type 0
 NoneFalls least [] = Unit {0}
 NoneFalls least (r ∷ rs) = (least ≤ r .priority) × NoneFalls (r .priority) rs
+
+-- s is at most 40,960 octets that begin with the letters RSV, the version 1 and these two octets, whatever they and the rest are
+pub record IsHead (s : List ℕ) (carrier count : ℕ) : Type 0 where
+  pub rest : List ℕ
+  pub is : s ≡ letters ++ (be 2 edition ++ (carrier ∷ count ∷ rest))
+  pub short : length s ≤ limit.input
 
 -- s is the sheet of carrier c and records rs, which passes 2, 40, 41, 42, 4 and 43
 pub record IsSheet (s : List ℕ) (c : Carrier) (rs : List Fields) : Type 0 where

@@ -11,6 +11,7 @@ use Rattle.octets.specs.Numbers.{at16, at32}
 use Rattle.carriers.specs.declared.Carrier.{Carrier}
 use Rattle.carriers.specs.Carriers.{addressWidth}
 use Rattle.blocks.specs.Block.{Fields}
+use Rattle.records.specs.Records.{headSize, lifetimeAt, modeAt, nameLengthAt}
 use Rattle.taking.specs.declared.Spot.{Spot}
 
 -- no record: a field runs past the sheet's end, or the mode is not 0 or 1
@@ -36,15 +37,15 @@ namedAt s at n =
     record {
       good = true;
       priority = at16 s at;
-      lifetime = at32 s (at + 2);
+      lifetime = at32 s (at + lifetimeAt);
       full = false;
-      name = at + 8;
+      name = at + headSize;
       nlen = n;
-      addresses = at + 8 + n;
+      addresses = at + headSize + n;
       alen = 0;
-      parameters = at + 8 + n;
+      parameters = at + headSize + n;
       plen = 0;
-      next = at + 8 + n;
+      next = at + headSize + n;
     }
 
 -- with addresses of n octets at a and parameters of m octets at q
@@ -88,9 +89,9 @@ byMode c s mode p = cond (eqb mode 0) p (cond (eqb mode 1) (fullAt c s p) nowher
 -- the record whose first octet stands at `at`
 unfoldable pub spotOf : Carrier → List ℕ → ℕ → Spot
 spotOf c s at =
-    cond (ltb (length s - at) 8) nowhere
-    (cond (ltb (length s - at - 8) (getD s (at + 7) 0)) nowhere
-    (byMode c s (getD s (at + 6) 0) (namedAt s at (getD s (at + 7) 0))))
+    cond (ltb (length s - at) headSize) nowhere
+    (cond (ltb (length s - at - headSize) (getD s (at + nameLengthAt) 0)) nowhere
+    (byMode c s (getD s (at + modeAt) 0) (namedAt s at (getD s (at + nameLengthAt) 0))))
 
 -- the fields that stand there
 abbrev pub fieldsAt : List ℕ → Spot → Fields
@@ -110,7 +111,7 @@ pub record Inside (n at : ℕ) (p : Spot) : Type 0 where
   pub addresses : p .addresses + p .alen ≤ n
   pub parameters : p .parameters + p .plen ≤ n
   pub next : p .next ≤ n
-  pub further : p .good ≡ true → at + 8 ≤ p .next
+  pub further : p .good ≡ true → at + headSize ≤ p .next
 
 -- the numbers are of their widths
 pub record Sized (p : Spot) : Type 0 where

@@ -14,6 +14,7 @@ use Rattle.octets.specs.NumbersLaws.{bytes-at, bytes-getD}
 use Rattle.carriers.specs.declared.Carrier.{Carrier}
 use Rattle.carriers.specs.Carriers.{addressWidth}
 use Rattle.carriers.specs.CarriersLaws.{address-width}
+use Rattle.records.specs.Records.{headSize, lifetimeAt, modeAt, nameLengthAt}
 use Rattle.taking.specs.declared.Spot.{Spot}
 use Rattle.taking.specs.Spot.{nowhere, namedAt, withParts, parametersAt, addressesAt, fullAt, byMode, spotOf, Inside, Sized}
 
@@ -53,16 +54,16 @@ module _ (P : Spot → Type 0) (none : P nowhere) (c : Carrier) (s : List ℕ) w
       whole a n q m (omega arith) refl refl refl (omega arith)))))
 
   pub by-spot : (at : ℕ)
-      → ((n : ℕ) → n ≡ getD s (at + 7) 0 → at + 8 + n ≤ length s → P (namedAt s at n))
-      → ((n : ℕ) → n ≡ getD s (at + 7) 0 → at + 8 + n ≤ length s → P (fullAt c s (namedAt s at n)))
+      → ((n : ℕ) → n ≡ getD s (at + nameLengthAt) 0 → at + headSize + n ≤ length s → P (namedAt s at n))
+      → ((n : ℕ) → n ≡ getD s (at + nameLengthAt) 0 → at + headSize + n ≤ length s → P (fullAt c s (namedAt s at n)))
       → at ≤ length s → P (spotOf c s at)
   unfolding spotOf
   by-spot at named full h =
-      let n : ℕ = getD s (at + 7) 0 in
-      let mode : ℕ = getD s (at + 6) 0 in
+      let n : ℕ = getD s (at + nameLengthAt) 0 in
+      let mode : ℕ = getD s (at + modeAt) 0 in
       let p : Spot = namedAt s at n in
-      by-less P (length s - at) 8 nowhere (cond (ltb (length s - at - 8) n) nowhere (byMode c s mode p)) (λ _. none) (λ k.
-      by-less P (length s - at - 8) n nowhere (byMode c s mode p) (λ _. none) (λ j.
+      by-less P (length s - at) headSize nowhere (cond (ltb (length s - at - headSize) n) nowhere (byMode c s mode p)) (λ _. none) (λ k.
+      by-less P (length s - at - headSize) n nowhere (byMode c s mode p) (λ _. none) (λ j.
       by-equal P mode 0 p (cond (eqb mode 1) (fullAt c s p) nowhere) (λ _. named n refl (omega arith)) (λ _.
       by-equal P mode 1 (fullAt c s p) nowhere (λ _. full n refl (omega arith)) (λ _. none))))
 
@@ -98,18 +99,18 @@ module _ (s : List ℕ) (bytes : Bytes s) where
       (λ n e k.
       record {
         priority = at16-small at;
-        lifetime = at32-small (at + 2);
-        nlen = rw e (bytes-getD s (at + 7) bytes);
+        lifetime = at32-small (at + lifetimeAt);
+        nlen = rw e (bytes-getD s (at + nameLengthAt) bytes);
         alen = omega arith;
         plen = omega arith;
       })
       (λ n e k. by-full Sized none c s (namedAt s at n)
       (λ a b q m i j f g l.
-      let x : getD s (at + 8 + n) 0 ≤ 255 = omega (arith, bytes-getD s (at + 8 + n) bytes) in
+      let x : getD s (at + headSize + n) 0 ≤ 255 = omega (arith, bytes-getD s (at + headSize + n) bytes) in
       record {
         priority = at16-small at;
-        lifetime = at32-small (at + 2);
-        nlen = rw e (bytes-getD s (at + 7) bytes);
+        lifetime = at32-small (at + lifetimeAt);
+        nlen = rw e (bytes-getD s (at + nameLengthAt) bytes);
         alen = rw j (mul-le-mul x (address-width c .1));
         plen = rw g (at16-small (a + b));
       }) k)
@@ -150,24 +151,24 @@ module _ (c : Carrier) (s : List ℕ) (p : Spot) {r : Spot} where
 -- ---- the ways out of `record_at`
 
 module _ (c : Carrier) (s : List ℕ) (at : ℕ) {r : Spot} where
-  pub spot-1 : length s - at < 8 → r ≡ nowhere → r ≡ spotOf c s at
+  pub spot-1 : length s - at < headSize → r ≡ nowhere → r ≡ spotOf c s at
   unfolding spotOf
   spot-1 h e = rw (lt-ltb _ _ h) e
 
-  module _ (h : 8 ≤ length s - at) {n : ℕ} (en : n ≡ getD s (at + 7) 0) where
-    pub spot-2 : length s - at - 8 < n → r ≡ nowhere → r ≡ spotOf c s at
+  module _ (h : headSize ≤ length s - at) {n : ℕ} (en : n ≡ getD s (at + nameLengthAt) 0) where
+    pub spot-2 : length s - at - headSize < n → r ≡ nowhere → r ≡ spotOf c s at
     unfolding spotOf
     spot-2 k e = rw (le-ltb _ _ h, lt-ltb _ _ (rw en at k)) e
 
-    module _ (k : n ≤ length s - at - 8) where
-      pub spot-3 : getD s (at + 6) 0 ≡ 0 → r ≡ namedAt s at n → r ≡ spotOf c s at
+    module _ (k : n ≤ length s - at - headSize) where
+      pub spot-3 : getD s (at + modeAt) 0 ≡ 0 → r ≡ namedAt s at n → r ≡ spotOf c s at
       unfolding spotOf
       spot-3 z e = rw (le-ltb _ _ h, le-ltb _ _ (rw en at k), eq-eqb _ _ z) (rw en at e)
 
-      pub spot-4 : {p : Spot} → (getD s (at + 6) 0 ≡ 0 → ⊥) → getD s (at + 6) 0 ≡ 1 → p ≡ namedAt s at n → r ≡ fullAt c s p → r ≡ spotOf c s at
+      pub spot-4 : {p : Spot} → (getD s (at + modeAt) 0 ≡ 0 → ⊥) → getD s (at + modeAt) 0 ≡ 1 → p ≡ namedAt s at n → r ≡ fullAt c s p → r ≡ spotOf c s at
       unfolding spotOf
       spot-4 z o ep e = rw (le-ltb _ _ h, le-ltb _ _ (rw en at k), ne-eqb _ _ z, eq-eqb _ _ o) (rw en at (rw ep at e))
 
-      pub spot-5 : (getD s (at + 6) 0 ≡ 0 → ⊥) → (getD s (at + 6) 0 ≡ 1 → ⊥) → r ≡ nowhere → r ≡ spotOf c s at
+      pub spot-5 : (getD s (at + modeAt) 0 ≡ 0 → ⊥) → (getD s (at + modeAt) 0 ≡ 1 → ⊥) → r ≡ nowhere → r ≡ spotOf c s at
       unfolding spotOf
       spot-5 z o e = rw (le-ltb _ _ h, le-ltb _ _ (rw en at k), ne-eqb _ _ z, ne-eqb _ _ o) e

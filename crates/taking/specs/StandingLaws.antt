@@ -1,4 +1,4 @@
--- A loop over a sheet's records with `record_at`: its invariant is `Standing c s at rest`. A taken sheet gives it at 7 (`took-sheet`,
+-- A loop over a sheet's records with `record_at`: its invariant is `Standing c s at rest`. A taken sheet gives it at its head's end (`took-sheet`,
 -- `taken-standing`), each turn moves it to the index after a record (`standing-step`), and at the sheet's end no record is left
 -- (`standing-none`). Assumes nothing.
 use mathlib.Core.Path.{_≡_, refl, sym, ap, _∙_}
@@ -13,6 +13,8 @@ use lib.ListN.{length, getD, drop, length-drop}
 use Rattle.numbers.specs.Limit as limit
 use Rattle.carriers.specs.declared.Carrier.{Carrier}
 use Rattle.blocks.specs.Block.{Fields}
+use Rattle.records.specs.Records.{headSize}
+use Rattle.sheets.specs.Sheets.{frontSize, countAt}
 use Rattle.taking.specs.declared.Spot.{Spot}
 use Rattle.taking.specs.declared.Took.the-variants.{Refused, Sheet}
 use Rattle.taking.specs.Taking.{Records, records, onto, recordsFrom, Taken, refuse, sheet, takeOf, same}
@@ -30,8 +32,8 @@ use Rattle.taking.specs.Standing.{Standing, none, one, Stands, Step}
 past : (c : Carrier) (s : List ℕ) (at : ℕ) → length s ≤ at → spotOf c s at .good ≡ false
 unfolding spotOf
 past c s at h =
-    let k : length s - at < 8 = omega arith in
-    rw (lt-ltb (length s - at) 8 k)
+    let k : length s - at < headSize = omega arith in
+    rw (lt-ltb (length s - at) headSize k)
 
 module _ {c : Carrier} {s : List ℕ} {at : ℕ} where
   pub standing-end : Standing c s at [] ↔ (at ≡ length s)
@@ -111,10 +113,10 @@ found c s (suc n) least at h =
     go g (records rs) f = (one g refl (f .0), ap suc (f .1))
 
 -- the records of a taken sheet stand from its head's end on
-pub taken-standing : (s : List ℕ) {c : Carrier} {rs : List Fields} → takeOf s ≡ sheet c rs → Standing c s 7 rs × (length rs ≤ limit.records)
+pub taken-standing : (s : List ℕ) {c : Carrier} {rs : List Fields} → takeOf s ≡ sheet c rs → Standing c s frontSize rs × (length rs ≤ limit.records)
 taken-standing s {c} {rs} e =
     let p : Passed s c rs = taken-passed s c rs e in
-    let f : Found c s 7 (getD s 6 0) (records rs) = rw (p .found) at (found c s (getD s 6 0) 0 7 (p .seven)) in
+    let f : Found c s frontSize (getD s countAt 0) (records rs) = rw (p .found) at (found c s (getD s countAt 0) 0 frontSize (p .front .long)) in
     (f .0, omega (arith, f .1, p .few))
 
 -- ---- what the answer of `take` says
@@ -127,10 +129,10 @@ took-refused s {k} = go (takeOf s)
     go (sheet c rs) e = let z : _≡_ {A = ℕ} 0 1 = cc in absurd (omega arith)
 
 pub took-sheet : (s : List ℕ) {c : Carrier} {n : ℕ} → Sheet c n ≡ tookOf (takeOf s)
-    → (rs : List Fields) × (takeOf s ≡ sheet c rs) × (length rs ≡ n) × Standing c s 7 rs
+    → (rs : List Fields) × (takeOf s ≡ sheet c rs) × (length rs ≡ n) × Standing c s frontSize rs
 took-sheet s {c} {n} = go (takeOf s) refl
   where
-    go : (t : Taken) → takeOf s ≡ t → Sheet c n ≡ tookOf t → (rs : List Fields) × (takeOf s ≡ sheet c rs) × (length rs ≡ n) × Standing c s 7 rs
+    go : (t : Taken) → takeOf s ≡ t → Sheet c n ≡ tookOf t → (rs : List Fields) × (takeOf s ≡ sheet c rs) × (length rs ≡ n) × Standing c s frontSize rs
     go (refuse j) i e = let z : _≡_ {A = ℕ} 0 1 = cc in absurd (omega arith)
     go (sheet d rs) i e =
         let same : takeOf s ≡ sheet c rs = cc in

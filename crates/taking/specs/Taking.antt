@@ -14,7 +14,7 @@ use Rattle.carriers.specs.declared.Chosen.{Chosen}
 use Rattle.carriers.specs.declared.Chosen.the-variants.{Known, Unknown}
 use Rattle.carriers.specs.Carriers.{chosenOf, addressWidth, lifetimeWidth}
 use Rattle.blocks.specs.Block.{Fields, nameOnly, whole}
-use Rattle.sheets.specs.Sheets.{letters, edition}
+use Rattle.sheets.specs.Sheets.{letters, edition, frontSize, versionAt, carrierAt, countAt}
 
 -- the octets are the same
 unfoldable pub same : List ℕ → List ℕ → Bool
@@ -23,7 +23,23 @@ same [] (y ∷ ys) = false
 same (x ∷ xs) [] = false
 same (x ∷ xs) (y ∷ ys) = eqb x y && same xs ys
 
--- ---- the records after the head
+-- ---- the head
+
+-- what a sheet's head says: a refusal's number, or the carrier octet and the record count
+pub data Headed : Type 0 where
+  refuse : ℕ → Headed
+  head : (carrier count : ℕ) → Headed
+
+-- 2, 40, 41
+unfoldable pub headOf : List ℕ → Headed
+headOf s =
+    cond (ltb limit.input (length s)) (refuse refusal.input)
+    (cond (ltb (length s) frontSize) (refuse refusal.sheet)
+    (cond (not (same (take versionAt s) letters)) (refuse refusal.sheet)
+    (cond (not (eqb (at16 s versionAt) edition)) (refuse refusal.version)
+    (head (getD s carrierAt 0) (getD s countAt 0)))))
+
+-- ---- the records after it
 
 -- the records, or that the octets do not tile, a mode is not 0 or 1, priorities fall, or a lifetime stands where none belongs
 pub data Records : Type 0 where
@@ -71,20 +87,23 @@ pub data Taken : Type 0 where
   sheet : Carrier → List Fields → Taken
 
 -- 43
-abbrev pub takeRecords : Carrier → Records → Taken
-takeRecords c none = refuse refusal.tiling
-takeRecords c (records rs) = sheet c rs
+abbrev pub takeFound : Carrier → Records → Taken
+takeFound c none = refuse refusal.tiling
+takeFound c (records rs) = sheet c rs
 
--- 42, then 4
+-- 4, then 43
+abbrev pub takeRecords : Carrier → ℕ → List ℕ → Taken
+takeRecords c count l = cond (ltb limit.records count) (refuse refusal.records) (takeFound c (recordsFrom c count 0 l))
+
+-- 42
 abbrev pub takeCarrier : Chosen → ℕ → List ℕ → Taken
 takeCarrier Unknown count l = refuse refusal.sheetCarrier
-takeCarrier (Known c) count l = cond (ltb limit.records count) (refuse refusal.records) (takeRecords c (recordsFrom c count 0 l))
+takeCarrier (Known c) count l = takeRecords c count l
 
 -- 2, 40, 41
+abbrev pub takeHeaded : Headed → List ℕ → Taken
+takeHeaded (refuse k) l = refuse k
+takeHeaded (head carrier count) l = takeCarrier (chosenOf carrier) count l
+
 unfoldable pub takeOf : List ℕ → Taken
-takeOf s =
-    cond (ltb limit.input (length s)) (refuse refusal.input)
-    (cond (ltb (length s) 7) (refuse refusal.sheet)
-    (cond (not (same (take 3 s) letters)) (refuse refusal.sheet)
-    (cond (not (eqb (at16 s 3) edition)) (refuse refusal.version)
-    (takeCarrier (chosenOf (getD s 5 0)) (getD s 6 0) (drop 7 s)))))
+takeOf s = takeHeaded (headOf s) (drop frontSize s)

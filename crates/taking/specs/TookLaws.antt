@@ -13,13 +13,16 @@ use Rattle.octets.specs.Numbers.{at16}
 use Rattle.numbers.specs.Refusal as refusal
 use Rattle.numbers.specs.Limit as limit
 use Rattle.carriers.specs.declared.Carrier.{Carrier}
+use Rattle.carriers.specs.declared.Chosen.{Chosen}
 use Rattle.carriers.specs.declared.Chosen.the-variants.{Known, Unknown}
 use Rattle.carriers.specs.Carriers.{chosenOf, lifetimeWidth}
-use Rattle.sheets.specs.Sheets.{letters, edition}
+use Rattle.sheets.specs.Sheets.{letters, edition, frontSize, versionAt, carrierAt, countAt}
+use Rattle.taking.specs.declared.Said.the-variants.{Unfit, Head}
 use Rattle.taking.specs.declared.Took.{Took}
 use Rattle.taking.specs.declared.Took.the-variants.{Refused, Sheet}
-use Rattle.taking.specs.Taking.{same, misplaced, Records, none, records, recordsFrom, takeRecords, takeCarrier, takeOf}
-use Rattle.taking.specs.Took.{tookOf, some}
+use Rattle.taking.specs.Taking.{same, Headed, refuse, head, headOf, misplaced, Records, none, records, recordsFrom, takeFound, takeRecords, takeCarrier, takeOf}
+use Rattle.taking.specs.Took.{saidOf, tookOf, some}
+use Rattle.taking.specs.TakenLaws.{headed-front}
 use Rattle.taking.specs.StandingLaws.{Found, found}
 
 -- ---- a lifetime where none belongs
@@ -63,55 +66,81 @@ module _ (a b : List ℕ) (i : ℕ) (even : length a ≡ length b) where
       let k : length b ≤ i = omega arith in
       rw (drop-of-length-le a h, drop-of-length-le b k)
 
+-- ---- 2, 40, 41
+
+module _ (s : List ℕ) where
+  pub head-1 : limit.input < length s → Unfit refusal.input ≡ saidOf (headOf s)
+  unfolding headOf
+  head-1 h = rw (lt-ltb limit.input (length s) h)
+
+  module _ (h : length s ≤ limit.input) where
+    pub head-2 : length s < frontSize → Unfit refusal.sheet ≡ saidOf (headOf s)
+    unfolding headOf
+    head-2 k = rw (le-ltb limit.input (length s) h, lt-ltb (length s) frontSize k)
+
+    module _ (k : frontSize ≤ length s) where
+      pub head-3 : false ≡ same (take versionAt s) letters → Unfit refusal.sheet ≡ saidOf (headOf s)
+      unfolding headOf
+      head-3 e = rw (le-ltb limit.input (length s) h, le-ltb (length s) frontSize k, ← e)
+
+      module _ (e : true ≡ same (take versionAt s) letters) where
+        pub head-4 : (at16 s versionAt ≡ edition → ⊥) → Unfit refusal.version ≡ saidOf (headOf s)
+        unfolding headOf
+        head-4 v = rw (le-ltb limit.input (length s) h, le-ltb (length s) frontSize k, ← e, ne-eqb (at16 s versionAt) edition v)
+
+        pub head-5 : at16 s versionAt ≡ edition → {x n : ℕ} → x ≡ getD s carrierAt 0 → n ≡ getD s countAt 0 → Head x n ≡ saidOf (headOf s)
+        unfolding headOf
+        head-5 v ex en = rw (le-ltb limit.input (length s) h, le-ltb (length s) frontSize k, ← e, eq-eqb (at16 s versionAt) edition v, ex, en)
+
 -- ---- 4 and 43
 
 module _ (c : Carrier) (s : List ℕ) (n : ℕ) where
-  pub records-1 : limit.records < n → Refused refusal.records ≡ tookOf (takeCarrier (Known c) n (drop 7 s))
+  pub records-1 : limit.records < n → Refused refusal.records ≡ tookOf (takeRecords c n (drop frontSize s))
   records-1 h = rw (lt-ltb limit.records n h)
 
-  module _ (inside : 7 ≤ length s) (h : n ≤ limit.records) where
-    pub records-2 : true ≡ some (recordsFrom c n 0 (drop 7 s)) → Sheet c n ≡ tookOf (takeCarrier (Known c) n (drop 7 s))
-    records-2 e = rw (le-ltb limit.records n h) (go (recordsFrom c n 0 (drop 7 s)) e (found c s n 0 7 inside))
+  module _ (inside : frontSize ≤ length s) (h : n ≤ limit.records) where
+    pub records-2 : true ≡ some (recordsFrom c n 0 (drop frontSize s)) → Sheet c n ≡ tookOf (takeRecords c n (drop frontSize s))
+    records-2 e = rw (le-ltb limit.records n h) (go (recordsFrom c n 0 (drop frontSize s)) e (found c s n 0 frontSize inside))
       where
-        go : (x : Records) → true ≡ some x → Found c s 7 n x → Sheet c n ≡ tookOf (takeRecords c x)
+        go : (x : Records) → true ≡ some x → Found c s frontSize n x → Sheet c n ≡ tookOf (takeFound c x)
         go none e f = absurd (false≢true (sym e))
         go (records rs) e f = ap (Sheet c) (sym (f .1))
 
-    pub records-3 : false ≡ some (recordsFrom c n 0 (drop 7 s)) → Refused refusal.tiling ≡ tookOf (takeCarrier (Known c) n (drop 7 s))
-    records-3 e = rw (le-ltb limit.records n h) (go (recordsFrom c n 0 (drop 7 s)) e)
+    pub records-3 : false ≡ some (recordsFrom c n 0 (drop frontSize s)) → Refused refusal.tiling ≡ tookOf (takeRecords c n (drop frontSize s))
+    records-3 e = rw (le-ltb limit.records n h) (go (recordsFrom c n 0 (drop frontSize s)) e)
       where
-        go : (x : Records) → false ≡ some x → Refused refusal.tiling ≡ tookOf (takeRecords c x)
+        go : (x : Records) → false ≡ some x → Refused refusal.tiling ≡ tookOf (takeFound c x)
         go none e = refl
         go (records rs) e = absurd (false≢true e)
 
--- ---- 2, 40, 41, 42
+-- ---- 42, and the whole
 
 module _ (s : List ℕ) where
-  pub take-1 : limit.input < length s → Refused refusal.input ≡ tookOf (takeOf s)
+  module _ (x n : ℕ) {o : Chosen} (e : o ≡ chosenOf x) where
+    pub carrier-1 : o ≡ Unknown → Refused refusal.sheetCarrier ≡ tookOf (takeCarrier (chosenOf x) n (drop frontSize s))
+    carrier-1 u = let i : chosenOf x ≡ Unknown = sym e ∙ u in rw i
+
+    pub carrier-2 : {c : Carrier} {r : Took} → o ≡ Known c → r ≡ tookOf (takeRecords c n (drop frontSize s))
+        → r ≡ tookOf (takeCarrier (chosenOf x) n (drop frontSize s))
+    carrier-2 {c} u i = let j : chosenOf x ≡ Known c = sym e ∙ u in rw j i
+
+  said-unfit : (h : Headed) {k : ℕ} → Unfit k ≡ saidOf h → h ≡ refuse k
+  said-unfit (refuse j) e = cc
+  said-unfit (head x n) e = let z : _≡_ {A = ℕ} 0 1 = cc in absurd (omega arith)
+
+  said-head : (h : Headed) {x n : ℕ} → Head x n ≡ saidOf h → h ≡ head x n
+  said-head (refuse j) e = let z : _≡_ {A = ℕ} 0 1 = cc in absurd (omega arith)
+  said-head (head y m) e = cc
+
+  pub take-1 : {k : ℕ} → Unfit k ≡ saidOf (headOf s) → Refused k ≡ tookOf (takeOf s)
   unfolding takeOf
-  take-1 h = rw (lt-ltb limit.input (length s) h)
+  take-1 e = rw (said-unfit (headOf s) e)
 
-  module _ (h : length s ≤ limit.input) where
-    pub take-2 : length s < 7 → Refused refusal.sheet ≡ tookOf (takeOf s)
+  module _ {x n : ℕ} (e : Head x n ≡ saidOf (headOf s)) where
+    -- there is a head
+    pub take-long : frontSize ≤ length s
+    take-long = headed-front s (said-head (headOf s) e) .0 .long
+
+    pub take-2 : {r : Took} → r ≡ tookOf (takeCarrier (chosenOf x) n (drop frontSize s)) → r ≡ tookOf (takeOf s)
     unfolding takeOf
-    take-2 k = rw (le-ltb limit.input (length s) h, lt-ltb (length s) 7 k)
-
-    module _ (k : 7 ≤ length s) where
-      pub take-3 : false ≡ same (take 3 s) letters → Refused refusal.sheet ≡ tookOf (takeOf s)
-      unfolding takeOf
-      take-3 e = rw (le-ltb limit.input (length s) h, le-ltb (length s) 7 k, ← e)
-
-      module _ (e : true ≡ same (take 3 s) letters) where
-        pub take-4 : (at16 s 3 ≡ edition → ⊥) → Refused refusal.version ≡ tookOf (takeOf s)
-        unfolding takeOf
-        take-4 v = rw (le-ltb limit.input (length s) h, le-ltb (length s) 7 k, ← e, ne-eqb (at16 s 3) edition v)
-
-        module _ (v : at16 s 3 ≡ edition) where
-          pub take-5 : chosenOf (getD s 5 0) ≡ Unknown → Refused refusal.sheetCarrier ≡ tookOf (takeOf s)
-          unfolding takeOf
-          take-5 o = rw (le-ltb limit.input (length s) h, le-ltb (length s) 7 k, ← e, eq-eqb (at16 s 3) edition v, o)
-
-          pub take-6 : (c : Carrier) {r : Took} → chosenOf (getD s 5 0) ≡ Known c
-              → r ≡ tookOf (takeCarrier (Known c) (getD s 6 0) (drop 7 s)) → r ≡ tookOf (takeOf s)
-          unfolding takeOf
-          take-6 c o i = rw (le-ltb limit.input (length s) h, le-ltb (length s) 7 k, ← e, eq-eqb (at16 s 3) edition v, o) i
+    take-2 i = rw (said-head (headOf s) e) i

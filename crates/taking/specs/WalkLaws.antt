@@ -14,6 +14,7 @@ use Rattle.octets.specs.Fields.{part, number, counted}
 use Rattle.carriers.specs.declared.Carrier.{Carrier}
 use Rattle.carriers.specs.Carriers.{addressWidth}
 use Rattle.blocks.specs.Block.{Fields, nameOnly, whole}
+use Rattle.records.specs.Records.{headSize, lifetimeAt, modeAt, nameLengthAt}
 use Rattle.taking.specs.declared.Spot.{Spot}
 use Rattle.taking.specs.Taking.{Records, none, records, onto, misplaced, fullFields, oneRecord, recordsFrom}
 use Rattle.taking.specs.Took.{some}
@@ -142,7 +143,7 @@ module _ (c : Carrier) (least : ℕ) (next : Fields → List ℕ → Records) wh
       (cond (eqb mode 1) (fullFields c priority lifetime name l next) none))
 
   -- fewer than 8 octets are no record
-  one-short : (l : List ℕ) → length l < 8 → oneRecord c least l next ≡ none
+  one-short : (l : List ℕ) → length l < headSize → oneRecord c least l next ≡ none
   unfolding counted
   one-short l h =
       number-then-short none 2 l _ (λ priority l1 e1.
@@ -150,28 +151,28 @@ module _ (c : Carrier) (least : ℕ) (next : Fields → List ℕ → Records) wh
       number-then-short none 1 l2 _ (λ mode l3 e3.
       number-short none 1 l3 _ (omega arith))))
 
-  module _ (s : List ℕ) (at : ℕ) (inside : at ≤ length s) (eight : 8 ≤ length s - at) where
+  module _ (s : List ℕ) (at : ℕ) (inside : at ≤ length s) (eight : headSize ≤ length s - at) where
     -- the eight octets before the name
     head-at : oneRecord c least (drop at s) next
-        ≡ part none (getD s (at + 7) 0) (drop (at + 8) s) (afterName (at16 s at) (at32 s (at + 2)) (getD s (at + 6) 0))
+        ≡ part none (getD s (at + nameLengthAt) 0) (drop (at + headSize) s) (afterName (at16 s at) (at32 s (at + lifetimeAt)) (getD s (at + modeAt) 0))
     unfolding counted
     head-at =
         let p : ℕ = at16 s at in
-        let t : ℕ = at32 s (at + 2) in
-        let m : ℕ = getD s (at + 6) 0 in
-        let n : ℕ = getD s (at + 7) 0 in
-        number-at none s at inside 2 p (at + 2) _ (at16-val s at (omega arith)) refl (omega arith)
-        ∙ number-at none s (at + 2) (omega arith) 4 t (at + 6) _ (at32-val s (at + 2) (omega arith)) (omega arith) (omega arith)
-        ∙ number-at none s (at + 6) (omega arith) 1 m (at + 7) _ (octet-val none s (at + 6) (omega arith) (omega arith)) (omega arith) (omega arith)
-        ∙ number-at none s (at + 7) (omega arith) 1 n (at + 8) _ (octet-val none s (at + 7) (omega arith) (omega arith)) (omega arith) (omega arith)
+        let t : ℕ = at32 s (at + lifetimeAt) in
+        let m : ℕ = getD s (at + modeAt) 0 in
+        let n : ℕ = getD s (at + nameLengthAt) 0 in
+        number-at none s at inside 2 p (at + lifetimeAt) _ (at16-val s at (omega arith)) refl (omega arith)
+        ∙ number-at none s (at + lifetimeAt) (omega arith) 4 t (at + modeAt) _ (at32-val s (at + lifetimeAt) (omega arith)) (omega arith) (omega arith)
+        ∙ number-at none s (at + modeAt) (omega arith) 1 m (at + nameLengthAt) _ (octet-val none s (at + modeAt) (omega arith) (omega arith)) (omega arith) (omega arith)
+        ∙ number-at none s (at + nameLengthAt) (omega arith) 1 n (at + headSize) _ (octet-val none s (at + nameLengthAt) (omega arith) (omega arith)) (omega arith) (omega arith)
 
-    name-at : getD s (at + 7) 0 ≤ length s - at - 8
-        → afterName (at16 s at) (at32 s (at + 2)) (getD s (at + 6) 0) (take (getD s (at + 7) 0) (drop (at + 8) s)) (drop (at + 8 + getD s (at + 7) 0) s)
-        ≡ onRecord c least s (byMode c s (getD s (at + 6) 0) (namedAt s at (getD s (at + 7) 0))) next
-    name-at h = go (eqb (getD s (at + 6) 0) 0) (eqb (getD s (at + 6) 0) 1)
+    name-at : getD s (at + nameLengthAt) 0 ≤ length s - at - headSize
+        → afterName (at16 s at) (at32 s (at + lifetimeAt)) (getD s (at + modeAt) 0) (take (getD s (at + nameLengthAt) 0) (drop (at + headSize) s)) (drop (at + headSize + getD s (at + nameLengthAt) 0) s)
+        ≡ onRecord c least s (byMode c s (getD s (at + modeAt) 0) (namedAt s at (getD s (at + nameLengthAt) 0))) next
+    name-at h = go (eqb (getD s (at + modeAt) 0) 0) (eqb (getD s (at + modeAt) 0) 1)
       where
         n : ℕ
-        n = getD s (at + 7) 0
+        n = getD s (at + nameLengthAt) 0
 
         p : Spot
         p = namedAt s at n
@@ -184,7 +185,7 @@ module _ (c : Carrier) (least : ℕ) (next : Fields → List ℕ → Records) wh
 
         go : (z o : Bool) → tested c least (p .priority) (p .lifetime)
             (cond z (next (fieldsAt s p) (drop (p .next) s))
-            (cond o (fullFields c (p .priority) (p .lifetime) (take n (drop (at + 8) s)) (drop (p .next) s) next) none))
+            (cond o (fullFields c (p .priority) (p .lifetime) (take n (drop (at + headSize) s)) (drop (p .next) s) next) none))
             ≡ onRecord c least s (cond z p (cond o full nowhere)) next
         go true o = refl
         go false true =
@@ -197,18 +198,18 @@ module _ (c : Carrier) (least : ℕ) (next : Fields → List ℕ → Records) wh
   pub one-at : (s : List ℕ) (at : ℕ) → at ≤ length s → oneRecord c least (drop at s) next ≡ onRecord c least s (spotOf c s at) next
   unfolding spotOf
   one-at s at h =
-      let n : ℕ = getD s (at + 7) 0 in
-      let mode : ℕ = getD s (at + 6) 0 in
+      let n : ℕ = getD s (at + nameLengthAt) 0 in
+      let mode : ℕ = getD s (at + modeAt) 0 in
       let p : Spot = namedAt s at n in
-      let after : List ℕ → List ℕ → Records = afterName (at16 s at) (at32 s (at + 2)) mode in
+      let after : List ℕ → List ℕ → Records = afterName (at16 s at) (at32 s (at + lifetimeAt)) mode in
       let Is : Spot → Type 0 = λ r. oneRecord c least (drop at s) next ≡ onRecord c least s r next in
-      by-less Is (length s - at) 8 nowhere (cond (ltb (length s - at - 8) n) nowhere (byMode c s mode p))
+      by-less Is (length s - at) headSize nowhere (cond (ltb (length s - at - headSize) n) nowhere (byMode c s mode p))
       (λ k. one-short (drop at s) (rw (length-drop at s) k)) (λ k.
       let head = head-at s at h k in
-      let inside : at + 8 ≤ length s = omega arith in
-      by-less Is (length s - at - 8) n nowhere (byMode c s mode p)
-      (λ j. head ∙ part-past none s (at + 8) inside n after (omega arith))
-      (λ j. head ∙ part-at none s (at + 8) inside n (at + 8 + n) after refl (omega arith) ∙ name-at s at h k j))
+      let inside : at + headSize ≤ length s = omega arith in
+      by-less Is (length s - at - headSize) n nowhere (byMode c s mode p)
+      (λ j. head ∙ part-past none s (at + headSize) inside n after (omega arith))
+      (λ j. head ∙ part-at none s (at + headSize) inside n (at + headSize + n) after refl (omega arith) ∙ name-at s at h k j))
 
 -- so many records: the one at an index and those after it
 pub records-at : (c : Carrier) (n least : ℕ) (s : List ℕ) (at : ℕ) → at ≤ length s

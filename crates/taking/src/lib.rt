@@ -1,20 +1,30 @@
-// Taking a record sheet apart (document 01, "The record sheet"): the tests 2, 40, 41, 42, 4 and 43, in this order, before anything is
-// written from a sheet. `take` says which number refuses the octets, or the sheet's carrier and how many records it has; `record_at` says
+// Taking a record sheet apart (document 01, "The record sheet"): the tests of its head (2, 40, 41), of its carrier (42) and of its records
+// (4, 43), in this order, before anything is written from a sheet. `take` says which number refuses the octets, or the sheet's carrier and how many records it has; `record_at` says
 // where the fields of one record stand, so that a caller goes through a taken sheet from its head's end on without copying.
 // Here stand only the sheet's form, its order and its lifetimes: names, addresses and parameters are not looked at.
 ghost use mathlib.Core.Path.{_≡_};
 ghost use Prim.Native.Nat.{_+_, _≤_, _<_};
 ghost use lib.ListN.{length, drop};
-ghost use Rattle.taking.specs.Taking.{recordsFrom, takeCarrier, takeOf};
+ghost use Rattle.carriers.specs.Carriers.{chosenOf};
+ghost use Rattle.records.specs.Records.{headSize};
+ghost use Rattle.sheets.specs.Sheets.{frontSize};
+ghost use Rattle.taking.specs.Taking.{headOf, recordsFrom, takeRecords, takeCarrier, takeOf};
 ghost use Rattle.taking.specs.Taking as taking;
-ghost use Rattle.taking.specs.Took.{tookOf, some};
+ghost use Rattle.taking.specs.Took.{saidOf, tookOf, some};
 ghost use Rattle.taking.specs.Spot.{namedAt, fullAt, spotOf, Inside, Sized};
 ghost use Rattle.taking.specs.Spot as spot;
-ghost use Rattle.carriers.specs.declared.Chosen.the-variants.{Known};
 use carriers::Carrier;
 use carriers::Chosen;
 use numbers::Limit;
 use numbers::Refusal;
+
+// What a sheet's head says.
+enum Said {
+    // The number of the first test that fails.
+    Unfit(usize),
+    // The octet of the carrier, and the count of records.
+    Head { carrier: usize, count: usize },
+}
 
 // What taking a sheet answers.
 pub enum Took {
@@ -62,15 +72,15 @@ fn nowhere() -> Spot
 
 // The record at `at` as far as its name of `nlen` octets.
 fn named_at(s: &[u8], at: usize, nlen: usize) -> Spot
-    requires { ⌜ at + 8 + nlen ≤ length (now s) ⌝ }
+    requires { ⌜ at + headSize + nlen ≤ length (now s) ⌝ }
     ensures { λ r. ⌜ r ≡ namedAt (now (s .entry)) at nlen ⌝ }
 {
-    let name = at + 8;
+    let name = at + records::HEAD;
     let after = name + nlen;
     Spot {
         good: true,
         priority: octets::get16(s, at),
-        lifetime: octets::get32(s, at + 2),
+        lifetime: octets::get32(s, at + records::LIFETIME_AT),
         full: false,
         name,
         nlen,
@@ -129,15 +139,15 @@ pub fn record_at(c: Carrier, s: &[u8], at: usize) -> Spot
     ensures { λ r. ⌜ Sized r ⌝ }
 {
     let left = s.len() - at;
-    if left < 8 {
+    if left < records::HEAD {
         return nowhere();
     }
-    let nlen = octets::wide(s[at + 7]);
-    if left - 8 < nlen {
+    let nlen = octets::wide(s[at + records::NAME_LENGTH_AT]);
+    if left - records::HEAD < nlen {
         return nowhere();
     }
     let p = named_at(s, at, nlen);
-    let mode = s[at + 6];
+    let mode = s[at + records::MODE_AT];
     if mode == 0 {
         return p;
     }
@@ -159,8 +169,8 @@ fn misplaced(c: Carrier, lifetime: usize) -> bool
 
 // Whether exactly `count` records follow the head of `s`, by rising priority and with no lifetime where none belongs.
 fn stand(c: Carrier, s: &[u8], count: usize) -> bool
-    requires { ⌜ 7 ≤ length (now s) ⌝ }
-    ensures { λ r. ⌜ r ≡ some (recordsFrom c count 0 (drop 7 (now (s .entry)))) ⌝ }
+    requires { ⌜ frontSize ≤ length (now s) ⌝ }
+    ensures { λ r. ⌜ r ≡ some (recordsFrom c count 0 (drop frontSize (now (s .entry)))) ⌝ }
 {
     let mut at = sheets::FRONT;
     let mut least: usize = 0;
@@ -200,10 +210,33 @@ fn same(a: &[u8], b: &[u8]) -> bool
     true
 }
 
+// The tests 2, 40, 41.
+fn head(s: &[u8]) -> Said
+    ensures { λ r. ⌜ r ≡ saidOf (headOf (now (s .entry))) ⌝ }
+{
+    if Limit::INPUT < s.len() {
+        return Said::Unfit(Refusal::INPUT);
+    }
+    if s.len() < sheets::FRONT {
+        return Said::Unfit(Refusal::SHEET);
+    }
+    let letters = sheets::LETTERS;
+    if !same(&s[..sheets::VERSION_AT], &letters) {
+        return Said::Unfit(Refusal::SHEET);
+    }
+    if octets::get16(s, sheets::VERSION_AT) != sheets::EDITION {
+        return Said::Unfit(Refusal::VERSION);
+    }
+    Said::Head {
+        carrier: octets::wide(s[sheets::CARRIER_AT]),
+        count: octets::wide(s[sheets::COUNT_AT]),
+    }
+}
+
 // The tests 4 and 43 on what follows the head of a sheet of carrier `c`.
 fn take_records(c: Carrier, s: &[u8], count: usize) -> Took
-    requires { ⌜ 7 ≤ length (now s) ⌝ }
-    ensures { λ r. ⌜ r ≡ tookOf (takeCarrier (Known c) count (drop 7 (now (s .entry)))) ⌝ }
+    requires { ⌜ frontSize ≤ length (now s) ⌝ }
+    ensures { λ r. ⌜ r ≡ tookOf (takeRecords c count (drop frontSize (now (s .entry)))) ⌝ }
 {
     if Limit::RECORDS < count {
         return Took::Refused(Refusal::RECORDS);
@@ -214,26 +247,24 @@ fn take_records(c: Carrier, s: &[u8], count: usize) -> Took
     Took::Refused(Refusal::TILING)
 }
 
+// The test 42, then 4 and 43.
+fn take_carrier(carrier: usize, s: &[u8], count: usize) -> Took
+    requires { ⌜ frontSize ≤ length (now s) ⌝ }
+    ensures { λ r. ⌜ r ≡ tookOf (takeCarrier (chosenOf carrier) count (drop frontSize (now (s .entry)))) ⌝ }
+{
+    let chosen = Carrier::of(carrier);
+    let Chosen::Known(c) = chosen else {
+        return Took::Refused(Refusal::SHEET_CARRIER);
+    };
+    take_records(c, s, count)
+}
+
 // The tests 2, 40, 41, 42, 4, 43.
 pub fn take(s: &[u8]) -> Took
     ensures { λ r. ⌜ r ≡ tookOf (takeOf (now (s .entry))) ⌝ }
 {
-    if Limit::INPUT < s.len() {
-        return Took::Refused(Refusal::INPUT);
+    match head(s) {
+        Said::Unfit(k) => Took::Refused(k),
+        Said::Head { carrier, count } => take_carrier(carrier, s, count),
     }
-    if s.len() < sheets::FRONT {
-        return Took::Refused(Refusal::SHEET);
-    }
-    let letters = sheets::LETTERS;
-    if !same(&s[..3], &letters) {
-        return Took::Refused(Refusal::SHEET);
-    }
-    if octets::get16(s, 3) != sheets::EDITION {
-        return Took::Refused(Refusal::VERSION);
-    }
-    let chosen = Carrier::of(octets::wide(s[5]));
-    let Chosen::Known(c) = chosen else {
-        return Took::Refused(Refusal::SHEET_CARRIER);
-    };
-    take_records(c, s, octets::wide(s[6]))
 }

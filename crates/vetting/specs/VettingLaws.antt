@@ -19,7 +19,6 @@ use Rattle.judge.specs.Judge.{faultOf}
 use Rattle.judge.specs.Passed.{Passed}
 use Rattle.judge.specs.JudgeLaws.{fault-passed, passed-fault}
 use Rattle.judge.specs.Numbered.{FaultNumber, fault-number}
-use Rattle.layouts.specs.Writable.{mostOption}
 use Rattle.taking.specs.declared.Took.the-variants as took
 use Rattle.taking.specs.Taking.{Taken, takeOf}
 use Rattle.taking.specs.Taking as taking
@@ -32,7 +31,7 @@ use Rattle.vetting.specs.declared.Vetted as returned
 use Rattle.vetting.specs.declared.Vetted.the-variants.{Refused, Sheet}
 use Rattle.vetting.specs.declared.Weighed.{Weighed}
 use Rattle.vetting.specs.Vetting.{Vetted, refuse, sheet, firstFault, vetRecords, vetTaken, vetOf, streamOf, anyLarge, told}
-use Rattle.vetting.specs.Weighing.{recordsIn, recordsOf, TakenAs, Weighs}
+use Rattle.vetting.specs.Weighing.{recordsIn, recordsOf, TakenAs, most, Weighs}
 use Rattle.vetting.specs.WeighingLaws.{stream-small}
 
 -- ---- records without a fault
@@ -161,7 +160,7 @@ told-sheet s {c} {n} {l} {z} = go (vetOf s) refl
     go (sheet d rs) i e = record { records = rs; vetted = cc; counts = cc; larges = cc; sizes = cc }
 
 -- the octets of at most 16 records
-pub vetted-small : (s : List ℕ) {c : Carrier} {rs : List Fields} → Bytes s → vetOf s ≡ sheet c rs → length (streamOf c rs) ≤ mostOption * limit.records
+pub vetted-small : (s : List ℕ) {c : Carrier} {rs : List Fields} → Bytes s → vetOf s ≡ sheet c rs → length (streamOf c rs) ≤ most * limit.records
 vetted-small s {c} {rs} octets e =
     let t = vetted-taken s e in
     let i : IsSheet s c rs = taken-sheet s c rs octets (t .0) in

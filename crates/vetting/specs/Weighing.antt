@@ -15,7 +15,7 @@ use Rattle.judge.specs.declared.Side.the-variants.{Writing}
 use Rattle.judge.specs.declared.Judged.{Judged}
 use Rattle.judge.specs.Judge.{judgedOf, faultOf}
 use Rattle.layouts.specs.Layouts.{ownOption, instanceOf}
-use Rattle.layouts.specs.Writable.{optionOctets, instanceOctets, mostAddresses, mostOption}
+use Rattle.layouts.specs.Writable.{optionOctets, instanceOctets, mostAddresses, mostBody}
 use Rattle.taking.specs.declared.Spot.{Spot}
 use Rattle.taking.specs.Taking.{Taken, refuse, sheet, takeOf}
 use Rattle.taking.specs.Sheet.{FitsRecord}
@@ -75,12 +75,16 @@ pub record Light (n a p : ℕ) : Type 0 where
 
 -- ---- what the pass finds
 
+-- a record's share has no more octets than these, whatever its carrier: a header of 4, and the body
+abbrev pub most : ℕ
+most = 4 + mostBody
+
 -- of one record: its fault; or 0, whether it is large, and its octets
 pub record WeighsOne (c : Carrier) (r : Fields) (w : Weighed) : Type 0 where
   pub first : w .fault ≡ faultOf Writing c r
   pub large-is : w .fault ≡ 0 → w .large ≡ large c r
   pub size-is : w .fault ≡ 0 → w .size ≡ length (shareOf c r)
-  pub small : w .size ≤ mostOption
+  pub small : w .size ≤ most
 
 -- of all records
 pub record Weighs (c : Carrier) (rs : List Fields) (w : Weighed) : Type 0 where
@@ -96,4 +100,4 @@ pub record Weighing (c : Carrier) (s : List ℕ) (rs : List Fields) (at : ℕ) (
   pub faults : firstFault c rs ≡ firstFault c rest
   pub larges : anyLarge c rs ≡ (large || anyLarge c rest)
   pub sizes : length (streamOf c rs) ≡ size + length (streamOf c rest)
-  pub small : size + mostOption * length rest ≤ mostOption * limit.records
+  pub small : size + most * length rest ≤ most * limit.records

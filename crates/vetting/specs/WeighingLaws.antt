@@ -23,7 +23,7 @@ use Rattle.judge.specs.declared.Judged.{Judged}
 use Rattle.judge.specs.Judge.{faultOf}
 use Rattle.judge.specs.Passed.{Passed}
 use Rattle.judge.specs.JudgeLaws.{fault-passed, written-name}
-use Rattle.layouts.specs.Writable.{optionOctets, instanceOctets, mostOption}
+use Rattle.layouts.specs.Writable.{overhead, optionOctets, instanceOctets}
 use Rattle.layouts.specs.Layouts.{ownOption, instanceOf, joinedOf}
 use Rattle.layouts.specs.LayoutsLaws.{header-small, own-length, instance-length, body-small, few-addresses}
 use Rattle.records.specs.Records.{headSize}
@@ -36,7 +36,7 @@ use Rattle.taking.specs.StandingLaws.{standing-none, standing-step, taken-stand
 use Rattle.taking.specs.Exactly.{taken-sheet}
 use Rattle.vetting.specs.declared.Weighed.{Weighed}
 use Rattle.vetting.specs.Vetting.{streamOf, firstFault, large, anyLarge}
-use Rattle.vetting.specs.Weighing.{recordsOf, TakenAs, cutAt, judgedBy, shareOf, shareOctets, weightOf, largeBy, Light, WeighsOne, Weighs, Weighing}
+use Rattle.vetting.specs.Weighing.{recordsOf, TakenAs, cutAt, judgedBy, shareOf, shareOctets, weightOf, largeBy, Light, most, WeighsOne, Weighs, Weighing}
 
 -- ---- octets
 
@@ -89,10 +89,10 @@ module _ (c : Carrier) {f : Facts} (row : f ≡ factsOf c) where
     pub share-other : f .joined ≡ false → optionOctets c full n a p ≡ shareOctets c full n a p
     share-other e = let i : isJoined c ≡ false = ap (λ (f : Facts). f .joined) (sym row) ∙ e in rw i
 
-share-small : (c : Carrier) (full : Bool) (n a p : ℕ) → shareOctets c full n a p ≤ 23 + (n + a + p)
+share-small : (c : Carrier) (full : Bool) (n a p : ℕ) → shareOctets c full n a p ≤ 4 + (overhead + (n + a + p))
 share-small c full n a p = go (isJoined c)
   where
-    go : (j : Bool) → cond j (instanceOctets full n a p) (optionOctets c full n a p) ≤ 23 + (n + a + p)
+    go : (j : Bool) → cond j (instanceOctets full n a p) (optionOctets c full n a p) ≤ 4 + (overhead + (n + a + p))
     go true = omega (arith, body-small Dhcp4 full n a p)
     go false = omega (arith, header-small c, body-small c full n a p)
 
@@ -114,13 +114,13 @@ passed-light c r f e =
     go h k false u t p = record { some = h; name = k; addresses = rw (t .0) (omega arith); parameters = rw (t .1) (omega arith) }
 
 -- so are records that have a place in a sheet and no fault, one after another
-pub stream-small : (c : Carrier) (rs : List Fields) → All (FitsRecord c) rs → firstFault c rs ≡ 0 → length (streamOf c rs) ≤ mostOption * length rs
+pub stream-small : (c : Carrier) (rs : List Fields) → All (FitsRecord c) rs → firstFault c rs ≡ 0 → length (streamOf c rs) ≤ most * length rs
 unfolding firstFault
 stream-small c [] f e = omega (arith, ap length (stream-none c))
 stream-small c (r ∷ rs) f e = go (eqb (faultOf Writing c r) 0) refl (stream-small c rs (f .1)) e
   where
-    go : (none : Bool) → eqb (faultOf Writing c r) 0 ≡ none → (firstFault c rs ≡ 0 → length (streamOf c rs) ≤ mostOption * length rs)
-        → cond none (firstFault c rs) (faultOf Writing c r) ≡ 0 → length (streamOf c (r ∷ rs)) ≤ mostOption * suc (length rs)
+    go : (none : Bool) → eqb (faultOf Writing c r) 0 ≡ none → (firstFault c rs ≡ 0 → length (streamOf c rs) ≤ most * length rs)
+        → cond none (firstFault c rs) (faultOf Writing c r) ≡ 0 → length (streamOf c (r ∷ rs)) ≤ most * suc (length rs)
     go true t ih e =
         let l = passed-light c r (f .0) (eqb-true _ _ t) in
         let k = share-small c (r .full) (length (r .name)) (length (r .addresses)) (length (r .parameters)) in

@@ -11,10 +11,10 @@ use Rattle.octets.specs.Over.{over, Wrote}
 use Rattle.numbers.specs.Refusal as refusal
 use Rattle.numbers.specs.Limit as limit
 use Rattle.carriers.specs.declared.Carrier.{Carrier}
-use Rattle.layouts.specs.Writable.{mostOption}
 use Rattle.vetting.specs.declared.Vetted.the-variants.{Refused, Sheet}
 use Rattle.vetting.specs.Vetting.{Vetted, vetOf, anyLarge}
 use Rattle.vetting.specs.Vetting as vetting
+use Rattle.vetting.specs.Weighing.{most}
 use Rattle.vetting.specs.VettingLaws.{told-refused, told-sheet, vetted-small}
 use Rattle.written.specs.Writing.{octetsOf, Answer, refuse, written, writeRecords, writeVetted, writeOf, numberIn}
 use Rattle.written.specs.AcceptedLaws.{vetted-accepted}
@@ -70,7 +70,7 @@ module _ (s : List ℕ) (room : ℕ) where
 -- ---- 44, 5
 
 module _ {c : Carrier} {s : List ℕ} {big : Bool} {size : ℕ} (f : Found c s big size) where
-  pub found-small : Bytes s → size ≤ mostOption * limit.records
+  pub found-small : Bytes s → size ≤ most * limit.records
   found-small octets = omega (arith, f .sizes, vetted-small s octets (f .vetted))
 
   pub found-ready : Bytes s → big ≡ false → Ready c s

@@ -9,10 +9,10 @@ ghost use lib.ListN.{length};
 ghost use Rattle.octets.specs.Over.{Wrote};
 ghost use Rattle.numbers.specs.Limit as limit;
 ghost use Rattle.carriers.specs.Carriers.{isJoined};
-ghost use Rattle.layouts.specs.Writable.{Writable, mostOption};
+ghost use Rattle.layouts.specs.Writable.{Writable};
 ghost use Rattle.taking.specs.Spot.{fieldsAt, Inside};
 ghost use Rattle.vetting.specs.Vetting.{streamOf};
-ghost use Rattle.vetting.specs.Weighing.{shareOf};
+ghost use Rattle.vetting.specs.Weighing.{shareOf, most};
 ghost use Rattle.written.specs.Writing.{octetsOf, refuse, writeRecords, writeOf};
 ghost use Rattle.writing.specs.Writes.{Writes};
 ghost use Rattle.writing.specs.Laying.{recordsOf, Found, Ready, totalOf, Measured};
@@ -85,7 +85,7 @@ fn put_stream(out: &mut [u8], from: usize, c: Carrier, s: &[u8]) -> usize
 
 // Octets of the result, with records of `size` octets: in carrier 1 they are cut into options.
 fn total_size(c: Carrier, size: usize) -> usize
-    requires { ⌜ size ≤ mostOption * limit.records ⌝ }
+    requires { ⌜ size ≤ most * limit.records ⌝ }
     ensures { λ r. ⌜ r ≡ totalOf c size ⌝ }
 {
     let f = c.facts();

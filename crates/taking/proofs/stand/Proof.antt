@@ -5,6 +5,7 @@ use native.Mathlib.Omega.{arith}
 use borrow.Author.Needs.{needs}
 use borrow.Author.Tests.{not-true, not-false}
 use lib.ListN.{length, drop}
+use Rattle.sheets.specs.Sheets.{frontSize}
 use Rattle.taking.specs.Taking.{recordsFrom}
 use Rattle.taking.specs.Took.{some}
 use Rattle.taking.specs.WalkLaws.{stand-1, stand-2, stand-3, stand-4, stand-5}
@@ -13,7 +14,7 @@ use Rattle.taking.proofs.stand.Tie as tie
 
 abbrev Inv-loop : tie.InvT-loop
 Inv-loop c s count at₀ least₀ left₀ at least left =
-    (at ≤ length s) × (some (recordsFrom c left least (drop at s)) ≡ some (recordsFrom c count 0 (drop 7 s)))
+    (at ≤ length s) × (some (recordsFrom c left least (drop at s)) ≡ some (recordsFrom c count 0 (drop frontSize s)))
 
 abbrev μ-loop : tie.MeasureT-loop
 μ-loop c s count at₀ least₀ left₀ at least left = left
