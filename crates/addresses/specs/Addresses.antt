@@ -8,7 +8,7 @@ use lib.Dec.{ltb, eqb}
 use lib.ListN.{length, getD, take, drop}
 use Rattle.octets.specs.Numbers.{allZero}
 
--- an address has 4 octets or 16
+-- an address has 4 octets or 16: w is 4, or 12 more where `long` is 1 (in this form linear arithmetic decides it)
 pub record Width (w : ℕ) : Type 0 where
   pub long : ℕ
   pub one : long ≤ 1

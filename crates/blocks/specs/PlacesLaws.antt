@@ -1,7 +1,7 @@
 -- One law for each way out of the code: the offsets tell what `parse` reads (a field is `-cut`, the name stands `-alone`, the full form is
 -- `-whole`), and their numbers are in range. Assumes nothing.
 use mathlib.Core.Path.{_≡_, refl, sym, ap, _∙_}
-use mathlib.Core.Bool.{Bool, true, false, cond, false≢true, true≢false}
+use mathlib.Core.Bool.{Bool, true, false, cond, false≢true}
 use mathlib.Core.List.{List}
 use Prim.Native.Nat.{ℕ, _+_, _-_, _*_, _%_, _≤_, _<_}
 use native.Mathlib.Nat.{sub-add-eq, add-assoc, zero-add, mul-le-mul, mul-mod-left}
@@ -34,15 +34,6 @@ addresses-fit c {k} {w} h e =
     let i : k ≤ 255 = omega arith in
     let j : w ≤ 16 = rw e (address-width c .1) in
     omega (arith, mul-le-mul i j)
-
--- ---- number
-
-module _ (b : List ℕ) (i : ℕ) {w x : ℕ} (h : i + w ≤ length b) where
-  pub number-one : w ≡ 1 → x ≡ getD b i 0 → x ≡ numberAt w i b
-  number-one e k = rw e (k ∙ number-8 b i (omega arith))
-
-  pub number-two : w ≡ 2 → x ≡ at16 b i → x ≡ numberAt w i b
-  number-two e k = rw e (k ∙ number-16 b i (omega arith))
 
 -- ---- carriers 1 to 3: up to the name
 

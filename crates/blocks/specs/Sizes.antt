@@ -1,18 +1,19 @@
 -- How many octets a layout has, and which fields fit. Assumes nothing.
-use mathlib.Core.Path.{_≡_, refl, ap}
+use mathlib.Core.Path.{_≡_, refl, ap, _∙_}
 use mathlib.Core.Bool.{Bool, true, false, cond, true≢false}
 use mathlib.Core.List.{List}
-use Prim.Native.Nat.{ℕ, _+_, _*_, _%_, _^_, _≤_, _<_}
+use Prim.Native.Nat.{ℕ, _+_, _*_, _/_, _%_, _^_, _≤_, _<_}
 use native.Mathlib.Omega.{arith}
+use native.Mathlib.Nat.{mul-div-cancel, mul-mod-left}
 use lib.ListN.{length, length-append, length-replicate}
 use Rattle.octets.specs.NumbersLaws.{length-be}
 use Rattle.numbers.specs.Limit as limit
 use Rattle.carriers.specs.declared.Carrier.{Carrier}
-use Rattle.carriers.specs.declared.Carrier.the-variants.{Dhcp4, Dhcp6, Router, Ike4, Ike6}
+use Rattle.carriers.specs.declared.Carrier.the-variants.{Router}
 use Rattle.carriers.specs.declared.Form.{Form}
 use Rattle.carriers.specs.declared.Form.the-variants.{Wire, Padded, Text}
-use Rattle.carriers.specs.Carriers.{headerOf, formOf, lifetimeIn, lifetimeWidth, addressWidth, textIn, asText}
-use Rattle.carriers.specs.CarriersLaws.{length-room, text-width, padded-router}
+use Rattle.carriers.specs.Carriers.{headerOf, formOf, lengthWidth, lifetimeIn, lifetimeWidth, addressWidth, textIn, asText}
+use Rattle.carriers.specs.CarriersLaws.{by-body, address-width, length-room, text-width, padded-router}
 use Rattle.blocks.specs.Block.{Fields, nameOnly, gap, optionSize, layoutBy, layout, sizeBy, sizeOf, FitsBy, Fits, PossibleBy, Possible}
 
 size-router : (f : Fields) (b : Bool) → f .full ≡ b → length (layoutBy Padded Router f) ≡ sizeOf Router f
@@ -73,12 +74,26 @@ fits-name-only c p t n e hp ht hn = record { priority = hp; lifetime = ht; name 
     go Padded x = (refl, refl)
     go Text x = absurd (true≢false x)
 
+-- in carriers 1 and 2 the address length has room for the addresses that a record may have
+address-room : (k n : ℕ) → k ≤ limit.addresses → (c : Carrier) → formOf c ≡ Wire → n ≡ k * addressWidth c → n < 256 ^ lengthWidth c
+address-room k n h =
+    by-body (λ w v form. form ≡ Wire → n ≡ k * w → n < 256 ^ v)
+    (λ e z. omega arith)
+    (λ e z. omega arith)
+    (λ e z. omega arith)
+    (λ e z. absurd (true≢false (ap textIn e)))
+    (λ e z. absurd (true≢false (ap textIn e)))
+
 -- with k addresses
 module _ (f : Fields) (k : ℕ) (e : f .full ≡ true) (hp : f .priority < 65536) (hn : length (f .name) < 256) (some : 0 < k) (few : k ≤ limit.addresses)
     (hq : length (f .parameters) ≤ limit.parameters) where
   pub fits-full : (c : Carrier) → f .lifetime < 256 ^ lifetimeWidth c → length (f .addresses) ≡ k * addressWidth c → Fits c f
-  fits-full Dhcp4 ht ha = record { priority = hp; lifetime = ht; name = hn; tail = rw e (omega arith) }
-  fits-full Dhcp6 ht ha = record { priority = hp; lifetime = ht; name = omega arith; tail = rw e (omega arith) }
-  fits-full Router ht ha = record { priority = hp; lifetime = ht; name = omega arith; tail = rw e (omega arith, omega arith, omega arith) }
-  fits-full Ike4 ht ha = record { priority = hp; lifetime = ht; name = hn; tail = (e, omega arith, omega arith) }
-  fits-full Ike6 ht ha = record { priority = hp; lifetime = ht; name = hn; tail = (e, omega arith, omega arith) }
+  fits-full c ht ha = record { priority = hp; lifetime = ht; name = length-room (length (f .name)) hn c; tail = go (formOf c) refl }
+    where
+      go : (form : Form) → formOf c ≡ form → FitsBy form c f
+      go Wire q = rw e (address-room k (length (f .addresses)) few c q ha)
+      go Padded q = let n : length (f .addresses) ≡ k * 16 = rw (padded-router c q) at ha in rw e (omega arith, omega arith, omega arith)
+      go Text q =
+          let w : ℕ = addressWidth c in
+          let count : length (f .addresses) / w ≡ k = ap (λ (n : ℕ). n / w) ha ∙ mul-div-cancel k (address-width c .0) in
+          (e, ap (λ (n : ℕ). n % w) ha ∙ mul-mod-left k w, omega arith)

@@ -5,7 +5,6 @@ ghost use mathlib.Core.Path.{_≡_};
 ghost use mathlib.Core.Bool.{true};
 ghost use Prim.Native.Nat.{_+_, _≤_, _<_};
 ghost use lib.ListN.{length};
-ghost use Rattle.octets.specs.Numbers.{numberAt};
 ghost use Rattle.carriers.specs.Carriers.{lengthWidth, asText};
 ghost use Rattle.carriers.specs.declared.Carrier.the-variants.{Router};
 ghost use Rattle.blocks.specs.Block.{isPadding, afterName, afterNamePadded, parse};
@@ -43,6 +42,21 @@ pub enum Places {
     },
 }
 
+// Octets of a priority, with which every body begins.
+const PRIORITY: usize = 2;
+
+// Carrier 3: octets of a length; where the ADN length stands, after the lifetime, and where the name does.
+const LENGTH: usize = 2;
+
+const ROUTER_LENGTH: usize = PRIORITY + Carrier::LIFETIME;
+
+const ROUTER_NAME: usize = ROUTER_LENGTH + LENGTH;
+
+// Carriers 4 and 5: where the ADN length stands, after the number of addresses, and where the addresses do; each number has one octet.
+const ATTRIBUTE_LENGTH: usize = PRIORITY + 1;
+
+const ATTRIBUTE_ADDRESSES: usize = ATTRIBUTE_LENGTH + 1;
+
 // A field runs past the body's end.
 const SHORT: Places = Places::Bad {
     fault: numbers::Fault::FIELD,
@@ -53,24 +67,11 @@ const UNPADDED: Places = Places::Bad {
     fault: numbers::Fault::PADDING,
 };
 
-// The number of one or two octets at `at`.
-fn number(body: &[u8], at: usize, width: usize) -> usize
-    requires { ⌜ at + width ≤ length (now body) ⌝ }
-    requires { ⌜ (0 < width) × (width ≤ 2) ⌝ }
-    ensures { λ r. ⌜ r ≡ numberAt width at (now (body .entry)) ⌝ }
-    ensures { λ r. ⌜ r < 65536 ⌝ }
-{
-    if width == 1 {
-        return octets::wide(body[at]);
-    }
-    octets::get16(body, at)
-}
-
 // Whether the octets are padding: 0 to 7 zeros.
 fn padding(rest: &[u8]) -> bool
     ensures { λ r. ⌜ r ≡ isPadding (now (rest .entry)) ⌝ }
 {
-    if rest.len() < 8 {
+    if rest.len() < Carrier::UNIT {
         return octets::zeros(rest);
     }
     false
@@ -85,12 +86,12 @@ fn named(carrier: Carrier, body: &[u8]) -> Places
 {
     let n = body.len();
     let w = carrier.length_width();
-    let name = 2 + w;
+    let name = PRIORITY + w;
     if n < name {
         return SHORT;
     }
     let priority = octets::get16(body, 0);
-    let nlen = number(body, 2, w);
+    let nlen = octets::get_number(body, PRIORITY, w);
     if n - name < nlen {
         return SHORT;
     }
@@ -118,13 +119,13 @@ fn after_name(carrier: Carrier, body: &[u8], priority: usize, nlen: usize) -> Pl
 {
     let n = body.len();
     let w = carrier.length_width();
-    let name = 2 + w;
+    let name = PRIORITY + w;
     let a = name + nlen;
     let left = n - a;
     if left < w {
         return SHORT;
     }
-    let alen = number(body, a, w);
+    let alen = octets::get_number(body, a, w);
     let addresses = a + w;
     if n - addresses < alen {
         return SHORT;
@@ -150,19 +151,19 @@ fn router(body: &[u8]) -> Places
     ensures { λ r. ⌜ Ranged Router r ⌝ }
 {
     let n = body.len();
-    let name = 8;
+    let name = ROUTER_NAME;
     if n < name {
         return SHORT;
     }
     let priority = octets::get16(body, 0);
-    let lifetime = octets::get32(body, 2);
-    let nlen = octets::get16(body, 6);
+    let lifetime = octets::get32(body, PRIORITY);
+    let nlen = octets::get16(body, ROUTER_LENGTH);
     if n - name < nlen {
         return SHORT;
     }
     let a = name + nlen;
     let left = n - a;
-    if left < 8 {
+    if left < Carrier::UNIT {
         if padding(&body[a..]) {
             return Places::NameOnly {
                 priority,
@@ -185,16 +186,16 @@ fn after_name_padded(body: &[u8], priority: usize, lifetime: usize, nlen: usize)
     ensures { λ r. ⌜ Ranged Router r ⌝ }
 {
     let n = body.len();
-    let name = 8;
+    let name = ROUTER_NAME;
     let a = name + nlen;
     let alen = octets::get16(body, a);
-    let addresses = a + 2;
-    if n - addresses < alen + 2 {
+    let addresses = a + LENGTH;
+    if n - addresses < alen + LENGTH {
         return SHORT;
     }
     let b = addresses + alen;
     let plen = octets::get16(body, b);
-    let parameters = b + 2;
+    let parameters = b + LENGTH;
     if n - parameters < plen {
         return SHORT;
     }
@@ -222,13 +223,13 @@ fn attribute(carrier: Carrier, body: &[u8]) -> Places
     ensures { λ r. ⌜ Ranged carrier r ⌝ }
 {
     let n = body.len();
-    let addresses = 4;
+    let addresses = ATTRIBUTE_ADDRESSES;
     if n < addresses {
         return SHORT;
     }
     let priority = octets::get16(body, 0);
-    let count = octets::wide(body[2]);
-    let nlen = octets::wide(body[3]);
+    let count = octets::wide(body[PRIORITY]);
+    let nlen = octets::wide(body[ATTRIBUTE_LENGTH]);
     let alen = count * carrier.address_width();
     if n - addresses < alen + nlen {
         return SHORT;
@@ -247,8 +248,8 @@ fn attribute(carrier: Carrier, body: &[u8]) -> Places
     }
 }
 
-// Where the fields of a body stand, or its fault. (`&body[..]`: a slice that is lent anew goes on in registers, one that is handed on as it
-// came goes through memory. One arm for each carrier: its widths are then known where they are used.)
+// Where the fields of a body stand, or its fault. (`&body[..]` makes LLVM pass pointer and length in registers. One arm for each carrier:
+// LLVM then knows its widths where they are used.)
 pub fn split(carrier: Carrier, body: &[u8]) -> Places
     ensures { λ r. ⌜ told (now (body .entry)) r ≡ parse carrier (now (body .entry)) ⌝ }
     ensures { λ r. ⌜ Inside (now (body .entry)) r ⌝ }

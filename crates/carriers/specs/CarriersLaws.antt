@@ -1,7 +1,7 @@
 -- What holds of every row of the table, and that each carrier has a number of its own. Assumes nothing.
-use mathlib.Core.Path.{_≡_, refl, ap}
+use mathlib.Core.Path.{_≡_, refl, sym, ap, _∙_}
 use mathlib.Core.Bool.{true, false, false≢true, true≢false}
-use Prim.Native.Nat.{ℕ, _^_, _≤_, _<_}
+use Prim.Native.Nat.{ℕ, _%_, _^_, _≤_, _<_}
 use native.Mathlib.Omega.{arith}
 use lib.ListN.{getD}
 use Rattle.octets.specs.Numbers.{be}
@@ -10,56 +10,66 @@ use Rattle.carriers.specs.declared.Carrier.the-variants.{Dhcp4, Dhcp6, R
 use Rattle.carriers.specs.declared.Chosen.the-variants.{Known}
 use Rattle.carriers.specs.declared.Form.{Form}
 use Rattle.carriers.specs.declared.Form.the-variants.{Wire, Padded, Text}
-use Rattle.carriers.specs.Carriers.{chosenOf, numberOf, codeOf, headWidth, hasReserved, bareCode, inEights, isJoined, addressWidth, lengthWidth, formOf, lifetimeIn, textIn, asText}
+use Rattle.carriers.specs.Carriers.{chosenOf, numberOf, codeOf, headWidth, hasReserved, bareCode, inEights, isJoined, addressWidth, lengthWidth, formOf, lifetimeIn, lifetimeWidth, textIn, asText}
+
+-- a number names its carrier, and has room in one octet
+record Numbered (c : Carrier) : Type 0 where
+  pub known : chosenOf (numberOf c) ≡ Known c
+  pub octet : numberOf c < 256
+
+numbered : (c : Carrier) → Numbered c
+unfolding chosenOf
+numbered Dhcp4 = record { known = refl; octet = omega arith }
+numbered Dhcp6 = record { known = refl; octet = omega arith }
+numbered Router = record { known = refl; octet = omega arith }
+numbered Ike4 = record { known = refl; octet = omega arith }
+numbered Ike6 = record { known = refl; octet = omega arith }
 
 pub chosen-number : (c : Carrier) → chosenOf (numberOf c) ≡ Known c
-unfolding chosenOf
-chosen-number Dhcp4 = refl
-chosen-number Dhcp6 = refl
-chosen-number Router = refl
-chosen-number Ike4 = refl
-chosen-number Ike6 = refl
+chosen-number c = numbered c .known
 
--- its number has room in one octet
 pub number-room : (c : Carrier) → numberOf c < 256
-number-room Dhcp4 = omega arith
-number-room Dhcp6 = omega arith
-number-room Router = omega arith
-number-room Ike4 = omega arith
-number-room Ike6 = omega arith
+number-room c = numbered c .octet
 
--- code and length have one or two octets, in which the carrier's code has room; it has no reserved bit, and is neither padding nor an end
+-- so it is the octet that says it
+pub number-octet : (c : Carrier) → numberOf c % 256 ≡ numberOf c
+number-octet c = omega (arith, number-room c)
+
+-- code and length have one or two octets, two but in carriers 1 and 3, in which the carrier's code has room; it has no reserved bit, and is
+-- neither padding nor an end
 pub record Headed (c : Carrier) : Type 0 where
   pub some : 0 < headWidth c
   pub few : headWidth c ≤ 2
+  pub wide : isJoined c ≡ false → inEights c ≡ false → headWidth c ≡ 2
   pub room : codeOf c < 256 ^ headWidth c
   pub bare : bareCode (hasReserved c) (codeOf c) ≡ codeOf c
   pub other : isJoined c ≡ true → (0 < getD (be (headWidth c) (codeOf c)) 0 0) × (getD (be (headWidth c) (codeOf c)) 0 0 < 255)
 
 pub headed : (c : Carrier) → Headed c
-headed Dhcp4 = record { some = omega arith; few = omega arith; room = omega arith; bare = refl; other = λ e. (omega arith, omega arith) }
-headed Dhcp6 = record { some = omega arith; few = omega arith; room = omega arith; bare = refl; other = λ e. absurd (false≢true e) }
-headed Router = record { some = omega arith; few = omega arith; room = omega arith; bare = refl; other = λ e. absurd (false≢true e) }
-headed Ike4 = record { some = omega arith; few = omega arith; room = omega arith; bare = refl; other = λ e. absurd (false≢true e) }
-headed Ike6 = record { some = omega arith; few = omega arith; room = omega arith; bare = refl; other = λ e. absurd (false≢true e) }
+headed Dhcp4 = record { some = omega arith; few = omega arith; wide = λ j e. absurd (true≢false j); room = omega arith; bare = refl; other = λ e. (omega arith, omega arith) }
+headed Dhcp6 = record { some = omega arith; few = omega arith; wide = λ j e. refl; room = omega arith; bare = refl; other = λ e. absurd (false≢true e) }
+headed Router = record { some = omega arith; few = omega arith; wide = λ j e. absurd (true≢false e); room = omega arith; bare = refl; other = λ e. absurd (false≢true e) }
+headed Ike4 = record { some = omega arith; few = omega arith; wide = λ j e. refl; room = omega arith; bare = refl; other = λ e. absurd (false≢true e) }
+headed Ike6 = record { some = omega arith; few = omega arith; wide = λ j e. refl; room = omega arith; bare = refl; other = λ e. absurd (false≢true e) }
 
 -- ---- by the values of a column
 
+-- octets of an address, octets of a length, and the form
+pub by-body : (P : ℕ → ℕ → Form → Type 0) → P 4 1 Wire → P 16 2 Wire → P 16 2 Padded → P 4 1 Text → P 16 1 Text
+    → (c : Carrier) → P (addressWidth c) (lengthWidth c) (formOf c)
+by-body P a b d e f Dhcp4 = a
+by-body P a b d e f Dhcp6 = b
+by-body P a b d e f Router = d
+by-body P a b d e f Ike4 = e
+by-body P a b d e f Ike6 = f
+
 -- an address has 4 octets or 16
 pub by-address : (P : ℕ → Type 0) → P 4 → P 16 → (c : Carrier) → P (addressWidth c)
-by-address P a b Dhcp4 = a
-by-address P a b Dhcp6 = b
-by-address P a b Router = b
-by-address P a b Ike4 = a
-by-address P a b Ike6 = b
+by-address P a b = by-body (λ w v k. P w) a b b a b
 
 -- a length has one octet, which it has in text, or two
 pub by-length : (P : ℕ → Form → Type 0) → P 1 Wire → P 2 Wire → P 2 Padded → P 1 Text → (c : Carrier) → P (lengthWidth c) (formOf c)
-by-length P a b d e Dhcp4 = a
-by-length P a b d e Dhcp6 = b
-by-length P a b d e Router = d
-by-length P a b d e Ike4 = e
-by-length P a b d e Ike6 = e
+by-length P a b d e = by-body (λ w v k. P v k) a b d e e
 
 pub length-width : (c : Carrier) → (0 < lengthWidth c) × (lengthWidth c ≤ 2)
 length-width = by-length (λ w k. (0 < w) × (w ≤ 2)) (omega arith, omega arith) (omega arith, omega arith) (omega arith, omega arith) (omega arith, omega arith)
@@ -87,20 +97,20 @@ text-form Wire x = absurd (false≢true x)
 text-form Padded x = absurd (false≢true x)
 text-form Text x = refl
 
--- only carrier 3 is padded
+-- ---- carrier 3, whose bodies have a lifetime and padding and whose lengths are in units of eight, and the others
+
+pub by-router : (P : Carrier → Type 0) → P Router → ((c : Carrier) → lifetimeWidth c ≡ 0 → inEights c ≡ false → P c) → (c : Carrier) → P c
+by-router P a b Dhcp4 = b Dhcp4 refl refl
+by-router P a b Dhcp6 = b Dhcp6 refl refl
+by-router P a b Router = a
+by-router P a b Ike4 = b Ike4 refl refl
+by-router P a b Ike6 = b Ike6 refl refl
+
 pub padded-router : (c : Carrier) → formOf c ≡ Padded → c ≡ Router
-padded-router Dhcp4 e = absurd (omega (arith, ap lifetimeIn e))
-padded-router Dhcp6 e = absurd (omega (arith, ap lifetimeIn e))
-padded-router Router e = refl
-padded-router Ike4 e = absurd (omega (arith, ap lifetimeIn e))
-padded-router Ike6 e = absurd (omega (arith, ap lifetimeIn e))
+padded-router = by-router (λ c. formOf c ≡ Padded → c ≡ Router) (λ e. refl) (λ c z n e. absurd (omega (arith, z, ap lifetimeIn e)))
 
 pub eights-router : (c : Carrier) → inEights c ≡ true → c ≡ Router
-eights-router Dhcp4 e = absurd (false≢true e)
-eights-router Dhcp6 e = absurd (false≢true e)
-eights-router Router e = refl
-eights-router Ike4 e = absurd (false≢true e)
-eights-router Ike6 e = absurd (false≢true e)
+eights-router = by-router (λ c. inEights c ≡ true → c ≡ Router) (λ e. refl) (λ c z n e. absurd (false≢true (sym n ∙ e)))
 
 -- ---- carrier 1, whose options are joined, and the others
 

@@ -66,7 +66,7 @@ pub fn octets_of(e: Eights) -> Octets
     ensures { λ r. ⌜ r .0 ≡ 8 * e .0 ⌝ }
 {
     let units = e.0;
-    Octets(8 * units)
+    Octets(Carrier::UNIT * units)
 }
 
 // The one place where octets become units of eight.
@@ -74,10 +74,15 @@ pub fn eights_of(o: Octets) -> Eights
     ensures { λ r. ⌜ r .0 ≡ o .0 / 8 ⌝ }
 {
     let n = o.0;
-    Eights(n / 8)
+    Eights(n / Carrier::UNIT)
 }
 
 impl Carrier {
+    // Octets of a unit in which carrier 3 counts, and of its lifetime.
+    pub const UNIT: usize = 8;
+
+    pub const LIFETIME: usize = 4;
+
     // Option codes and attribute types.
     pub const DHCP4: usize = 162;
 
@@ -228,7 +233,7 @@ impl Carrier {
     {
         match self.form() {
             Form::Wire => 0,
-            Form::Padded => 4,
+            Form::Padded => Carrier::LIFETIME,
             Form::Text => 0,
         }
     }

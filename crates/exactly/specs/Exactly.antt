@@ -4,7 +4,7 @@ use mathlib.Core.Path.{_≡_, refl, sym, ap, ap₂, subst, _∙_}
 use mathlib.Core.Bool.{Bool, true, false}
 use mathlib.Core.Logic.{_↔_}
 use mathlib.Core.List.{List, [], _∷_, _++_, map}
-use Prim.Native.Nat.{ℕ, zero, suc, _+_, _-_, _*_, _/_, _%_, _≤_, _<_}
+use Prim.Native.Nat.{ℕ, zero, suc, _+_, _*_, _/_, _%_, _≤_, _<_}
 use native.Mathlib.Omega.{arith}
 use borrow.Author.Tests.{ltb-true, ltb-false}
 use lib.Dec.{ltb}
@@ -16,11 +16,14 @@ use Rattle.octets.specs.Lists.{All, flat}
 use Rattle.octets.specs.ListsLaws.{all-map}
 use Rattle.octets.specs.Fields.{putCounted}
 use Rattle.carriers.specs.declared.Carrier.{Carrier}
-use Rattle.carriers.specs.declared.Carrier.the-variants.{Dhcp4, Dhcp6, Router, Ike4, Ike6}
-use Rattle.carriers.specs.CarriersLaws.{other-joined}
+use Rattle.carriers.specs.declared.Carrier.the-variants.{Dhcp4}
+use Rattle.carriers.specs.declared.Form.{Form}
+use Rattle.carriers.specs.declared.Form.the-variants.{Wire, Padded, Text}
+use Rattle.carriers.specs.Carriers.{formOf}
+use Rattle.carriers.specs.CarriersLaws.{by-joined, padded-router, other-joined}
 use Rattle.frames.specs.Frame.{framed, frame, joined, blocksOf}
 use Rattle.frames.specs.BodyLaws.{bodies-bytes, bodies-units}
-use Rattle.blocks.specs.Block.{Fields, layout, Fits, Possible}
+use Rattle.blocks.specs.Block.{Fields, layout, Fits, PossibleBy, Possible}
 use Rattle.blocks.specs.Exactly.{parse-iff}
 use Rattle.judge.specs.declared.Side.the-variants.{Reading}
 use Rattle.judge.specs.JudgeLaws.{fault-passed, passed-fault}
@@ -232,14 +235,23 @@ joined-block : (bs : List (List ℕ)) → All Bytes bs → All (Block Dhcp4) (jo
 joined-block [] h = tt
 joined-block (b ∷ bs) h = ((flat-bytes (b ∷ bs) h, tt), tt)
 
-router-blocks : (bs : List (List ℕ)) → All Bytes bs → All (Possible Router) bs → All (Block Router) bs
-router-blocks [] h k = tt
-router-blocks (b ∷ bs) h k = ((h .0, k .0), router-blocks bs (h .1) (k .1))
+-- the bodies of an area are such that their carrier can bring them
+possible-bodies : (c : Carrier) (area : List ℕ) (bodies : List (List ℕ)) → All Bytes bodies → frame c area ≡ framed bodies → All (Possible c) bodies
+possible-bodies c area bodies h e = go (formOf c) refl
+  where
+    go : (k : Form) → formOf c ≡ k → All (PossibleBy k) bodies
+    go Wire q = all-map Bytes (PossibleBy Wire) bodies (λ b k. tt) h
+    go Padded q = bodies-units area bodies (rw (padded-router c q) at e)
+    go Text q = all-map Bytes (PossibleBy Text) bodies (λ b k. tt) h
+
+both : (c : Carrier) (bs : List (List ℕ)) → All Bytes bs → All (Possible c) bs → All (Block c) bs
+both c [] h k = tt
+both c (b ∷ bs) h k = ((h .0, k .0), both c bs (h .1) (k .1))
 
 -- so they hold of every block of an area of octets
 pub every-block : (c : Carrier) (area : List ℕ) (bodies : List (List ℕ)) → Bytes area → frame c area ≡ framed bodies → All (Block c) (blocksOf c bodies)
-every-block Dhcp4 area bodies h e = joined-block bodies (bodies-bytes Dhcp4 area bodies h e)
-every-block Dhcp6 area bodies h e = all-map Bytes (Block Dhcp6) bodies (λ b k. (k, tt)) (bodies-bytes Dhcp6 area bodies h e)
-every-block Router area bodies h e = router-blocks bodies (bodies-bytes Router area bodies h e) (bodies-units area bodies e)
-every-block Ike4 area bodies h e = all-map Bytes (Block Ike4) bodies (λ b k. (k, tt)) (bodies-bytes Ike4 area bodies h e)
-every-block Ike6 area bodies h e = all-map Bytes (Block Ike6) bodies (λ b k. (k, tt)) (bodies-bytes Ike6 area bodies h e)
+every-block c area bodies h e =
+    by-joined (λ c. frame c area ≡ framed bodies → All (Block c) (blocksOf c bodies))
+    (λ e. joined-block bodies (bodies-bytes Dhcp4 area bodies h e))
+    (λ c j e. let k = bodies-bytes c area bodies h e in rw j (both c bodies k (possible-bodies c area bodies k e)))
+    c e

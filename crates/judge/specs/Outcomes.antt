@@ -6,6 +6,7 @@ use Prim.Native.Nat.{ℕ, _/_, _%_, _≤_, _<_}
 use lib.ListN.{length}
 use borrow.Author.Tests.{eq-eqb, ne-eqb, lt-ltb, le-ltb}
 use Rattle.numbers.specs.Fault as fault
+use Rattle.numbers.specs.Limit as limit
 use Rattle.carriers.specs.declared.Carrier.{Carrier}
 use Rattle.carriers.specs.Carriers.{addressWidth, asText}
 use Rattle.names.specs.declared.Name.{Name}
@@ -45,16 +46,16 @@ module _ (side : Side) (w : ℕ) (a p : List ℕ) where
   tail-odd e m = simp (ne-eqb _ _ e, ne-eqb _ _ m)
 
   module _ (e : length a ≡ 0 → ⊥) (m : length a % w ≡ 0) where
-    pub tail-many : 63 < length a / w → fault.limit ≡ tailFault side w a p
+    pub tail-many : limit.addresses < length a / w → fault.limit ≡ tailFault side w a p
     unfolding tailFault
     tail-many h = simp (ne-eqb _ _ e, eq-eqb _ _ m, lt-ltb _ _ h)
 
-    module _ (h : length a / w ≤ 63) where
-      pub tail-long : 1024 < length p → fault.limit ≡ tailFault side w a p
+    module _ (h : length a / w ≤ limit.addresses) where
+      pub tail-long : limit.parameters < length p → fault.limit ≡ tailFault side w a p
       unfolding tailFault
       tail-long k = simp (ne-eqb _ _ e, eq-eqb _ _ m, le-ltb _ _ h, lt-ltb _ _ k)
 
-      module _ (k : length p ≤ 1024) (b : Bool) (q : b ≡ refusedOf side w (listOf w a)) where
+      module _ (k : length p ≤ limit.parameters) (b : Bool) (q : b ≡ refusedOf side w (listOf w a)) where
         pub tail-dropped : b ≡ true → fault.dropped ≡ tailFault side w a p
         unfolding tailFault
         tail-dropped t = simp (ne-eqb _ _ e, eq-eqb _ _ m, le-ltb _ _ h, le-ltb _ _ k, sym q ∙ t)

@@ -2,22 +2,23 @@
 use mathlib.Core.Path.{_≡_, refl, sym, ap, ap₂, _∙_}
 use mathlib.Core.Bool.{Bool, true, false, cond, true≢false}
 use mathlib.Core.List.{List, [], _∷_, _++_, append-assoc, append-nil}
-use Prim.Native.Nat.{ℕ, _+_, _-_, _*_, _/_, _%_, _^_, _≤_, _<_}
+use Prim.Native.Nat.{ℕ, _+_, _-_, _*_, _/_, _%_, _≤_, _<_}
 use native.Mathlib.Omega.{arith}
 use lib.ListN.{length, length-append}
 use Rattle.numbers.specs.Limit as limit
 use Rattle.carriers.specs.declared.Carrier.{Carrier}
-use Rattle.carriers.specs.declared.Carrier.the-variants.{Dhcp4, Dhcp6, Router, Ike4, Ike6}
+use Rattle.carriers.specs.declared.Carrier.the-variants.{Dhcp4, Router}
 use Rattle.carriers.specs.declared.Form.{Form}
 use Rattle.carriers.specs.declared.Form.the-variants.{Wire, Padded, Text}
-use Rattle.carriers.specs.Carriers.{headerOf, addressWidth, formOf, textIn, asText}
-use Rattle.carriers.specs.CarriersLaws.{headed, by-address, length-width, length-room}
+use Rattle.carriers.specs.Carriers.{headerOf, isJoined, addressWidth, formOf, textIn, asText}
+use Rattle.carriers.specs.CarriersLaws.{headed, by-address, length-width, length-room, by-router}
 use Rattle.texts.specs.Convert.{text-length}
 use Rattle.blocks.specs.Block.{Fields, layout, unpadded, sizeBy, FitsBy, Fits}
 use Rattle.blocks.specs.Sizes.{length-layout, layout-possible, fits-full}
 use Rattle.frames.specs.Emit as emit
 use Rattle.frames.specs.EmitLaws.{option-length}
 use Rattle.frames.specs.Walk.{Plain}
+use Rattle.frames.specs.WalkLaws.{apart-false}
 use Rattle.layouts.specs.Layouts.{carriedAs, carriedOf, ownOption, instanceOf, joinedOf}
 use Rattle.layouts.specs.Writable.{Writable, overhead, mostAddresses, mostBody, bodyBy, bodyOctets, optionOctets, instanceOctets, joinedOctets}
 
@@ -123,9 +124,8 @@ module _ (c : Carrier) (r : Fields) (h : Writable c r) where
 
 -- in carriers 2 to 5 its option can be framed
 pub writable-emits : (c : Carrier) (r : Fields) → Plain c → Writable c r → emit.Fits c (layout c (carriedOf c r))
-writable-emits Dhcp4 r p h = absurd p
-writable-emits Dhcp6 r p h = omega (arith, writable-body Dhcp6 r h)
-writable-emits Router r p h =
-    (layout-possible Router (carriedOf Router r), rw (body-length Router r) (omega (arith, h .units refl)))
-writable-emits Ike4 r p h = omega (arith, writable-body Ike4 r h)
-writable-emits Ike6 r p h = omega (arith, writable-body Ike6 r h)
+writable-emits c r =
+    by-router (λ c. Plain c → Writable c r → emit.Fits c (layout c (carriedOf c r)))
+    (λ p h. (layout-possible Router (carriedOf Router r), rw (body-length Router r) (omega (arith, h .units refl))))
+    (λ c z n p h. rw (n, headed c .wide (apart-false (isJoined c) p) n) (omega (arith, writable-body c r h)))
+    c

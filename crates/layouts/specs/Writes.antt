@@ -1,6 +1,6 @@
 -- What the functions that write a record's parts ask of each other, and how the parts make a layout. Assumes nothing.
 use mathlib.Core.Path.{_≡_, refl, sym, ap, _∙_, subst}
-use mathlib.Core.Bool.{Bool, true, false, cond, true≢false, false≢true}
+use mathlib.Core.Bool.{Bool, true, false, cond}
 use mathlib.Core.List.{List, _∷_, _++_, append-assoc, append-nil}
 use Prim.Native.Nat.{ℕ, zero, suc, _+_, _-_, _/_, _^_, _≤_, _<_}
 use native.Mathlib.Omega.{arith}
@@ -14,7 +14,7 @@ use Rattle.carriers.specs.declared.Carrier.{Carrier}
 use Rattle.carriers.specs.declared.Carrier.the-variants.{Dhcp4, Router}
 use Rattle.carriers.specs.declared.Form.{Form}
 use Rattle.carriers.specs.declared.Form.the-variants.{Text}
-use Rattle.carriers.specs.Carriers.{addressWidth, lengthWidth, formOf, lifetimeIn, lifetimeWidth, textIn, asText}
+use Rattle.carriers.specs.Carriers.{addressWidth, lengthWidth, formOf, textIn, asText}
 use Rattle.texts.specs.Texts.{textOf}
 use Rattle.texts.specs.Convert.{text-length}
 use Rattle.blocks.specs.Block.{Fields, putAfterName, paddingOf, layoutBy, layout, FitsBy, Fits}

@@ -133,6 +133,13 @@ pub number-16 : (s : List ℕ) (i : ℕ) → i + 1 < length s → at16 s i ≡ n
 unfolding numberAt
 number-16 s i h = at16-val s i h
 
+module _ (s : List ℕ) (i : ℕ) {w x : ℕ} (h : i + w ≤ length s) where
+  pub number-one : w ≡ 1 → x ≡ getD s i 0 → x ≡ numberAt w i s
+  number-one e k = rw e (k ∙ number-8 s i (omega arith))
+
+  pub number-two : w ≡ 2 → x ≡ at16 s i → x ≡ numberAt w i s
+  number-two e k = rw e (k ∙ number-16 s i (omega arith))
+
 pub number-32 : (s : List ℕ) (i : ℕ) → i + 3 < length s → at32 s i ≡ numberAt 4 i s
 unfolding numberAt
 number-32 s i h = at32-val s i h

@@ -5,7 +5,7 @@
 ghost use mathlib.Core.Path.{_≡_};
 ghost use Prim.Native.Nat.{_+_, _*_, _^_, _≤_, _<_};
 ghost use lib.ListN.{length, take, drop};
-ghost use Rattle.octets.specs.Numbers.{be, at16, at32, allZero};
+ghost use Rattle.octets.specs.Numbers.{be, at16, at32, numberAt, allZero};
 ghost use Rattle.octets.specs.Over.{Wrote};
 
 // The most octets that are held at once.
@@ -40,6 +40,19 @@ pub fn get16(s: &[u8], i: usize) -> usize
     ensures { λ r. ⌜ r < 65536 ⌝ }
 {
     wide16(s[i], s[i + 1])
+}
+
+// The one or two octets at `i` as a number.
+pub fn get_number(s: &[u8], i: usize, width: usize) -> usize
+    requires { ⌜ i + width ≤ length (now s) ⌝ }
+    requires { ⌜ (0 < width) × (width ≤ 2) ⌝ }
+    ensures { λ r. ⌜ r ≡ numberAt width i (now (s .entry)) ⌝ }
+    ensures { λ r. ⌜ r < 65536 ⌝ }
+{
+    if width == 1 {
+        return wide(s[i]);
+    }
+    get16(s, i)
 }
 
 // The four octets at `i` as a number.

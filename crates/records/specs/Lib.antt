@@ -1,7 +1,9 @@
 pub mod Records
 pub mod Examined
 pub mod Parts
+pub mod Given
 pub mod RecordsLaws
+pub mod GivenLaws
 pub mod CleanLaws
 pub mod Outcomes
 pub mod PlacesLaws

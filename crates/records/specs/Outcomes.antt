@@ -9,7 +9,7 @@ use Rattle.octets.specs.Numbers.{be}
 use Rattle.octets.specs.Over.{Wrote}
 use Rattle.numbers.specs.Limit as limit
 use Rattle.carriers.specs.declared.Carrier.{Carrier}
-use Rattle.carriers.specs.Carriers.{addressWidth, asText}
+use Rattle.carriers.specs.Carriers.{addressWidth}
 use Rattle.carriers.specs.CarriersLaws.{by-address}
 use Rattle.texts.specs.Texts.{wireOf}
 use Rattle.texts.specs.Convert.{wire-length}
@@ -21,7 +21,7 @@ use Rattle.judge.specs.declared.Judged.{Judged}
 use Rattle.judge.specs.Judge.{judgedOf, faultOf}
 use Rattle.judge.specs.JudgeLaws.{carrier-width, fault-passed}
 use Rattle.records.specs.declared.Examined.{Examined}
-use Rattle.records.specs.Records.{staying, keepOf, recordOf}
+use Rattle.records.specs.Records.{staying, nameAs, keepOf, headSize, tailSize, recordOf}
 use Rattle.records.specs.Examined.{examinedOf}
 use Rattle.records.specs.Parts.{yieldOf, discarded, nameIn, namePart}
 use Rattle.records.specs.RecordsLaws.{yield-kept, yield-faulty, length-record, staying-length, kept-small}
@@ -29,18 +29,18 @@ use Rattle.records.specs.CleanLaws.{staying-whole}
 
 -- ---- a name
 
-module _ (c : Carrier) (name : List ℕ) where
-  pub size-text : asText c ≡ true → length name + 2 ≡ length (nameIn c name)
+module _ (text : Bool) (name : List ℕ) where
+  pub size-text : text ≡ true → length name + 2 ≡ length (nameAs text name)
   size-text t = rw t (sym (wire-length name))
 
-  pub size-wire : asText c ≡ false → length name ≡ length (nameIn c name)
+  pub size-wire : text ≡ false → length name ≡ length (nameAs text name)
   size-wire t = rw t
 
-  module _ {n at r : ℕ} {l l′ : List ℕ} (e : n ≡ length (nameIn c name)) where
-    pub wrote-text : asText c ≡ true → Wrote at (be 1 n ++ wireOf name) l r l′ → Wrote at (namePart (nameIn c name)) l r l′
+  module _ {n at r : ℕ} {l l′ : List ℕ} (e : n ≡ length (nameAs text name)) where
+    pub wrote-text : text ≡ true → Wrote at (be 1 n ++ wireOf name) l r l′ → Wrote at (namePart (nameAs text name)) l r l′
     wrote-text t w = rw t (rw (rw t at e) at w)
 
-    pub wrote-wire : asText c ≡ false → Wrote at (be 1 n ++ name) l r l′ → Wrote at (namePart (nameIn c name)) l r l′
+    pub wrote-wire : text ≡ false → Wrote at (be 1 n ++ name) l r l′ → Wrote at (namePart (nameAs text name)) l r l′
     wrote-wire t w = rw t (rw (rw t at e) at w)
 
 -- ---- what is answered of fields
@@ -66,19 +66,19 @@ module _ (c : Carrier) (f : Fields) {j : Judged} (e : j ≡ judgedIn c f) where
     examined-kept : (clean : Bool) → record { fault = 0; priority = f .priority; size = size; clean = clean } ≡ examinedOf c (yieldOf c f) clean
     examined-kept clean = rw (yield-kept c f (sym same-fault ∙ z), s)
 
-    examined-small : size ≤ 2298
+    examined-small : size ≤ limit.recordSize
     examined-small = rw s (kept-small c f (fault-passed Reading c f (sym same-fault ∙ z)))
 
 -- of a name of n octets in wire form, where there is no fault
 module _ (c : Carrier) (p : ℕ) (name : List ℕ) {j : Judged} {n : ℕ} (e : j ≡ judgedIn c (nameOnly p 0 name)) (z : j .fault ≡ 0)
     (en : n ≡ length (nameIn c name)) where
-  name-only-size : (t : ℕ) → 8 + n ≡ length (recordOf c (keepOf c (nameOnly p t name)))
+  name-only-size : (t : ℕ) → headSize + n ≡ length (recordOf c (keepOf c (nameOnly p t name)))
   name-only-size t = rw length-record (omega arith)
 
-  pub name-only-small : 8 + n ≤ 2298
+  pub name-only-small : headSize + n ≤ limit.recordSize
   name-only-small = examined-small c (nameOnly p 0 name) e z (name-only-size 0)
 
-  pub name-only-kept : (t : ℕ) → record { fault = 0; priority = p; size = 8 + n; clean = true } ≡ examinedOf c (yieldOf c (nameOnly p t name)) true
+  pub name-only-kept : (t : ℕ) → record { fault = 0; priority = p; size = headSize + n; clean = true } ≡ examinedOf c (yieldOf c (nameOnly p t name)) true
   name-only-kept t = examined-kept c (nameOnly p t name) e z (name-only-size t) true
 
 -- 63 addresses are few octets
@@ -93,16 +93,16 @@ full-few c p name a q e z =
 -- and of addresses of w octets, m of which stay
 module _ (c : Carrier) (p : ℕ) (name a q : List ℕ) {j : Judged} {n w m : ℕ} (e : j ≡ judgedIn c (whole p 0 name a q)) (z : j .fault ≡ 0)
     (en : n ≡ length (nameIn c name)) (ew : w ≡ addressWidth c) (em : m ≡ length (keptOf w (listOf w a))) where
-  full-size : (t : ℕ) → 8 + n + 3 + m * w + length q ≡ length (recordOf c (keepOf c (whole p t name a q)))
+  full-size : (t : ℕ) → headSize + n + tailSize + m * w + length q ≡ length (recordOf c (keepOf c (whole p t name a q)))
   full-size t =
       let s : length (staying (addressWidth c) a) ≡ m * w = rw (← ew) (staying-length w a ∙ rw em) in
       rw length-record (omega arith)
 
-  pub full-small : 8 + n + 3 + m * w + length q ≤ 2298
+  pub full-small : headSize + n + tailSize + m * w + length q ≤ limit.recordSize
   full-small = examined-small c (whole p 0 name a q) e z (full-size 0)
 
   pub full-kept : (clean : Bool) (t : ℕ)
-      → record { fault = 0; priority = p; size = 8 + n + 3 + m * w + length q; clean = clean } ≡ examinedOf c (yieldOf c (whole p t name a q)) clean
+      → record { fault = 0; priority = p; size = headSize + n + tailSize + m * w + length q; clean = clean } ≡ examinedOf c (yieldOf c (whole p t name a q)) clean
   full-kept clean t = examined-kept c (whole p t name a q) e z (full-size t) clean
 
   -- as many octets stay as there are

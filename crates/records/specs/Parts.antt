@@ -7,13 +7,13 @@ use lib.ListN.{length}
 use Rattle.octets.specs.Numbers.{be}
 use Rattle.carriers.specs.declared.Carrier.{Carrier}
 use Rattle.carriers.specs.Carriers.{asText}
-use Rattle.texts.specs.Texts.{wireOf}
 use Rattle.addresses.specs.Addresses.{listOf, keptOf}
+use Rattle.blocks.specs.declared.Head.{Head}
 use Rattle.blocks.specs.Block.{Fields}
 use Rattle.judge.specs.declared.Side.the-variants.{Reading}
 use Rattle.judge.specs.Judge.{faultOf}
 use Rattle.records.specs.declared.Examined.{Examined}
-use Rattle.records.specs.Records.{Outcome, faulty, kept, keepOf, staying}
+use Rattle.records.specs.Records.{Outcome, faulty, kept, nameAs, keepOf, staying, modeOf}
 
 -- what fields yield: a fault of 21 to 28, or a record
 abbrev pub yieldOf : Carrier → Fields → Outcome
@@ -23,17 +23,17 @@ yieldOf c f = cond (eqb (faultOf Reading c f) 0) (kept (keepOf c f)) (faulty (fa
 abbrev pub discarded : ℕ → Examined
 discarded k = record { fault = k; priority = 0; size = 0; clean = false }
 
--- a name as a sheet holds it: in wire form
+-- a name of a carrier as a sheet holds it
 abbrev pub nameIn : Carrier → List ℕ → List ℕ
-nameIn c name = cond (asText c) (wireOf name) name
+nameIn c name = nameAs (asText c) name
 
 -- a name after its length
 abbrev pub namePart : List ℕ → List ℕ
 namePart name = be 1 (length name) ++ name
 
 -- a record to the end of its name
-abbrev pub headPart : ℕ → ℕ → ℕ → List ℕ → List ℕ
-headPart priority lifetime mode name = be 2 priority ++ (be 4 lifetime ++ (be 1 mode ++ namePart name))
+abbrev pub headPart : Head → List ℕ → List ℕ
+headPart h name = be 2 (h .priority) ++ (be 4 (h .lifetime) ++ (be 1 (modeOf (h .full)) ++ namePart name))
 
 -- what mode 1 adds, of addresses and parameters as carried
 abbrev pub tailPart : ℕ → List ℕ → List ℕ → List ℕ

@@ -1,18 +1,17 @@
 -- What the places that `split` answers say on each way through `examine` and `put_record`. Assumes nothing.
 use mathlib.Core.Path.{_≡_, refl, sym, ap, _∙_, subst⁻¹}
 use mathlib.Core.Bool.{Bool, true, false, cond}
-use mathlib.Core.List.{List, _++_, append-assoc, append-nil}
-use Prim.Native.Nat.{ℕ, _+_, _-_, _/_, _≤_, _<_}
+use mathlib.Core.List.{List}
+use Prim.Native.Nat.{ℕ, _+_, _-_, _≤_, _<_}
 use native.Mathlib.Omega.{arith}
-use native.Mathlib.Nat.{mul-div-cancel, add-sub-cancel-left}
+use native.Mathlib.Nat.{add-sub-cancel-left}
 use lib.Dec.{eqb}
 use lib.ListN.{length, take, drop}
 use borrow.Author.Tests.{eqb-true}
 use Rattle.octets.specs.Over.{Wrote}
-use Rattle.octets.specs.OverLaws.{over-length, then}
+use Rattle.numbers.specs.Limit as limit
 use Rattle.carriers.specs.declared.Carrier.{Carrier}
-use Rattle.carriers.specs.Carriers.{addressWidth}
-use Rattle.addresses.specs.Addresses.{Width, listOf, keptOf}
+use Rattle.carriers.specs.Carriers.{addressWidth, asText}
 use Rattle.addresses.specs.AddressesLaws.{wide-some}
 use Rattle.blocks.specs.declared.Places.{Places}
 use Rattle.blocks.specs.declared.Places.the-variants.{Bad, NameOnly, Full}
@@ -23,10 +22,13 @@ use Rattle.judge.specs.Judge.{faultOf}
 use Rattle.judge.specs.Passed.{Passed}
 use Rattle.judge.specs.JudgeLaws.{carrier-width, fault-passed}
 use Rattle.records.specs.declared.Examined.{Examined}
+use Rattle.records.specs.declared.Given.{Given}
 use Rattle.records.specs.Records.{Outcome, faulty, kept, outcomeOf, staying, keepOf, recordOf}
 use Rattle.records.specs.Examined.{examinedOf, Clean, Kept, octetsIn}
-use Rattle.records.specs.Parts.{yieldOf, discarded, nameIn, headPart, tailPart}
-use Rattle.records.specs.RecordsLaws.{yield-kept, outcome-bad, outcome-fields, length-record, staying-length, name-small, kept-count-small, kept-small}
+use Rattle.records.specs.Parts.{yieldOf, discarded}
+use Rattle.records.specs.Given.{recordAs, GivenTail, Puttable}
+use Rattle.records.specs.GivenLaws.{given-record}
+use Rattle.records.specs.RecordsLaws.{yield-kept, outcome-bad, outcome-fields, name-small, kept-count-small, kept-small}
 use Rattle.records.specs.CleanLaws.{staying-none, clean-fields}
 use Rattle.records.specs.Outcomes.{unclean}
 
@@ -34,18 +36,18 @@ use Rattle.records.specs.Outcomes.{unclean}
 
 -- an answer is within its bounds
 yield-bounds : (c : Carrier) (f : Fields) (clean : Bool) → f .priority < 65536
-    → (examinedOf c (yieldOf c f) clean .priority < 65536) × (examinedOf c (yieldOf c f) clean .size ≤ 2298)
+    → (examinedOf c (yieldOf c f) clean .priority < 65536) × (examinedOf c (yieldOf c f) clean .size ≤ limit.recordSize)
 yield-bounds c f clean h = go (eqb (faultOf Reading c f) 0) refl
   where
     go : (b : Bool) → eqb (faultOf Reading c f) 0 ≡ b → let r : Examined = examinedOf c (cond b (kept (keepOf c f)) (faulty (faultOf Reading c f))) clean in
-        (r .priority < 65536) × (r .size ≤ 2298)
+        (r .priority < 65536) × (r .size ≤ limit.recordSize)
     go true t = (h, kept-small c f (fault-passed Reading c f (eqb-true _ _ t)))
     go false t = (omega arith, omega arith)
 
 -- what `examine` answers
 abbrev Answer : Carrier → List ℕ → Examined → Type 0
 Answer c b r =
-    (r ≡ examinedOf c (outcomeOf c b) (r .clean)) × (((r .priority < 65536) × (r .size ≤ 2298)) × (r .clean ≡ true → Clean c b))
+    (r ≡ examinedOf c (outcomeOf c b) (r .clean)) × (((r .priority < 65536) × (r .size ≤ limit.recordSize)) × (r .clean ≡ true → Clean c b))
 
 module _ (c : Carrier) (b : List ℕ) where
   answer-bad : (k : ℕ) {r : Examined} → bad k ≡ parse c b → r ≡ discarded k → Answer c b r
@@ -58,22 +60,9 @@ module _ (c : Carrier) (b : List ℕ) where
   answer-fields f {r} e h s all =
       let is : r ≡ examinedOf c (outcomeOf c b) (r .clean) = s ∙ ap (λ (o : Outcome). examinedOf c o (r .clean)) (sym (outcome-fields c b f (sym e))) in
       let bounds = yield-bounds c f (r .clean) h in
-      (is, (subst⁻¹ (λ (x : Examined). (x .priority < 65536) × (x .size ≤ 2298)) s bounds, λ t. clean-fields c b f e (all t)))
+      (is, (subst⁻¹ (λ (x : Examined). (x .priority < 65536) × (x .size ≤ limit.recordSize)) s bounds, λ t. clean-fields c b f e (all t)))
 
 -- ---- what is written
-
-module _ (c : Carrier) (p t : ℕ) (name : List ℕ) where
-  record-name-only : recordOf c (keepOf c (nameOnly p t name)) ≡ headPart p t 0 (nameIn c name)
-  unfolding recordOf
-  record-name-only = simp append-nil
-
-  record-full : (a q : List ℕ) → recordOf c (keepOf c (whole p t name a q)) ≡ headPart p t 1 (nameIn c name) ++ tailPart (addressWidth c) a q
-  unfolding recordOf
-  record-full a q =
-      let w : ℕ = addressWidth c in
-      let k : ℕ = length (keptOf w (listOf w a)) in
-      let e : length (staying w a) / w ≡ k = rw (staying-length w a) (mul-div-cancel k (wide-some (carrier-width c))) in
-      simp (e, append-assoc)
 
 module _ (c : Carrier) (b : List ℕ) (k : Kept (outcomeOf c b)) where
   kept-not-bad : (j : ℕ) → bad j ≡ parse c b → ⊥
@@ -92,6 +81,37 @@ module _ (c : Carrier) (b : List ℕ) (k : Kept (outcomeOf c b)) where
 
     kept-passed : Passed Reading c f
     kept-passed = fault-passed Reading c f kept-fault
+
+    -- given as the carrier has them
+    module _ (z : Numbers c (f .priority) (f .lifetime)) (g : Given) (et : g .text ≡ asText c) (ew : g .width ≡ addressWidth c) where
+      given-octets : recordAs g f ≡ octetsIn c (outcomeOf c b)
+      given-octets = given-record c g f et ew ∙ sym kept-octets
+
+      given-tail : (g .clean ≡ true → Clean c b) → f .full ≡ true → GivenTail g f
+      given-tail all u =
+          let y = kept-passed .tail u in
+          record {
+            few = rw ew (kept-count-small (addressWidth c) (f .addresses) (y .few));
+            short = y .short;
+            clean = λ t. rw ew (all t f (sym e));
+          }
+
+      -- what `put_fields` asks
+      given-asks : (g .clean ≡ true → Clean c b) → (at : ℕ) (l : List ℕ) → at + length (octetsIn c (outcomeOf c b)) ≤ length l
+          → Puttable g f × (at + length (recordAs g f) ≤ length l)
+      given-asks all at l room = (
+        record {
+          priority = z .priority;
+          lifetime = z .lifetime;
+          name = rw et (name-small c (f .name) (kept-passed .named));
+          width = rw ew (carrier-width c);
+          tail = given-tail all;
+        },
+        rw given-octets room,
+      )
+
+      given-writes : {at r : ℕ} {l l′ : List ℕ} → Wrote at (recordAs g f) l r l′ → Wrote at (octetsIn c (outcomeOf c b)) l r l′
+      given-writes v = rw given-octets at v
 
 -- ---- by the places
 
@@ -132,19 +152,13 @@ module _ (c : Carrier) (b : List ℕ) {s : Places} (e : told b s ≡ parse c b) 
       answer-fields c b nameFields name-only-fields (name-only-numbers .priority) (a t)
       (λ _. staying-none (addressWidth c) (wide-some (carrier-width c)))
 
-  module _ (k : Kept (outcomeOf c b)) (at : ℕ) (l : List ℕ) where
-    -- what `put_head` asks
-    pub name-only-asks : at + length (octetsIn c (outcomeOf c b)) ≤ length l → let name : List ℕ = nameIn c (cut b i n) in
-        ((p < 65536) × (t < 4294967296)) × ((length name ≤ 255) × (at + 8 + length name ≤ length l))
-    name-only-asks room =
-        let z = name-only-numbers in
-        let y = name-small c (cut b i n) (kept-passed c b k nameFields name-only-fields .named) in
-        let o : at + length (recordOf c (keepOf c nameFields)) ≤ length l = rw (kept-octets c b k nameFields name-only-fields) at room in
-        let m : length (recordOf c (keepOf c nameFields)) ≡ 8 + length (nameIn c (cut b i n)) + 0 = length-record c (keepOf c nameFields) in
-        ((z .priority, z .lifetime), (y, omega arith))
+  module _ (k : Kept (outcomeOf c b)) (g : Given) (et : g .text ≡ asText c) (ew : g .width ≡ addressWidth c) where
+    pub name-only-asks : (g .clean ≡ true → Clean c b) → (at : ℕ) (l : List ℕ) → at + length (octetsIn c (outcomeOf c b)) ≤ length l
+        → Puttable g nameFields × (at + length (recordAs g nameFields) ≤ length l)
+    name-only-asks = given-asks c b k nameFields name-only-fields name-only-numbers g et ew
 
-    pub name-only-writes : {r : ℕ} {l′ : List ℕ} → Wrote at (headPart p t 0 (nameIn c (cut b i n))) l r l′ → Wrote at (octetsIn c (outcomeOf c b)) l r l′
-    name-only-writes w = rw (kept-octets c b k nameFields name-only-fields, record-name-only c p t (cut b i n)) w
+    pub name-only-writes : {at r : ℕ} {l l′ : List ℕ} → Wrote at (recordAs g nameFields) l r l′ → Wrote at (octetsIn c (outcomeOf c b)) l r l′
+    name-only-writes = given-writes c b k nameFields name-only-fields name-only-numbers g et ew
 
 module _ (c : Carrier) (b : List ℕ) {s : Places} (e : told b s ≡ parse c b) (h : Ranged c s) {p t i n j m q k : ℕ} (is : s ≡ Full p t i n j m q k) where
   abbrev fullFields : Fields
@@ -160,34 +174,10 @@ module _ (c : Carrier) (b : List ℕ) {s : Places} (e : told b s ≡ parse c b) 
       → (r .clean ≡ true → staying (addressWidth c) (cut b j m) ≡ cut b j m) → Answer c b r
   examine-full a all = answer-fields c b fullFields full-fields (full-numbers .priority) (a t) all
 
-  module _ (kept-one : Kept (outcomeOf c b)) (at : ℕ) (l : List ℕ) (room : at + length (octetsIn c (outcomeOf c b)) ≤ length l) where
-    full-room : at + (8 + length (nameIn c (cut b i n)) + (3 + length (staying (addressWidth c) (cut b j m)) + length (cut b q k))) ≤ length l
-    full-room = rw (kept-octets c b kept-one fullFields full-fields, length-record) at room
+  module _ (kept-one : Kept (outcomeOf c b)) (g : Given) (et : g .text ≡ asText c) (ew : g .width ≡ addressWidth c) where
+    pub full-asks : (g .clean ≡ true → Clean c b) → (at : ℕ) (l : List ℕ) → at + length (octetsIn c (outcomeOf c b)) ≤ length l
+        → Puttable g fullFields × (at + length (recordAs g fullFields) ≤ length l)
+    full-asks = given-asks c b kept-one fullFields full-fields full-numbers g et ew
 
-    -- what `put_head` asks
-    pub full-asks-head : let name : List ℕ = nameIn c (cut b i n) in
-        ((p < 65536) × (t < 4294967296)) × ((length name ≤ 255) × (at + 8 + length name ≤ length l))
-    full-asks-head =
-        let z = full-numbers in
-        let y = name-small c (cut b i n) (kept-passed c b kept-one fullFields full-fields .named) in
-        let o = full-room in
-        ((z .priority, z .lifetime), (y, omega arith))
-
-    module _ {w r : ℕ} {l′ : List ℕ} (ew : w ≡ addressWidth c) (head : Wrote at (headPart p t 1 (nameIn c (cut b i n))) l r l′) where
-      -- what `put_tail` asks
-      pub full-asks-tail : {clean : Bool} → (clean ≡ true → Clean c b) → let a : List ℕ = cut b j m in
-          Width w
-          × ((clean ≡ true → staying w a ≡ a)
-          × (((length (keptOf w (listOf w a)) ≤ 63) × (length (cut b q k) ≤ 1024))
-          × (r + 3 + length (staying w a) + length (cut b q k) ≤ length l′)))
-      full-asks-tail all =
-          let y = kept-passed c b kept-one fullFields full-fields .tail refl in
-          let o = full-room in
-          let same : length l′ ≡ length l = ap length (head .laid) ∙ over-length at _ l (head .room) in
-          rw ew
-          (carrier-width c, (λ z. all z fullFields (sym full-fields), ((kept-count-small (addressWidth c) (cut b j m) (y .few), y .short), omega (arith, head .next))))
-
-      pub full-writes : {r′ : ℕ} {l″ : List ℕ} → Wrote r (tailPart w (cut b j m) (cut b q k)) l′ r′ l″ → Wrote at (octetsIn c (outcomeOf c b)) l r′ l″
-      full-writes v =
-          rw (kept-octets c b kept-one fullFields full-fields, record-full c p t (cut b i n) (cut b j m) (cut b q k))
-          (then head (rw ew at v))
+    pub full-writes : {at r : ℕ} {l l′ : List ℕ} → Wrote at (recordAs g fullFields) l r l′ → Wrote at (octetsIn c (outcomeOf c b)) l r l′
+    full-writes = given-writes c b kept-one fullFields full-fields full-numbers g et ew

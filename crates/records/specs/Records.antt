@@ -19,16 +19,24 @@ use Rattle.judge.specs.Judge.{faultOf}
 abbrev pub staying : ℕ → List ℕ → List ℕ
 staying w addresses = flat (keptOf w (listOf w addresses))
 
--- what reading keeps of the fields: the name in wire form, the addresses that stay
-abbrev pub keepOf : Carrier → Fields → Fields
-keepOf c f = record {
+-- a name as a sheet holds it: in wire form, whether it came as text or not
+abbrev pub nameAs : Bool → List ℕ → List ℕ
+nameAs text name = cond text (wireOf name) name
+
+-- what is kept of fields: the name in wire form, the addresses of w octets that stay
+abbrev pub keepAs : Bool → ℕ → Fields → Fields
+keepAs text w f = record {
   priority = f .priority;
   lifetime = f .lifetime;
   full = f .full;
-  name = cond (asText c) (wireOf (f .name)) (f .name);
-  addresses = staying (addressWidth c) (f .addresses);
+  name = nameAs text (f .name);
+  addresses = staying w (f .addresses);
   parameters = f .parameters;
 }
+
+-- what reading keeps
+abbrev pub keepOf : Carrier → Fields → Fields
+keepOf c f = keepAs (asText c) (addressWidth c) f
 
 -- a body's fault, or its record
 pub data Outcome : Type 0 where
@@ -72,12 +80,15 @@ abbrev pub tailOf : ℕ → Bool → List ℕ → List ℕ → List ℕ
 tailOf w full addresses parameters =
     cond full (be 1 (length addresses / w) ++ (addresses ++ (be 2 (length parameters) ++ parameters))) []
 
--- priority 2, lifetime 4, mode 1, name length 1, name, and what mode 1 adds
-unfoldable pub recordOf : Carrier → Fields → List ℕ
-recordOf c r =
+-- priority 2, lifetime 4, mode 1, name length 1, name, and what mode 1 adds, with addresses of w octets
+abbrev pub recordBy : ℕ → Fields → List ℕ
+recordBy w r =
     be 2 (r .priority)
     ++ (be 4 (r .lifetime)
     ++ (be 1 (modeOf (r .full))
     ++ (be 1 (length (r .name))
     ++ (r .name
-    ++ tailOf (addressWidth c) (r .full) (r .addresses) (r .parameters)))))
+    ++ tailOf w (r .full) (r .addresses) (r .parameters)))))
+
+unfoldable pub recordOf : Carrier → Fields → List ℕ
+recordOf c r = recordBy (addressWidth c) r

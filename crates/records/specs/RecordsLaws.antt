@@ -28,7 +28,7 @@ use Rattle.judge.specs.declared.Side.the-variants.{Reading, Writing}
 use Rattle.judge.specs.Judge.{nameOf, faultOf}
 use Rattle.judge.specs.Passed.{PassedTail, Passed}
 use Rattle.judge.specs.JudgeLaws.{carrier-width, fault-passed, read-text, read-name}
-use Rattle.records.specs.Records.{faulty, kept, outcomeOf, staying, keepOf, modeOf, tailOf, recordOf}
+use Rattle.records.specs.Records.{faulty, kept, outcomeOf, staying, keepOf, headSize, tailSize, modeOf, tailOf, recordBy, recordOf}
 use Rattle.records.specs.Parts.{yieldOf, nameIn}
 
 -- ---- what fields yield
@@ -91,10 +91,9 @@ module _ (c : Carrier) (b : List ℕ) where
 
 -- ---- how many octets a record has
 
-pub length-record : (c : Carrier) (r : Fields)
-    → length (recordOf c r) ≡ 8 + length (r .name) + cond (r .full) (3 + length (r .addresses) + length (r .parameters)) 0
-unfolding recordOf
-length-record c r = go (r .full)
+pub length-by : (w : ℕ) (r : Fields)
+    → length (recordBy w r) ≡ headSize + length (r .name) + cond (r .full) (tailSize + length (r .addresses) + length (r .parameters)) 0
+length-by w r = go (r .full)
   where
     go : (full : Bool)
         → length
@@ -103,10 +102,15 @@ length-record c r = go (r .full)
         ++ (be 1 (modeOf full)
         ++ (be 1 (length (r .name))
         ++ (r .name
-        ++ tailOf (addressWidth c) full (r .addresses) (r .parameters))))))
-        ≡ 8 + length (r .name) + cond full (3 + length (r .addresses) + length (r .parameters)) 0
+        ++ tailOf w full (r .addresses) (r .parameters))))))
+        ≡ headSize + length (r .name) + cond full (tailSize + length (r .addresses) + length (r .parameters)) 0
     go true = simp length-append (omega arith)
     go false = simp length-append (omega arith)
+
+pub length-record : (c : Carrier) (r : Fields)
+    → length (recordOf c r) ≡ headSize + length (r .name) + cond (r .full) (tailSize + length (r .addresses) + length (r .parameters)) 0
+unfolding recordOf
+length-record c r = length-by (addressWidth c) r
 
 -- the addresses that stay have w octets each
 pub staying-length : (w : ℕ) (a : List ℕ) → length (staying w a) ≡ length (keptOf w (listOf w a)) * w
@@ -131,12 +135,13 @@ name-small c name e = go (asText c) refl
 pub kept-count-small : (w : ℕ) (a : List ℕ) → length a / w ≤ limit.addresses → length (keptOf w (listOf w a)) ≤ limit.addresses
 kept-count-small w a h = let k = kept-few w (listOf w a) in let l = list-length w a in omega arith
 
--- 8 octets, a name of 255, 3 octets, 63 addresses of 16, parameters of 1,024
-pub kept-small : (c : Carrier) (f : Fields) → Passed Reading c f → length (recordOf c (keepOf c f)) ≤ 2298
+-- with a name of 255, 63 addresses of 16, parameters of 1,024
+pub kept-small : (c : Carrier) (f : Fields) → Passed Reading c f → length (recordOf c (keepOf c f)) ≤ limit.recordSize
 kept-small c f passed = rw length-record (go (f .full) refl)
   where
     go : (full : Bool) → f .full ≡ full
-        → 8 + length (nameIn c (f .name)) + cond full (3 + length (staying (addressWidth c) (f .addresses)) + length (f .parameters)) 0 ≤ 2298
+        → headSize + length (nameIn c (f .name)) + cond full (tailSize + length (staying (addressWidth c) (f .addresses)) + length (f .parameters)) 0
+        ≤ limit.recordSize
     go true u =
         let w : ℕ = addressWidth c in
         let t = passed .tail u in
@@ -148,7 +153,7 @@ kept-small c f passed = rw length-record (go (f .full) refl)
         omega (arith, t .short)
     go false u = let n = name-small c (f .name) (passed .named) in omega arith
 
-pub record-small : (c : Carrier) (b : List ℕ) (r : Fields) → outcomeOf c b ≡ kept r → length (recordOf c r) ≤ 2298
+pub record-small : (c : Carrier) (b : List ℕ) (r : Fields) → outcomeOf c b ≡ kept r → length (recordOf c r) ≤ limit.recordSize
 record-small c b r e =
     let k = outcome-kept c b r e in
     rw (k .3) (kept-small c (k .0) (fault-passed Reading c (k .0) (k .2)))

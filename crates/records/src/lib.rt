@@ -5,12 +5,15 @@ ghost use mathlib.Core.Bool.{true};
 ghost use Prim.Native.Nat.{ℕ, _+_, _≤_, _<_};
 ghost use lib.ListN.{length};
 ghost use Rattle.octets.specs.Over.{Wrote};
+ghost use Rattle.numbers.specs.Limit as limit;
 ghost use Rattle.addresses.specs.Addresses.{Width, listOf, keptOf};
 ghost use Rattle.carriers.specs.Carriers.{addressWidth};
-ghost use Rattle.blocks.specs.Block.{nameOnly, whole};
-ghost use Rattle.records.specs.Records.{outcomeOf, staying};
+ghost use Rattle.blocks.specs.Block.{fieldsOf, nameOnly, whole};
+ghost use Rattle.records.specs.Records.{outcomeOf, nameAs, staying, headSize, tailSize, modeOf};
 ghost use Rattle.records.specs.Examined.{examinedOf, Clean, Kept, octetsIn};
+ghost use Rattle.records.specs.Given.{recordAs, Puttable};
 ghost use Rattle.records.specs.Parts.{yieldOf, discarded, nameIn, namePart, headPart, tailPart};
+use blocks::Head;
 use blocks::Places;
 use carriers::Carrier;
 use judge::Side;
@@ -21,6 +24,14 @@ pub struct Examined {
     pub fault: usize,
     pub priority: usize,
     pub size: usize,
+    pub clean: bool,
+}
+
+// How the fields of a record are given: whether the name is text or in wire form, how many octets an address has, and whether every
+// address is known to stay, so that the list can be copied as it stands.
+pub struct Given {
+    pub text: bool,
+    pub width: usize,
     pub clean: bool,
 }
 
@@ -49,13 +60,20 @@ fn faulty(fault: usize) -> Examined
 }
 
 // Octets of a name in wire form.
-fn name_size(c: Carrier, name: &[u8]) -> usize
-    ensures { λ r. ⌜ r ≡ length (nameIn c (now (name .entry))) ⌝ }
+fn wire_size(text: bool, name: &[u8]) -> usize
+    ensures { λ r. ⌜ r ≡ length (nameAs text (now (name .entry))) ⌝ }
 {
-    if c.as_text() {
+    if text {
         return name.len() + 2;
     }
     name.len()
+}
+
+// Octets in wire form of a name that a carrier brings.
+fn name_size(c: Carrier, name: &[u8]) -> usize
+    ensures { λ r. ⌜ r ≡ length (nameIn c (now (name .entry))) ⌝ }
+{
+    wire_size(c.as_text(), name)
 }
 
 // A name-only body, whatever its lifetime.
@@ -115,38 +133,38 @@ fn examine_full(
 }
 
 // Writes a name's length and its wire form.
-fn put_name(out: &mut [u8], at: usize, c: Carrier, name: &[u8]) -> usize
-    requires { ⌜ length (nameIn c (now name)) ≤ 255 ⌝ }
-    requires { ⌜ at + 1 + length (nameIn c (now name)) ≤ length (now out) ⌝ }
-    ensures { λ r. ⌜ Wrote at (namePart (nameIn c (now (name .entry)))) (now (out .entry)) r (now (out .exit)) ⌝ }
+fn put_name(out: &mut [u8], at: usize, text: bool, name: &[u8]) -> usize
+    requires { ⌜ length (nameAs text (now name)) ≤ 255 ⌝ }
+    requires { ⌜ at + 1 + length (nameAs text (now name)) ≤ length (now out) ⌝ }
+    ensures { λ r. ⌜ Wrote at (namePart (nameAs text (now (name .entry)))) (now (out .entry)) r (now (out .exit)) ⌝ }
 {
-    let size = name_size(c, name);
+    let size = wire_size(text, name);
     let next = octets::put8(out, at, size as u8);
-    if c.as_text() {
+    if text {
         return texts::to_wire(out, next, name);
     }
     octets::copy(out, next, name)
 }
 
-// Writes a record to the end of its name.
-fn put_head(
-    out: &mut [u8],
-    at: usize,
-    c: Carrier,
-    priority: usize,
-    lifetime: usize,
-    mode: u8,
-    name: &[u8],
-) -> usize
-    requires { ⌜ (priority < 65536) × (lifetime < 4294967296) ⌝ }
-    requires { ⌜ length (nameIn c (now name)) ≤ 255 ⌝ }
-    requires { ⌜ at + 8 + length (nameIn c (now name)) ≤ length (now out) ⌝ }
-    ensures { λ r. ⌜ Wrote at (headPart priority lifetime mode (nameIn c (now (name .entry)))) (now (out .entry)) r (now (out .exit)) ⌝ }
+// Mode 1 is the full form, 0 a name only.
+fn mode_of(full: bool) -> u8
+    ensures { λ r. ⌜ r ≡ modeOf full ⌝ }
 {
-    let after_priority = octets::put16(out, at, priority);
-    let after_lifetime = octets::put32(out, after_priority, lifetime);
+    if full { 1 } else { 0 }
+}
+
+// Writes a record to the end of its name.
+fn put_head(out: &mut [u8], at: usize, text: bool, head: Head, name: &[u8]) -> usize
+    requires { ⌜ (head .priority < 65536) × (head .lifetime < 4294967296) ⌝ }
+    requires { ⌜ length (nameAs text (now name)) ≤ 255 ⌝ }
+    requires { ⌜ at + headSize + length (nameAs text (now name)) ≤ length (now out) ⌝ }
+    ensures { λ r. ⌜ Wrote at (headPart head (nameAs text (now (name .entry)))) (now (out .entry)) r (now (out .exit)) ⌝ }
+{
+    let mode = mode_of(head.full);
+    let after_priority = octets::put16(out, at, head.priority);
+    let after_lifetime = octets::put32(out, after_priority, head.lifetime);
     let after_mode = octets::put8(out, after_lifetime, mode);
-    put_name(out, after_mode, c, name)
+    put_name(out, after_mode, text, name)
 }
 
 // Writes the addresses that stay, of `w` octets each: a list that is known to be clean is not looked at again.
@@ -173,8 +191,8 @@ fn put_tail(
 ) -> usize
     requires { ⌜ Width w ⌝ }
     requires { ⌜ (clean ≡ true → staying w (now addresses) ≡ now addresses) ⌝ }
-    requires { ⌜ (length (keptOf w (listOf w (now addresses))) ≤ 63) × (length (now parameters) ≤ 1024) ⌝ }
-    requires { ⌜ at + 3 + length (staying w (now addresses)) + length (now parameters) ≤ length (now out) ⌝ }
+    requires { ⌜ (length (keptOf w (listOf w (now addresses))) ≤ limit.addresses) × (length (now parameters) ≤ limit.parameters) ⌝ }
+    requires { ⌜ at + tailSize + length (staying w (now addresses)) + length (now parameters) ≤ length (now out) ⌝ }
     ensures { λ r. ⌜ Wrote at (tailPart w (now (addresses .entry)) (now (parameters .entry))) (now (out .entry)) r (now (out .exit)) ⌝ }
 {
     let from = at + 1;
@@ -185,10 +203,32 @@ fn put_tail(
     octets::copy(out, after_length, parameters)
 }
 
-// Whether a body yields a record. (`&body[..]`: lent anew, it goes on in registers.)
+// Writes the record of these fields at `at`, the name in wire form and the addresses that stay, and returns the index after it.
+pub fn put_fields(
+    out: &mut [u8],
+    at: usize,
+    given: Given,
+    head: Head,
+    name: &[u8],
+    addresses: &[u8],
+    parameters: &[u8],
+) -> usize
+    requires { ⌜ Puttable given (fieldsOf head (now name) (now addresses) (now parameters)) ⌝ }
+    requires { ⌜ at + length (recordAs given (fieldsOf head (now name) (now addresses) (now parameters))) ≤ length (now out) ⌝ }
+    ensures { λ r. ⌜ Wrote at (recordAs given (fieldsOf head (now (name .entry)) (now (addresses .entry)) (now (parameters .entry))))
+        (now (out .entry)) r (now (out .exit)) ⌝ }
+{
+    let end = put_head(out, at, given.text, head, name);
+    if head.full {
+        return put_tail(out, end, given.width, given.clean, addresses, parameters);
+    }
+    end
+}
+
+// Whether a body yields a record. (`&body[..]` makes LLVM pass pointer and length in registers.)
 pub fn examine(c: Carrier, body: &[u8]) -> Examined
     ensures { λ r. ⌜ r ≡ examinedOf c (outcomeOf c (now (body .entry))) (r .clean) ⌝ }
-    ensures { λ r. ⌜ (r .priority < 65536) × (r .size ≤ 2298) ⌝ }
+    ensures { λ r. ⌜ (r .priority < 65536) × (r .size ≤ limit.recordSize) ⌝ }
     ensures { λ r. ⌜ (r .clean ≡ true → Clean c (now (body .entry))) ⌝ }
 {
     match blocks::split(c, &body[..]) {
@@ -233,6 +273,11 @@ pub fn put_record(out: &mut [u8], at: usize, c: Carrier, clean: bool, body: &[u8
     requires { ⌜ at + length (octetsIn c (outcomeOf c (now body))) ≤ length (now out) ⌝ }
     ensures { λ r. ⌜ Wrote at (octetsIn c (outcomeOf c (now (body .entry)))) (now (out .entry)) r (now (out .exit)) ⌝ }
 {
+    let given = Given {
+        text: c.as_text(),
+        width: c.address_width(),
+        clean,
+    };
     match blocks::split(c, body) {
         Places::Bad { fault: _ } => at,
         Places::NameOnly {
@@ -242,7 +287,13 @@ pub fn put_record(out: &mut [u8], at: usize, c: Carrier, clean: bool, body: &[u8
             nlen,
         } => {
             let end = name + nlen;
-            put_head(out, at, c, priority, lifetime, 0, &body[name..end])
+            let head = Head {
+                priority,
+                lifetime,
+                full: false,
+            };
+            let none = &body[..0];
+            put_fields(out, at, given, head, &body[name..end], none, none)
         }
         Places::Full {
             priority,
@@ -257,12 +308,17 @@ pub fn put_record(out: &mut [u8], at: usize, c: Carrier, clean: bool, body: &[u8
             let name_end = name + nlen;
             let addresses_end = addresses + alen;
             let parameters_end = parameters + plen;
-            let tail = put_head(out, at, c, priority, lifetime, 1, &body[name..name_end]);
-            put_tail(
+            let head = Head {
+                priority,
+                lifetime,
+                full: true,
+            };
+            put_fields(
                 out,
-                tail,
-                c.address_width(),
-                clean,
+                at,
+                given,
+                head,
+                &body[name..name_end],
                 &body[addresses..addresses_end],
                 &body[parameters..parameters_end],
             )

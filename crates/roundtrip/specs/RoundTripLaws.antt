@@ -14,9 +14,8 @@ use Rattle.octets.specs.Lists.{All}
 use Rattle.octets.specs.Over.{over}
 use Rattle.numbers.specs.Refusal as refusal
 use Rattle.carriers.specs.declared.Carrier.{Carrier}
-use Rattle.carriers.specs.declared.Carrier.the-variants.{Dhcp4, Dhcp6, Router, Ike4, Ike6}
 use Rattle.carriers.specs.Carriers.{numberOf}
-use Rattle.carriers.specs.CarriersLaws.{chosen-number, by-joined}
+use Rattle.carriers.specs.CarriersLaws.{chosen-number, number-octet, by-joined}
 use Rattle.frames.specs.Frame.{Framed, frame}
 use Rattle.frames.specs.Walk.{Plain}
 use Rattle.frames.specs.WalkLaws.{false-apart}
@@ -97,14 +96,7 @@ over-front bs out n l = ap₂ (λ (n : ℕ) (l : List ℕ). take n l) n l ∙ ta
 -- a sheet says its carrier's number
 sheet-number : (s : List ℕ) (c : Carrier) (rs : List Fields) → s ≡ sheetOf c rs → getD s carrierAt 0 ≡ numberOf c
 unfolding sheetOf frontOf
-sheet-number s c rs e = ap (λ (l : List ℕ). getD l carrierAt 0) e ∙ says c
-  where
-    says : (c : Carrier) → getD (sheetOf c rs) carrierAt 0 ≡ numberOf c
-    says Dhcp4 = refl
-    says Dhcp6 = refl
-    says Router = refl
-    says Ike4 = refl
-    says Ike6 = refl
+sheet-number s c rs e = ap (λ (l : List ℕ). getD l carrierAt 0) e ∙ number-octet c
 
 -- writing that answers 0 answers with the octets defined
 written-octets : (s : List ℕ) (c : Carrier) (rs : List Fields) (room : ℕ) → Accepted s c rs → numberIn (writeOf s room) ≡ 0

@@ -9,8 +9,8 @@ use Rattle.blocks.proofs.after_name.Tie as tie
 returns : tie.Need-returns
 returns c = search (needs, after-name-length-cut)
 
-number-requires : tie.Need-number-requires
-number-requires c κs = (omega arith, omega (arith, length-width (c .before .before .before .args .carrier)))
+get-number-requires : tie.Need-get-number-requires
+get-number-requires c κs = (omega arith, omega (arith, length-width (c .before .before .before .args .carrier)))
 
 returns-2 : tie.Need-returns-2
 returns-2 c = search (needs, after-name-addresses-cut)
@@ -29,7 +29,7 @@ after-name-spec =
     (λ c. search needs)
     (λ c. search needs)
     returns
-    number-requires
+    get-number-requires
     (λ c. search needs)
     (λ c. search needs)
     returns-2

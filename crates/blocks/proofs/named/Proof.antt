@@ -12,8 +12,8 @@ add-name c = omega (arith, length-width (c .before .before .args .carrier))
 returns : tie.Need-returns
 returns c = search (needs, named-fixed-cut)
 
-number-requires : tie.Need-number-requires
-number-requires c κs = (omega arith, omega (arith, length-width (c .before .before .before .before .args .carrier)))
+get-number-requires : tie.Need-get-number-requires
+get-number-requires c κs = (omega arith, omega (arith, length-width (c .before .before .before .before .args .carrier)))
 
 returns-2 : tie.Need-returns-2
 returns-2 c = search (needs, named-name-cut)
@@ -34,7 +34,7 @@ named-spec =
     add-name
     returns
     (λ c κs. search needs)
-    number-requires
+    get-number-requires
     returns-2
     (λ c. search needs)
     (λ c. search needs)

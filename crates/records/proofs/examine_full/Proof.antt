@@ -5,8 +5,10 @@ use borrow.Author.Tests.{eqb-true}
 use mathlib.Core.Path.{_≡_, refl}
 use Prim.Native.Nat.{ℕ, _+_, _*_, _≤_}
 use lib.ListN.{length}
+use Rattle.numbers.specs.Limit as limit
 use Rattle.blocks.specs.Block.{whole}
 use Rattle.judge.specs.JudgeLaws.{carrier-width}
+use Rattle.records.specs.Records.{headSize, tailSize}
 use Rattle.records.specs.Parts.{nameIn}
 use Rattle.records.specs.Outcomes.{unclean, examined-faulty, full-few, full-small, full-kept, full-clean}
 use Rattle.records.proofs.examine_full.Statement.{statement}
@@ -31,7 +33,7 @@ kept-count-requires c κs =
 -- no sum wraps: the size is that of a record
 small : (c : tie.After-kept-count) {n : ℕ} → let args = c .before .before .before .before .before .before .before .args in
     n ≡ length (nameIn (args .c) (args .name .now))
-    → 8 + n + 3 + c .kept-count .result * c .before .address-width .result + length (args .parameters .now) ≤ 2298
+    → headSize + n + tailSize + c .kept-count .result * c .before .address-width .result + length (args .parameters .now) ≤ limit.recordSize
 small c e =
     let wide = c .before in
     let judged = wide .before .before in

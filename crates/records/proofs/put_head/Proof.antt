@@ -10,9 +10,10 @@ returns c =
     let moded = named .before .before .before .before in
     let lasting = moded .before .before .before .before in
     let first = lasting .before .before .before .before in
-    then (first .put16 .ensures) (then (lasting .put32 .ensures) (then (moded .put8 .ensures) (named .put-name .ensures)))
+    let mode = first .before .before in
+    rw (mode .mode-of .ensures) at (then (first .put16 .ensures) (then (lasting .put32 .ensures) (then (moded .put8 .ensures) (named .put-name .ensures))))
 
 pub put-head-spec : {M : Type 1} → statement M
 put-head-spec =
     tie.close
-    (tie.spec (λ c κs. search needs) (λ c κs. search needs) (λ c κs. search needs) (λ c κs. search needs) (λ c. search needs) returns)
+    (tie.spec (λ c κs. search needs) (λ c κs. search needs) (λ c κs. search needs) (λ c κs. search needs) (λ c κs. search needs) (λ c. search needs) returns)
