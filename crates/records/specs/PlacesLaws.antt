@@ -1,7 +1,7 @@
 -- What the places that `split` answers say on each way through `examine` and `put_record`. Assumes nothing.
 use mathlib.Core.Path.{_≡_, refl, sym, ap, _∙_, subst⁻¹}
-use mathlib.Core.Bool.{Bool, true, false, cond}
-use mathlib.Core.List.{List}
+use mathlib.Core.Bool.{Bool, true, false, cond, false≢true}
+use mathlib.Core.List.{List, []}
 use Prim.Native.Nat.{ℕ, _+_, _-_, _≤_, _<_}
 use native.Mathlib.Omega.{arith}
 use native.Mathlib.Nat.{add-sub-cancel-left}
@@ -13,9 +13,10 @@ use Rattle.numbers.specs.Limit as limit
 use Rattle.carriers.specs.declared.Carrier.{Carrier}
 use Rattle.carriers.specs.Carriers.{addressWidth, asText}
 use Rattle.addresses.specs.AddressesLaws.{wide-some}
+use Rattle.blocks.specs.declared.Head.{Head}
 use Rattle.blocks.specs.declared.Places.{Places}
 use Rattle.blocks.specs.declared.Places.the-variants.{Bad, NameOnly, Full}
-use Rattle.blocks.specs.Block.{Fields, bad, fields, nameOnly, whole, parse}
+use Rattle.blocks.specs.Block.{Fields, headWith, bad, fields, nameOnly, whole, parse}
 use Rattle.blocks.specs.Places.{told, Inside, Numbers, Ranged}
 use Rattle.judge.specs.declared.Side.the-variants.{Reading}
 use Rattle.judge.specs.Judge.{faultOf}
@@ -23,11 +24,11 @@ use Rattle.judge.specs.Passed.{Passed}
 use Rattle.judge.specs.JudgeLaws.{carrier-width, fault-passed}
 use Rattle.records.specs.declared.Examined.{Examined}
 use Rattle.records.specs.declared.Given.{Given}
-use Rattle.records.specs.Records.{Outcome, faulty, kept, outcomeOf, staying, keepOf, recordOf}
+use Rattle.records.specs.Records.{Outcome, faulty, kept, outcomeOf, staying, nameAs, keepOf, headSize, recordOf}
 use Rattle.records.specs.Examined.{examinedOf, Clean, Kept, octetsIn}
-use Rattle.records.specs.Parts.{yieldOf, discarded}
+use Rattle.records.specs.Parts.{yieldOf, discarded, headPart}
 use Rattle.records.specs.Given.{recordAs, GivenTail, Puttable}
-use Rattle.records.specs.GivenLaws.{given-record}
+use Rattle.records.specs.GivenLaws.{given-record, asks-head, writes-bare}
 use Rattle.records.specs.RecordsLaws.{yield-kept, outcome-bad, outcome-fields, name-small, kept-count-small, kept-small}
 use Rattle.records.specs.CleanLaws.{staying-none, clean-fields}
 use Rattle.records.specs.Outcomes.{unclean}
@@ -152,13 +153,25 @@ module _ (c : Carrier) (b : List ℕ) {s : Places} (e : told b s ≡ parse c b) 
       answer-fields c b nameFields name-only-fields (name-only-numbers .priority) (a t)
       (λ _. staying-none (addressWidth c) (wide-some (carrier-width c)))
 
-  module _ (k : Kept (outcomeOf c b)) (g : Given) (et : g .text ≡ asText c) (ew : g .width ≡ addressWidth c) where
-    pub name-only-asks : (g .clean ≡ true → Clean c b) → (at : ℕ) (l : List ℕ) → at + length (octetsIn c (outcomeOf c b)) ≤ length l
-        → Puttable g nameFields × (at + length (recordAs g nameFields) ≤ length l)
-    name-only-asks = given-asks c b k nameFields name-only-fields name-only-numbers g et ew
+  -- a name alone, as text or not
+  module _ (k : Kept (outcomeOf c b)) {text : Bool} (et : text ≡ asText c) (at : ℕ) (l : List ℕ) (room : at + length (octetsIn c (outcomeOf c b)) ≤ length l) where
+    abbrev given : Given
+    given = record { text = text; width = addressWidth c; clean = false }
 
-    pub name-only-writes : {at r : ℕ} {l l′ : List ℕ} → Wrote at (recordAs g nameFields) l r l′ → Wrote at (octetsIn c (outcomeOf c b)) l r l′
-    name-only-writes = given-writes c b k nameFields name-only-fields name-only-numbers g et ew
+    abbrev head : Head
+    head = headWith p t false
+
+    asked : Puttable given nameFields × (at + length (recordAs given nameFields) ≤ length l)
+    asked = given-asks c b k nameFields name-only-fields name-only-numbers given et refl (λ z. absurd (false≢true z)) at l room
+
+    -- what `put_head` asks
+    pub name-only-asks : ((p < 65536) × (t < 4294967296)) × ((length (nameAs text (cut b i n)) ≤ 255) × (at + headSize + length (nameAs text (cut b i n)) ≤ length l))
+    name-only-asks = asks-head given head (cut b i n) [] [] (asked .0) at l (asked .1)
+
+    pub name-only-writes : {r : ℕ} {l′ : List ℕ} → Wrote at (headPart head (nameAs text (cut b i n))) l r l′ → Wrote at (octetsIn c (outcomeOf c b)) l r l′
+    name-only-writes w =
+        given-writes c b k nameFields name-only-fields name-only-numbers given et refl
+        (writes-bare given head (cut b i n) [] [] (asked .0) at l (asked .1) w refl)
 
 module _ (c : Carrier) (b : List ℕ) {s : Places} (e : told b s ≡ parse c b) (h : Ranged c s) {p t i n j m q k : ℕ} (is : s ≡ Full p t i n j m q k) where
   abbrev fullFields : Fields

@@ -1,5 +1,5 @@
 // One body, in carrier 1 one instance: whether it yields a record, how many octets the record has in a sheet, and writing it there.
-// This is the one place where reading puts a record into a sheet, and where unusable addresses are dropped.
+// `put_fields` is the one place where a record's fields are put into a sheet, and where unusable addresses are dropped.
 ghost use mathlib.Core.Path.{_≡_};
 ghost use mathlib.Core.Bool.{true};
 ghost use Prim.Native.Nat.{ℕ, _+_, _≤_, _<_};
@@ -266,18 +266,14 @@ pub fn examine(c: Carrier, body: &[u8]) -> Examined
     }
 }
 
-// Writes the record that a body yields at `at`, and returns the index after it. `clean`: every address is known to stay.
+// Writes the record that a body yields at `at`, and returns the index after it. `clean`: every address is known to stay. (A name alone is
+// written by `put_head`, so that `put_fields` has one call here and is inlined.)
 pub fn put_record(out: &mut [u8], at: usize, c: Carrier, clean: bool, body: &[u8]) -> usize
     requires { ⌜ Kept (outcomeOf c (now body)) ⌝ }
     requires { ⌜ (clean ≡ true → Clean c (now body)) ⌝ }
     requires { ⌜ at + length (octetsIn c (outcomeOf c (now body))) ≤ length (now out) ⌝ }
     ensures { λ r. ⌜ Wrote at (octetsIn c (outcomeOf c (now (body .entry)))) (now (out .entry)) r (now (out .exit)) ⌝ }
 {
-    let given = Given {
-        text: c.as_text(),
-        width: c.address_width(),
-        clean,
-    };
     match blocks::split(c, body) {
         Places::Bad { fault: _ } => at,
         Places::NameOnly {
@@ -292,8 +288,7 @@ pub fn put_record(out: &mut [u8], at: usize, c: Carrier, clean: bool, body: &[u8
                 lifetime,
                 full: false,
             };
-            let none = &body[..0];
-            put_fields(out, at, given, head, &body[name..end], none, none)
+            put_head(out, at, c.as_text(), head, &body[name..end])
         }
         Places::Full {
             priority,
@@ -312,6 +307,11 @@ pub fn put_record(out: &mut [u8], at: usize, c: Carrier, clean: bool, body: &[u8
                 priority,
                 lifetime,
                 full: true,
+            };
+            let given = Given {
+                text: c.as_text(),
+                width: c.address_width(),
+                clean,
             };
             put_fields(
                 out,
