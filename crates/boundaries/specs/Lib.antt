@@ -1,5 +1,3 @@
-pub mod Adler
-pub mod AdlerLaws
 pub mod Filling
 pub mod FillingLaws
 pub mod Cases

@@ -1,8 +1,11 @@
 // Runs cases of the two calls from standard input, for comparison with an independent implementation (host/README.md).
 // A case of reading is the letter r, a carrier, a room, a length and as many octets of an area; a case of writing is the letter w, a
 // room, a length and as many octets of a sheet. A carrier is one octet; a room and a length are four, and a room above 65,536 counts
-// as 65,536. Each case gives one line: what the call gives back, the checksum of what it wrote, and whether the rest of its buffer is
-// as before. Where no whole case stands the line is `?`, the last one. At most 1,048,576 octets are read.
+// as 65,536. Each case gives one line: what the call gives back, in decimal (of a reading the number, the length, what was found and
+// discarded and the fault; of a writing the number and the length), the octets that it wrote, in hexadecimal or `-` for none, and `kept` or
+// `changed`, whether the rest of its buffer is as before. Where no whole case stands the line is `?`, the last one. At most 1,048,576 octets
+// are read.
+use chars::least;
 use libc::STDIN_FILENO;
 use libc::STDOUT_FILENO;
 use octets::wide;
@@ -10,10 +13,9 @@ use reading::Reading;
 use writing::Writing;
 ghost use mathlib.Core.Path.{_≡_};
 ghost use mathlib.Core.Bool.{true};
-ghost use Prim.Native.Nat.{_+_, _≤_, _<_, min};
+ghost use Prim.Native.Nat.{_+_, _≤_, _<_};
 ghost use lib.ListN.{length};
 ghost use Rattle.io.specs.Counts.{Counts};
-ghost use Rattle.boundaries.specs.Adler.{adlerOf};
 ghost use Rattle.boundaries.specs.Filling.{allFilled};
 ghost use Rattle.boundaries.specs.Cases.{endOf, Past};
 
@@ -22,6 +24,9 @@ const MOST: usize = 1048576;
 
 // What a buffer holds at each index before a call.
 const FILLING: u8 = 165;
+
+// How many octets are printed at a time: a buffer of 4,096 holds their digits.
+const PART: usize = 2048;
 
 // Octets of a room and a length.
 const SIZES: usize = 8;
@@ -58,27 +63,6 @@ fn is_filled(s: &[u8]) -> bool
     true
 }
 
-// The checksum Adler-32 (RFC 1950 §8.2).
-fn adler32(s: &[u8]) -> usize
-    ensures { λ r. ⌜ r ≡ adlerOf (now (s .entry)) ⌝ }
-{
-    let mut a: usize = 1;
-    let mut b: usize = 0;
-    let mut i: usize = 0;
-    while i < s.len() {
-        a = (a + wide(s[i])) % 65521;
-        b = (b + a) % 65521;
-        i += 1;
-    }
-    b * 65536 + a
-}
-
-fn least(a: usize, b: usize) -> usize
-    ensures { λ r. ⌜ r ≡ min a b ⌝ }
-{
-    if a < b { a } else { b }
-}
-
 // ---- lines
 
 // Prints x in decimal, after a space.
@@ -87,11 +71,38 @@ fn print_number(x: usize) {
     io::print_decimal(STDOUT_FILENO, x as u64);
 }
 
-// Prints how a line ends: the checksum of the first `length` octets, and whether the rest is as before the call.
+// Prints at most `PART` octets in hexadecimal.
+fn print_part(s: &[u8]) {
+    let mut text = io::buffer();
+    let n = hexes::put_octets(&mut text, 0, s);
+    io::write_all(STDOUT_FILENO, &text[..n]);
+}
+
+// Prints octets in hexadecimal, part by part.
+fn print_octets(s: &[u8]) {
+    let mut i = 0;
+    while i < s.len() {
+        let end = i + least(s.len() - i, PART);
+        print_part(&s[i..end]);
+        i = end;
+    }
+}
+
+// Prints octets in hexadecimal, after a space, or `-` where there are none.
+fn print_result(s: &[u8]) {
+    if s.len() == 0 {
+        io::write_all(STDOUT_FILENO, b" -");
+        return;
+    }
+    io::write_all(STDOUT_FILENO, b" ");
+    print_octets(s);
+}
+
+// Prints how a line ends: the first `length` octets, and whether the rest is as before the call.
 fn print_buffer(out: &[u8], length: usize)
     requires { ⌜ Counts length (now out) ⌝ }
 {
-    print_number(adler32(&out[..length]));
+    print_result(&out[..length]);
     if is_filled(&out[length..]) {
         io::write_all(STDOUT_FILENO, b" kept\n");
     } else {

@@ -40,12 +40,10 @@ fn after(i: usize, n: usize) -> u8
 fn put_hex(out: &mut [u8], s: &[u8]) -> usize
     ensures { λ r. ⌜ Counts r (now (out .exit)) ⌝ }
 {
-    let mut pair = [0u8; 2];
     let mut o = 0;
     let mut i = 0;
     while i < s.len() {
-        hexes::put_octet(&mut pair, 0, s[i]);
-        let next = put_all(out, o, &pair);
+        let next = hexes::put_octet(out, o, s[i]);
         o = put(out, next, after(i, s.len()));
         i += 1;
     }

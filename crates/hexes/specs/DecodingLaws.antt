@@ -11,6 +11,7 @@ use borrow.Author.Tests.{lt-ltb, le-ltb, ltb-false}
 use lib.Dec.{ltb}
 use lib.ListN.{length}
 use Rattle.octets.specs.Over.{Wrote}
+use Rattle.hexes.specs.declared.Hex.{Hex}
 use Rattle.hexes.specs.declared.Hex.the-variants.{Octets, NoRoom, Other}
 use Rattle.hexes.specs.Hexes.{Read, octets, some, pairs, readHex}
 use Rattle.hexes.specs.Hexes as hexes
@@ -67,3 +68,17 @@ decode-exactly t bs room = (to, from)
 
     from : Spelled t bs × (1 ≤ length bs) × (length bs ≤ room) → decodeOf t room ≡ written bs
     from s = ap (λ (r : Read). fit r room) (hex-exactly t bs .1 (s .0, s .1)) ∙ fit-written (octets bs) room (s .1) (s .2)
+
+-- ---- how many octets a text is said to have had
+
+module _ (n room : ℕ) where
+  fitted : (bs : List ℕ) (b : Bool) → ltb room (length bs) ≡ b → told (cond b noRoom (written bs)) ≡ Octets n → n ≤ room
+  fitted bs true h e = let z : _≡_ {A = ℕ} 0 1 = cc in absurd (omega arith)
+  fitted bs false h e = let q : length bs ≡ n = cc in omega (arith, ltb-false)
+
+  told-within : (r : Read) → told (fit r room) ≡ Octets n → n ≤ room
+  told-within (octets bs) e = fitted bs (ltb room (length bs)) refl e
+  told-within hexes.other e = let z : _≡_ {A = ℕ} 0 1 = cc in absurd (omega arith)
+
+pub decoded-within : {t out out′ : List ℕ} {r : Hex} {n : ℕ} → Decoded t out r out′ → r ≡ Octets n → n ≤ length out
+decoded-within {t} {out} {out′} {r} {n} d e = told-within n (length out) (readHex t) (sym (d .answered) ∙ e)

@@ -1,14 +1,16 @@
 -- The laws of characters and of reading, case by case, and that what is written is read back. Assumes nothing.
 use mathlib.Core.Path.{_≡_, refl, sym, ap, _∙_}
 use mathlib.Core.Bool.{Bool, true, false, _&&_, _||_, false≢true}
-use mathlib.Core.List.{List, [], _∷_}
+use mathlib.Core.List.{List, [], _∷_, _++_}
 use Prim.Native.Nat.{ℕ, _+_, _-_, _*_, _/_, _%_, _≤_, _<_}
+use native.Mathlib.Numerals.{add-one}
 use native.Mathlib.Omega.{arith}
 use borrow.Author.Tests.{leb-true, leb-false, le-leb, lt-leb, lt-ltb, le-ltb, ne-eqb}
 use lib.Dec.{leb, eqb}
-use lib.ListN.{length}
+use lib.ListN.{length, getD, take}
+use lib.Seq.{take-suc}
 use Rattle.octets.specs.Numbers.{Bytes}
-use Rattle.hexes.specs.Hexes.{range, digit, value, separator, octet, Read, octets, other, onto, pairs, some, readHex, digitOf, hexOf}
+use Rattle.hexes.specs.Hexes.{range, digit, value, separator, octet, Read, octets, other, onto, pairs, some, readHex, digitOf, two, hexOf}
 
 -- ---- characters
 
@@ -139,3 +141,11 @@ pairs-hex (b ∷ bs) h =
 
 pub hex-read : (bs : List ℕ) → Bytes bs → 1 ≤ length bs → readHex (hexOf bs) ≡ octets bs
 hex-read bs h k = ap some (pairs-hex bs h) ∙ is-some bs k
+
+hex-append : (a b : List ℕ) → hexOf (a ++ b) ≡ hexOf a ++ hexOf b
+hex-append [] b = refl
+hex-append (x ∷ a) b = ap (λ (l : List ℕ). two x ++ l) (hex-append a b)
+
+-- one octet more
+pub hex-more : (s : List ℕ) (i : ℕ) → i < length s → hexOf (take (i + 1) s) ≡ hexOf (take i s) ++ two (getD s i 0)
+hex-more s i h = rw (add-one i, take-suc s i 0 h) (hex-append (take i s) (getD s i 0 ∷ []))

@@ -1,15 +1,19 @@
 // Octets given as hexadecimal text, as Wireshark copies a byte string: digits in pairs, upper or lower case, with or without spaces,
 // tabs, colons and line breaks between the pairs. `decode` reads such a text into a lent buffer: a first pass checks and counts, then
-// the room is tested, and a second pass writes, so that a text that is refused leaves the buffer as it was. `put_octet` writes an octet's
-// two digits. Nothing here knows what the octets mean.
+// the room is tested, and a second pass writes, so that a text that is refused leaves the buffer as it was. `put_octet` and `put_octets` write
+// the digits of octets, as far as there is room. Nothing here knows what the octets mean.
 ghost use mathlib.Core.Path.{_≡_};
 ghost use mathlib.Core.Bool.{true};
 ghost use Prim.Native.Nat.{_+_, _≤_, _<_};
 ghost use lib.ListN.{length};
 ghost use Rattle.octets.specs.Over.{Wrote};
+ghost use Rattle.io.specs.Counts.{Counts};
+ghost use Rattle.chars.specs.Puts.{Puts};
 ghost use Rattle.hexes.specs.Hexes as hexes;
-ghost use Rattle.hexes.specs.Hexes.{range, readHex, digitOf, two};
+ghost use Rattle.hexes.specs.Hexes.{range, readHex, digitOf, two, hexOf};
 ghost use Rattle.hexes.specs.Decoding.{Decoded, octetsIn, sizeIn};
+use chars::least;
+use chars::put;
 
 pub enum Hex {
     // How many octets stand at the front of the buffer.
@@ -149,12 +153,25 @@ fn digit_of(v: u8) -> u8
     b'a' - 10 + v
 }
 
-// Writes the two digits of b at `at`, in lower case, and returns the index after them.
+// Writes the two digits of b, in lower case.
 pub fn put_octet(out: &mut [u8], at: usize, b: u8) -> usize
-    requires { ⌜ at + 2 ≤ length (now out) ⌝ }
-    ensures { λ r. ⌜ Wrote at (two b) (now (out .entry)) r (now (out .exit)) ⌝ }
+    ensures { λ r. ⌜ Counts r (now (out .exit)) ⌝ }
+    ensures { λ r. ⌜ Puts at (two b) (now (out .entry)) r (now (out .exit)) ⌝ }
 {
-    out[at] = digit_of(b / 16);
-    out[at + 1] = digit_of(b % 16);
-    at + 2
+    let next = put(out, at, digit_of(b / 16));
+    put(out, next, digit_of(b % 16))
+}
+
+// Writes the digits of the octets of s.
+pub fn put_octets(out: &mut [u8], at: usize, s: &[u8]) -> usize
+    ensures { λ r. ⌜ Counts r (now (out .exit)) ⌝ }
+    ensures { λ r. ⌜ Puts at (hexOf (now (s .entry))) (now (out .entry)) r (now (out .exit)) ⌝ }
+{
+    let mut o = least(at, out.len());
+    let mut i = 0;
+    while i < s.len() {
+        o = put_octet(out, o, s[i]);
+        i += 1;
+    }
+    o
 }

@@ -2,10 +2,13 @@
 // A case is a line of standard input: a letter, a space, octets in hexadecimal. Its answer is the same line of standard output, and `?`
 // where the line is no case. At most 65,536 octets are read, and at most so many written: what has no room is left out.
 // Each function that writes takes the index at which it starts, and returns the index after what it wrote.
+use chars::put;
+use chars::put_all;
+use chars::put_number;
+use hexes::Hex;
 use libc::STDIN_FILENO;
 use libc::STDOUT_FILENO;
 use names::Name;
-use octets::wide;
 ghost use Prim.Native.Nat.{_≤_};
 ghost use lib.ListN.{length};
 ghost use Rattle.io.specs.Counts.{Counts};
@@ -13,55 +16,12 @@ ghost use Rattle.names.specs.Names.{IsName};
 ghost use Rattle.texts.specs.Texts.{IsText};
 ghost use Rattle.addresses.specs.Addresses.{Width};
 
-// How many octets a case may have.
-const MOST: usize = 4096;
-
-// What `decode` answers of digits that it does not take.
-const REFUSED: usize = MOST + 1;
-
-// What `nibble` answers of an octet that is no digit.
-const NO_DIGIT: usize = 16;
-
-// What `octet` answers where there are not two digits.
-const NO_OCTET: usize = 256;
-
-// Writes b, if there is room.
-fn put(out: &mut [u8], at: usize, b: u8) -> usize
-    ensures { λ r. ⌜ r ≤ length (now (out .exit)) ⌝ }
-{
-    if at < out.len() {
-        out[at] = b;
-        return at + 1;
-    }
-    out.len()
-}
-
-// Writes the octets of s.
-fn put_all(out: &mut [u8], at: usize, s: &[u8]) -> usize {
-    let mut o = at;
-    let mut i = 0;
-    while i < s.len() {
-        o = put(out, o, s[i]);
-        i += 1;
-    }
-    o
-}
-
 // Writes x in decimal, after a space.
-fn put_number(out: &mut [u8], at: usize, x: usize) -> usize {
-    let mut digits = [0u8; 20];
-    let n = io::decimal(x as u64, &mut digits);
+fn put_decimal(out: &mut [u8], at: usize, x: usize) -> usize
+    ensures { λ r. ⌜ Counts r (now (out .exit)) ⌝ }
+{
     let next = put(out, at, b' ');
-    put_all(out, next, &digits[..n])
-}
-
-// The hexadecimal digit of the lowest 4 bits of x.
-fn digit(x: u8) -> u8 {
-    let d = x % 16;
-    if d < 10 {
-        return b'0' + d;
-    }
-    b'a' + (d - 10)
+    put_number(out, next, x)
 }
 
 // Writes the octets of s in hexadecimal, after a space; nothing where there are none.
@@ -69,15 +29,8 @@ fn put_hex(out: &mut [u8], at: usize, s: &[u8]) -> usize {
     if s.len() == 0 {
         return at;
     }
-    let mut o = put(out, at, b' ');
-    let mut i = 0;
-    while i < s.len() {
-        let b = s[i];
-        o = put(out, o, digit(b / 16));
-        o = put(out, o, digit(b));
-        i += 1;
-    }
-    o
+    let next = put(out, at, b' ');
+    hexes::put_octets(out, next, s)
 }
 
 // Writes that a name is good, and its other form.
@@ -89,7 +42,7 @@ fn put_good(out: &mut [u8], at: usize, form: &[u8]) -> usize {
 // Writes that a name is bad, and where.
 fn put_bad(out: &mut [u8], at: usize, place: usize) -> usize {
     let next = put_all(out, at, b" bad");
-    put_number(out, next, place)
+    put_decimal(out, next, place)
 }
 
 // Writes that a name in wire form is good, and its text form.
@@ -151,9 +104,9 @@ fn answer_addresses(out: &mut [u8], at: usize, w: usize, s: &[u8]) -> usize
     requires { ⌜ Width w ⌝ }
     requires { ⌜ length (now s) ≤ 4096 ⌝ }
 {
-    let mut o = put_number(out, at, addresses::kept_count(w, s));
-    o = put_number(out, o, drops(w, s));
-    put_kept(out, o, w, s)
+    let next = put_decimal(out, at, addresses::kept_count(w, s));
+    let from = put_decimal(out, next, drops(w, s));
+    put_kept(out, from, w, s)
 }
 
 // Writes what follows the letter in the answer of a case; nothing after `?`.
@@ -173,66 +126,9 @@ fn answer(out: &mut [u8], at: usize, letter: u8, s: &[u8]) -> usize
         return answer_addresses(out, at, 16, s);
     }
     if letter == b'p' {
-        return put_number(out, at, svcparams::params_fault(s));
+        return put_decimal(out, at, svcparams::params_fault(s));
     }
     at
-}
-
-// The value of a hexadecimal digit, in lower case.
-fn nibble(d: u8) -> usize
-    ensures { λ r. ⌜ r ≤ 16 ⌝ }
-{
-    if d < b'0' {
-        return NO_DIGIT;
-    }
-    if d <= b'9' {
-        return wide(d - b'0');
-    }
-    if d < b'a' {
-        return NO_DIGIT;
-    }
-    if d <= b'f' {
-        return wide(d - b'a') + 10;
-    }
-    NO_DIGIT
-}
-
-// The octet of the two hexadecimal digits at `at`.
-fn octet(line: &[u8], at: usize) -> usize
-    requires { ⌜ at ≤ length (now line) ⌝ }
-{
-    if line.len() - at < 2 {
-        return NO_OCTET;
-    }
-    let upper = nibble(line[at]);
-    if upper == NO_DIGIT {
-        return NO_OCTET;
-    }
-    let lower = nibble(line[at + 1]);
-    if lower == NO_DIGIT {
-        return NO_OCTET;
-    }
-    upper * 16 + lower
-}
-
-// Writes the octets of a line, whose digits stand after a letter and a space, to the start of out, and returns how many they are; or
-// answers REFUSED where the digits are odd in number, too many or no digits.
-fn decode(out: &mut [u8], line: &[u8]) -> usize {
-    let mut n = 0;
-    let mut at = 2;
-    while at < line.len() {
-        let b = octet(line, at);
-        if NO_OCTET <= b {
-            return REFUSED;
-        }
-        if out.len() <= n {
-            return REFUSED;
-        }
-        out[n] = b as u8;
-        n += 1;
-        at += 2;
-    }
-    n
 }
 
 // The letter of a line that begins as a case does, and `?` for any other.
@@ -249,16 +145,30 @@ fn letter_of(line: &[u8]) -> u8 {
     }
 }
 
+// Writes the answer of a case.
+fn put_case(out: &mut [u8], at: usize, letter: u8, s: &[u8]) -> usize
+    requires { ⌜ length (now s) ≤ 4096 ⌝ }
+{
+    let next = put(out, at, letter);
+    answer(out, next, letter, s)
+}
+
+// Writes the answer of a case whose octets are given in hexadecimal.
+fn put_decoded(out: &mut [u8], at: usize, letter: u8, digits: &[u8]) -> usize {
+    let mut octets = io::buffer();
+    match hexes::decode(digits, &mut octets) {
+        Hex::Octets(n) => put_case(out, at, letter, &octets[..n]),
+        _ => put(out, at, b'?'),
+    }
+}
+
 // Writes the answer of a line.
 fn put_line(out: &mut [u8], at: usize, line: &[u8]) -> usize {
-    let mut octets = io::buffer();
-    let n = decode(&mut octets, line);
-    if MOST < n {
-        return put(out, at, b'?');
-    }
     let letter = letter_of(line);
-    let next = put(out, at, letter);
-    answer(out, next, letter, &octets[..n])
+    if line.len() <= 2 {
+        return put_case(out, at, letter, &line[..0]);
+    }
+    put_decoded(out, at, letter, &line[2..])
 }
 
 // The index of the first line end of s from `at` on, or the length of s.

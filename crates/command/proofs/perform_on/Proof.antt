@@ -5,7 +5,7 @@ use native.Mathlib.Omega.{arith}
 use borrow.Author.Needs.{needs}
 use lib.ListN.{length}
 use lib.Seq.{length-take-le}
-use Rattle.command.proofs.Within.{decoded-within}
+use Rattle.hexes.specs.DecodingLaws.{decoded-within}
 use Rattle.command.proofs.perform_on.Statement.{statement}
 use Rattle.command.proofs.perform_on.Tie as tie
 

@@ -1,33 +1,26 @@
--- `hexes::put_octet` meets its contract: two stores. Assumes nothing.
+-- `hexes::put_octet` meets its contract: one digit after the other. Assumes nothing.
 use borrow.Author.Needs.{needs}
-use mathlib.Core.Path.{refl}
-use native.Mathlib.Omega.{arith}
-use lib.ListN.{length-set}
-use denote.Ref.{now}
-use Rattle.octets.specs.OverLaws.{over-two}
+use mathlib.Core.Path.{ap₂}
+use mathlib.Core.List.{List, [], _∷_}
+use Prim.Native.Nat.{ℕ}
+use Rattle.chars.specs.PutsLaws.{puts-then, puts-as}
 use Rattle.hexes.proofs.put_octet.Statement.{statement}
 use Rattle.hexes.proofs.put_octet.Tie as tie
 
-slice-write-out-2 : tie.Need-slice-write-out-2
-slice-write-out-2 c = simp length-set (omega arith)
-
 returns : tie.Need-returns
 returns c =
-    let first = c .before in
-    let a = first .before .before .args in
-    let high = first .digit-of .ensures in
-    let low = c .digit-of2 .ensures in
-    record { room = omega arith; next = refl; laid = rw (high, low) (over-two (a .at) _ _ (now (a .out)) (search needs)) }
+    let second = c .before .before in
+    let first = second .before .before .before .before .before in
+    let digits = ap₂ (λ (x y : ℕ). x ∷ y ∷ []) (first .before .digit-of .ensures) (second .before .digit-of2 .ensures) in
+    (second .put2 .ensures .0, puts-as digits (puts-then (first .put .ensures .1) (second .put2 .ensures .1)))
 
 pub put-octet-spec : {M : Type 1} → statement M
 put-octet-spec =
     tie.close
     (tie.spec
     (λ c κs. search needs)
-    (λ c. search needs)
     (λ c κs. search needs)
-    (λ c. search needs)
-    slice-write-out-2
-    (λ c. search needs)
+    (λ c κs. search needs)
+    (λ c κs. search needs)
     (λ c. search needs)
     returns)

@@ -7,10 +7,10 @@
 //! significant octet first.
 //!
 //! The file `stdout` has one line a case, `r NUMBER LENGTH FOUND DISCARDED
-//! FAULT SUM KEPT` or `w NUMBER LENGTH SUM KEPT`, in decimal. SUM is the
-//! Adler-32 of the first LENGTH octets of the output, 1 for none. KEPT is
-//! always `kept`: every octet of the output buffer from LENGTH to the room is
-//! as it was before the call.
+//! FAULT OCTETS KEPT` or `w NUMBER LENGTH OCTETS KEPT`. The numbers are
+//! decimal. OCTETS are the first LENGTH octets of the output, two lower-case
+//! hexadecimal digits each, or `-` for none. KEPT is always `kept`: every octet
+//! of the output buffer from LENGTH to the room is as it was before the call.
 //!
 //! What a case answers is stated here, from document 01 and the points chosen,
 //! with octets laid out by hand. The files are written only if the reference
@@ -21,7 +21,6 @@
 //! customer's note, and `RFC 9464 section A.1` an RFC's example. A call that
 //! several sources speak of stands once, with all of them.
 
-mod adler;
 mod blocks;
 mod cuts;
 mod dhcp4;

@@ -1,7 +1,6 @@
 //! The table of boundary cases: what goes in, what document 01 says of it, and
 //! where it says so.
 
-use super::adler::adler32;
 use super::layout::{area, sheet, Resolver};
 use dnr_reference as reference;
 use std::fmt::Write;
@@ -127,12 +126,12 @@ impl Input {
             fault,
             output,
         } = answer;
-        let (length, sum) = (output.len(), adler32(output));
+        let (length, octets) = (output.len(), digits(output));
         match self {
             Input::Area { .. } => {
-                format!("r {number} {length} {found} {discarded} {fault} {sum} kept")
+                format!("r {number} {length} {found} {discarded} {fault} {octets} kept")
             }
-            Input::Sheet(_) => format!("w {number} {length} {sum} kept"),
+            Input::Sheet(_) => format!("w {number} {length} {octets} kept"),
         }
     }
 }
@@ -297,6 +296,14 @@ impl Table {
         }
         text
     }
+}
+
+/// Octets in hexadecimal, two digits each, or `-` for none.
+fn digits(octets: &[u8]) -> String {
+    if octets.is_empty() {
+        return "-".to_string();
+    }
+    octets.iter().map(|octet| format!("{octet:02x}")).collect()
 }
 
 /// A refusal: its number, all else zero, and nothing written.

@@ -1,4 +1,4 @@
--- `command::output::put_hex` meets its contract. The loop's invariant: `out` and the pair of digits keep their lengths. Assumes nothing.
+-- `command::output::put_hex` meets its contract. The loop's invariant: `o` is at most the length of `out`, which stays. Assumes nothing.
 use mathlib.Core.Path.{_≡_}
 use Prim.Native.Nat.{_-_, _≤_}
 use native.Mathlib.Omega.{arith}
@@ -9,10 +9,10 @@ use Rattle.command.proofs.output.put_hex.Statement.{statement}
 use Rattle.command.proofs.output.put_hex.Tie as tie
 
 abbrev Inv-loop : tie.InvT-loop
-Inv-loop out₀ s pair₀ o₀ i₀ out pair o i = (i ≤ length s) × (o ≤ length out) × (length out ≡ length out₀) × (length pair ≡ 2)
+Inv-loop out₀ s o₀ i₀ out o i = (i ≤ length s) × (o ≤ length out) × (length out ≡ length out₀)
 
 abbrev μ-loop : tie.MeasureT-loop
-μ-loop out₀ s pair₀ o₀ i₀ out pair o i = length s - i
+μ-loop out₀ s o₀ i₀ out o i = length s - i
 
 pub put-hex-spec : {M : Type 1} → statement M
 put-hex-spec =
@@ -21,9 +21,6 @@ put-hex-spec =
     Inv-loop
     μ-loop
     (λ c. search needs)
-    (λ c. search needs)
-    (λ c. search needs)
-    (λ c κs. search needs)
     (λ c. search needs)
     (λ c κs. search needs)
     (λ c κs. search needs)

@@ -1,2 +1,0 @@
--- The laws that several proofs of the crate cite.
-mod Within
