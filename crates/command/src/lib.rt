@@ -2,7 +2,6 @@
 // `execute` is the whole program: it takes the arguments, and its answer is the exit status (0 done, 1 refused by a number of document
 // 01, 2 anything else). A result is made whole in memory before any of it is written. What is read and what is
 // written, no contract can say; the work itself is that of `reading`, `writing` and `showing`.
-mod args;
 mod help;
 mod input;
 mod links;
@@ -12,8 +11,8 @@ mod output;
 ghost use Prim.Native.Nat.{_≤_};
 ghost use lib.ListN.{length};
 ghost use Rattle.io.specs.Counts.{Counts};
-use args::Asked;
-use args::Command;
+use arguments::Asked;
+use arguments::Command;
 use chars::put_all;
 use hexes::Hex;
 use libc::STDERR_FILENO;
@@ -213,7 +212,7 @@ pub fn execute() -> i32 {
         help::print(STDERR_FILENO);
         return 2;
     }
-    let a = args::given();
+    let a = arguments::given();
     if a.wrong != 0 {
         return messages::usage(a);
     }

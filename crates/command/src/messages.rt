@@ -1,7 +1,7 @@
 // What is said on standard error, and the exit status that goes with it.
 ghost use Rattle.io.specs.Counts.{Counts};
-use crate::args::Asked;
-use crate::args::Wrong;
+use arguments::Asked;
+use arguments::Wrong;
 use chars::put_all;
 use chars::put_number;
 use libc::PATH_MAX;

@@ -1,9 +1,9 @@
 // What is written: to standard output, or to a file, which is either replaced whole or left as it was.
 ghost use Prim.Native.Nat.{_<_};
 ghost use Rattle.io.specs.Counts.{Counts};
-use crate::args::same;
 use crate::links;
 use crate::messages;
+use arguments::same;
 use chars::put;
 use chars::put_all;
 use libc::PATH_MAX;

@@ -1,9 +1,9 @@
--- `command::args::given` is safe and ends. Nothing has to hold from turn to turn. Assumes nothing.
+-- `arguments::given` is safe and ends. Nothing has to hold from turn to turn. Assumes nothing.
 use Prim.Native.Nat.{_-_}
 use native.Mathlib.Omega.{arith}
 use borrow.Author.Needs.{needs}
-use Rattle.command.proofs.args.given.Statement.{statement}
-use Rattle.command.proofs.args.given.Tie as tie
+use Rattle.arguments.proofs.given.Statement.{statement}
+use Rattle.arguments.proofs.given.Tie as tie
 
 abbrev Inv-loop : tie.InvT-loop
 Inv-loop count a₀ i₀ a i = Unit {0}

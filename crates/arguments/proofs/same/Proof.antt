@@ -1,10 +1,10 @@
--- `command::args::same` is safe and ends. The loop's invariant: `i` is at most the length. Assumes nothing.
+-- `arguments::same` is safe and ends. The loop's invariant: `i` is at most the length. Assumes nothing.
 use Prim.Native.Nat.{_-_, _≤_}
 use native.Mathlib.Omega.{arith}
 use borrow.Author.Needs.{needs}
 use lib.ListN.{length}
-use Rattle.command.proofs.args.same.Statement.{statement}
-use Rattle.command.proofs.args.same.Tie as tie
+use Rattle.arguments.proofs.same.Statement.{statement}
+use Rattle.arguments.proofs.same.Tie as tie
 
 abbrev Inv-loop : tie.InvT-loop
 Inv-loop a b i₀ i = i ≤ length a
