@@ -14,11 +14,9 @@ use Rattle.ips.specs.Ips.{digit, numeral, text6, mapped, shortened, runOf, long
 use Rattle.taking.specs.Taking.{takeOf, same, recordsFrom}
 use Rattle.taking.specs.Taking as taking
 use Rattle.chars.specs.Ascii.{ascii, decimalOf}
-use Rattle.values.specs.Values.{charOf, escapedOf, valueOf, quoted, keyOf, keysOf, stringsFrom, protocolsOf, carrierOf, nameOf, addressOf}
-use Rattle.lines.specs.Lines as text
-use Rattle.json.specs.Json as json
+use Rattle.values.specs.Values.{escapedOf, valueOf, quoted, keyOf, keysOf, stringsFrom, protocolsOf, carrierOf, nameOf, addressOf}
 use Rattle.words.specs.Words.{table, wordsIn, wordsOf}
-use Rattle.showing.specs.Showing.{shownOf}
+use Rattle.showing.specs.Showing.{headOf, lifetimeOf, commonOf, addressesOf, gapOf, labelOf, valueBy, parameterOf, parametersOf, listsOf, recordOf, sheetOf, shownOf}
 
 -- K1's sheet (01, Boundary pieces)
 abbrev k1 : List ℕ
@@ -29,12 +27,12 @@ k1 =
 
 -- its text and its JSON, as docs/COMMAND.md has them
 pub k1-text : shownOf false k1 ≡ ascii "DHCPv6 (carrier 2), 1 record\n\ndoh1.example.com\n    priority        1\n    address         2001:db8:122:300::1\n    alpn            dot"
-unfolding takeOf taking.headOf same recordsFrom part number counted chosenOf numeral digit escapedOf valueOf quoted keyOf keysOf stringsFrom protocolsOf carrierOf nameOf addressOf texts.textOf texts.dotsFrom text6 mapped allZero shortened runOf longestFrom around colons fieldsOf zerosAhead listOf sizeOf entriesFrom text.leadOf text.valueBy text.parameterOf text.parametersOf text.addressesOf text.lifetimeOf text.commonOf text.recordOf text.headOf text.textOf
+unfolding takeOf taking.headOf same recordsFrom part number counted chosenOf numeral digit escapedOf valueOf quoted keyOf keysOf stringsFrom protocolsOf carrierOf nameOf addressOf texts.textOf texts.dotsFrom text6 mapped allZero shortened runOf longestFrom around colons fieldsOf zerosAhead listOf sizeOf entriesFrom headOf lifetimeOf commonOf addressesOf gapOf labelOf valueBy parameterOf parametersOf listsOf recordOf sheetOf
 k1-text = refl
 
 pub k1-json : shownOf true k1
     ≡ ascii "{\"carrier\":2,\"carrierName\":\"DHCPv6\",\"records\":[{\"name\":\"doh1.example.com\",\"priority\":1,\"nameOnly\":false,\"addresses\":[\"2001:db8:122:300::1\"],\"parameters\":[{\"key\":1,\"name\":\"alpn\",\"value\":[\"dot\"]}]}]}"
-unfolding takeOf taking.headOf same recordsFrom part number counted chosenOf numeral digit escapedOf valueOf quoted keyOf keysOf stringsFrom protocolsOf carrierOf nameOf addressOf texts.textOf texts.dotsFrom text6 mapped allZero shortened runOf longestFrom around colons fieldsOf zerosAhead listOf sizeOf entriesFrom json.valueBy json.parameterOf json.parametersOf json.addressesOf json.lifetimeOf json.commonOf json.listsOf json.recordOf json.headOf json.jsonOf
+unfolding takeOf taking.headOf same recordsFrom part number counted chosenOf numeral digit escapedOf valueOf quoted keyOf keysOf stringsFrom protocolsOf carrierOf nameOf addressOf texts.textOf texts.dotsFrom text6 mapped allZero shortened runOf longestFrom around colons fieldsOf zerosAhead listOf sizeOf entriesFrom headOf lifetimeOf commonOf addressesOf gapOf labelOf valueBy parameterOf parametersOf listsOf recordOf sheetOf
 k1-json = refl
 
 -- of octets that are no sheet, nothing is shown
@@ -44,11 +42,11 @@ no-sheet = refl
 
 -- a blank, a comma, a quotation mark and an octet above 126 are escaped; in JSON a backslash stands twice
 escapes : valueOf false (ascii "a, \"" ++ (255 ∷ [])) ≡ ascii "a\\,\\032\\\"\\255"
-unfolding valueOf escapedOf charOf
+unfolding valueOf escapedOf
 escapes = refl
 
 escapes-json : valueOf true (ascii "a,\"") ≡ ascii "a\\\\,\\\\\\\""
-unfolding valueOf escapedOf charOf
+unfolding valueOf escapedOf
 escapes-json = refl
 
 -- numbers without leading zeros

@@ -1,3 +1,5 @@
 pub mod Showing
-pub mod ShowingLaws
+pub mod ParameterLaws
+pub mod PartLaws
+pub mod SheetLaws
 pub mod Examples

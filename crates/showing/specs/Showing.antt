@@ -1,15 +1,125 @@
--- What is shown of octets: of a sheet its text or its JSON, of octets that are no sheet nothing. A sheet is what taking answers (2, 40 to 43 and
--- 4 tested); of one that writing refuses for another number the text means nothing. Assumes nothing: these are definitions.
-use mathlib.Core.Bool.{Bool, cond}
-use mathlib.Core.List.{List, []}
-use Prim.Native.Nat.{ℕ}
+-- What is shown of a sheet: lines for a person, each but the first after a line break, or one JSON object without blanks (RFC 8259;
+-- docs/COMMAND.md, "Text of a sheet", "JSON"); `json` says which of the two. Assumes nothing: these are definitions.
+use Prim.Native.Nat.{ℕ, _-_, min}
+use mathlib.Core.Bool.{Bool, cond, _&&_}
+use mathlib.Core.List.{List, [], _∷_, _++_, map}
+use lib.Dec.{eqb}
+use lib.ListN.{length, take}
+use Rattle.octets.specs.Numbers.{at16}
+use Rattle.carriers.specs.declared.Carrier.{Carrier}
+use Rattle.carriers.specs.Carriers.{numberOf, addressWidth, lifetimeWidth}
+use Rattle.addresses.specs.Addresses as addresses
+use Rattle.svcparams.specs.Params.{Param}
+use Rattle.svcparams.specs.Entries.{entries}
+use Rattle.svcparams.specs.Key as key
+use Rattle.blocks.specs.Block.{Fields}
 use Rattle.taking.specs.Taking.{Taken, refuse, sheet, takeOf}
-use Rattle.lines.specs.Lines.{textOf}
-use Rattle.json.specs.Json.{jsonOf}
+use Rattle.chars.specs.Ascii.{ascii, decimalOf}
+use Rattle.values.specs.Values.{carrierOf, nameOf, addressOf, listOf, quoted, keyOf, keysOf, valueOf, protocolsOf}
 
+-- what stands before the records: the first line, or the object up to them
+unfoldable pub headOf : Bool → Carrier → ℕ → List ℕ
+headOf json c count =
+    cond json
+    (ascii "{\"carrier\":" ++ (decimalOf (numberOf c) ++ (ascii ",\"carrierName\":\"" ++ (carrierOf c ++ ascii "\",\"records\":["))))
+    (carrierOf c
+    ++ (ascii " (carrier "
+    ++ (decimalOf (numberOf c) ++ (ascii "), " ++ (decimalOf count ++ cond (eqb count 1) (ascii " record") (ascii " records"))))))
+
+-- ---- records
+
+-- the lifetime that never ends: all ones (RFC 9463 §6.1)
+abbrev pub forever : ℕ
+forever = 4294967295
+
+-- a lifetime for a person; 0 withdraws the resolver (RFC 9463 §6.1)
+unfoldable pub spanOf : ℕ → List ℕ
+spanOf lifetime =
+    cond (eqb lifetime forever) (ascii "never expires")
+    (cond (eqb lifetime 0) (ascii "0 s, no longer to be used") (decimalOf lifetime ++ ascii " s"))
+
+-- the lifetime, where the carrier has one
+unfoldable pub lifetimeOf : Bool → Carrier → ℕ → List ℕ
+lifetimeOf json c lifetime =
+    cond (eqb (lifetimeWidth c) 0) []
+    (cond json (ascii ",\"lifetime\":") (ascii "\n    lifetime        ") ++ cond json (decimalOf lifetime) (spanOf lifetime))
+
+-- what every record has; in text an empty line stands before it
+unfoldable pub commonOf : Bool → Carrier → ℕ → ℕ → List ℕ → List ℕ
+commonOf json c priority lifetime name =
+    cond json (ascii "{\"name\":\"") (ascii "\n\n")
+    ++ (nameOf name
+    ++ (cond json (ascii "\",\"priority\":") (ascii "\n    priority        ") ++ (decimalOf priority ++ lifetimeOf json c lifetime)))
+
+-- an address
+abbrev pub addressItem : Bool → List ℕ → List ℕ
+addressItem json a = cond json (ascii "\"") (ascii "\n    address         ") ++ (addressOf a ++ cond json (ascii "\"") [])
+
+-- the addresses of a carrier
+unfoldable pub addressesOf : Bool → Carrier → List ℕ → List ℕ
+addressesOf json c s = listOf json (map (addressItem json) (addresses.listOf (addressWidth c) s))
+
+-- ---- parameters
+
+-- characters of a label with the blanks after it
+abbrev pub columns : ℕ
+columns = 16
+
+-- what fills up the label of a key to its columns, with one blank at least; nothing where the value has no octets
+unfoldable pub gapOf : ℕ → ℕ → List ℕ
+gapOf k size = cond (eqb size 0) [] (take (columns - min (length (keyOf k)) (columns - 1)) (ascii "                "))
+
+-- what stands before the value of a parameter: its key by number and by name, or the begin of a line
+unfoldable pub labelOf : Bool → ℕ → ℕ → List ℕ
+labelOf json k size =
+    cond json
+    (ascii "{\"key\":" ++ (decimalOf k ++ (ascii ",\"name\":\"" ++ (keyOf k ++ ascii "\",\"value\":"))))
+    (ascii "\n    " ++ (keyOf k ++ gapOf k size))
+
+-- in JSON a list
+abbrev pub bracketed : Bool → List ℕ → List ℕ
+bracketed json s = cond json (ascii "[") [] ++ (s ++ cond json (ascii "]") [])
+
+-- the value of a parameter; that of no-default-alpn is empty in a sheet that writing accepts
+unfoldable pub valueBy : Bool → ℕ → List ℕ → List ℕ
+valueBy json k v =
+    cond (eqb k key.mandatory) (bracketed json (keysOf json v))
+    (cond (eqb k key.alpn) (bracketed json (protocolsOf json v))
+    (cond (eqb k key.noDefaultAlpn && json) (ascii "null")
+    (cond (eqb k key.port && eqb (length v) 2) (decimalOf (at16 v 0))
+    (quoted json (valueOf json v)))))
+
+-- a parameter
+unfoldable pub parameterOf : Bool → Param → List ℕ
+parameterOf json kv =
+    labelOf json (kv .key) (length (kv .value)) ++ (valueBy json (kv .key) (kv .value) ++ cond json (ascii "}") [])
+
+unfoldable pub parametersOf : Bool → List ℕ → List ℕ
+parametersOf json p = listOf json (map (parameterOf json) (entries p))
+
+-- ---- the sheet
+
+-- what mode 1 adds
+unfoldable pub listsOf : Bool → Carrier → List ℕ → List ℕ → List ℕ
+listsOf json c s p =
+    cond json (ascii ",\"nameOnly\":false,\"addresses\":[") []
+    ++ (addressesOf json c s ++ (cond json (ascii "],\"parameters\":[") [] ++ (parametersOf json p ++ cond json (ascii "]}") [])))
+
+-- a record
+unfoldable pub recordOf : Bool → Carrier → Fields → List ℕ
+recordOf json c r =
+    commonOf json c (r .priority) (r .lifetime) (r .name)
+    ++ cond (r .full) (listsOf json c (r .addresses) (r .parameters)) (cond json (ascii ",\"nameOnly\":true}") (ascii "\n    name only"))
+
+-- a sheet of a carrier and its records
+unfoldable pub sheetOf : Bool → Carrier → List Fields → List ℕ
+sheetOf json c rs = headOf json c (length rs) ++ (listOf json (map (recordOf json c) rs) ++ cond json (ascii "]}") [])
+
+-- of octets that are no sheet nothing. A sheet is what taking answers (2, 40 to 43 and 4 tested); of one that writing refuses for another
+-- number the text means nothing
 abbrev pub shownAs : Bool → Taken → List ℕ
 shownAs json (refuse k) = []
-shownAs json (sheet c rs) = cond json (jsonOf c rs) (textOf c rs)
+shownAs json (sheet c rs) = sheetOf json c rs
 
 -- what is shown of the octets s
 abbrev pub shownOf : Bool → List ℕ → List ℕ

@@ -2,4 +2,3 @@ pub mod Values
 pub mod ListLaws
 pub mod ValueLaws
 pub mod StringLaws
-pub mod ParameterLaws

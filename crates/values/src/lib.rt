@@ -1,17 +1,12 @@
-// Values as text and JSON show them: names, addresses, and the octets, keys and lists of parameters (docs/COMMAND.md). Octets of values are
-// escaped. A name is shown as its text stands: that of a record that writing accepts has letters, digits, hyphens and dots alone.
-// Nothing here judges a value.
-ghost use mathlib.Core.Path.{_≡_};
-ghost use mathlib.Core.Bool.{cond};
-ghost use mathlib.Core.List.{[], _∷_, _++_};
+// Values as text and JSON show them, where `json` says which: the octets, keys and lists of parameters, names and addresses
+// (docs/COMMAND.md). Octets of values are escaped. A name is shown as its text stands: that of a record that writing accepts has letters,
+// digits, hyphens and dots alone. Nothing here judges a value.
+ghost use mathlib.Core.Bool.{true, cond};
+ghost use mathlib.Core.List.{_++_, map};
 ghost use Prim.Native.Nat.{_≤_};
 ghost use lib.ListN.{length};
-ghost use Rattle.io.specs.Counts.{Counts};
-ghost use Rattle.addresses.specs.Addresses.{Width};
-ghost use Rattle.carriers.specs.Carriers.{addressWidth};
-ghost use Rattle.ips.specs.Ips.{text4, text6};
 ghost use Rattle.chars.specs.Puts.{Puts};
-ghost use Rattle.values.specs.Values.{quotation, comma, charOf, codeOf, markedOf, escapedOf, valueOf, quoted, keyOf, keysOf, protocolsOf, carrierOf, nameOf, addressOf};
+ghost use Rattle.values.specs.Values.{codeOf, escapedOf, valueOf, quoted, beforeOf, keyOf, keysOf, protocolsOf, carrierOf, longestName, nameOf, addressOf};
 use carriers::Carrier;
 use chars::least;
 use chars::put;
@@ -24,39 +19,26 @@ use svcparams::Key;
 // The key of the template of DNS over HTTPS (RFC 9461 §5).
 const DOHPATH: usize = 7;
 
-// ---- octets of a value
-
-// Writes a character; in JSON a quotation mark and a backslash stand after a backslash (RFC 8259 §7).
-fn put_char(out: &mut [u8], at: usize, json: bool, b: u8) -> usize
-    ensures { λ r. ⌜ Puts at (charOf json b) (now (out .entry)) r (now (out .exit)) ⌝ }
+// Writes `a` in JSON, and else `b`.
+pub fn put_either(out: &mut [u8], at: usize, json: bool, a: &[u8], b: &[u8]) -> usize
+    ensures { λ r. ⌜ Puts at (cond json (now (a .entry)) (now (b .entry))) (now (out .entry)) r (now (out .exit)) ⌝ }
 {
     if json {
-        if b == b'\\' {
-            return put_all(out, at, b"\\\\");
-        }
-        if b == b'"' {
-            return put_all(out, at, b"\\\"");
-        }
+        return put_all(out, at, a);
     }
-    put(out, at, b)
+    put_all(out, at, b)
 }
+
+// ---- octets of a value
 
 // Writes an octet as a backslash and three decimal digits.
 fn put_code(out: &mut [u8], at: usize, json: bool, b: u8) -> usize
     ensures { λ r. ⌜ Puts at (codeOf json b) (now (out .entry)) r (now (out .exit)) ⌝ }
 {
-    let hundreds = put_char(out, at, json, b'\\');
+    let hundreds = put_either(out, at, json, b"\\\\", b"\\");
     let tens = put(out, hundreds, b'0' + b / 100);
     let ones = put(out, tens, b'0' + b / 10 % 10);
     put(out, ones, b'0' + b % 10)
-}
-
-// Writes a character after a backslash.
-fn put_marked(out: &mut [u8], at: usize, json: bool, b: u8) -> usize
-    ensures { λ r. ⌜ Puts at (markedOf json b) (now (out .entry)) r (now (out .exit)) ⌝ }
-{
-    let next = put_char(out, at, json, b'\\');
-    put_char(out, next, json, b)
 }
 
 // Writes an octet of a value: 33 to 126 as they are, but a backslash, a quotation mark and a comma after a backslash, and every other octet as
@@ -71,19 +53,19 @@ fn put_escaped(out: &mut [u8], at: usize, json: bool, b: u8) -> usize
         return put_code(out, at, json, b);
     }
     if b == b'\\' {
-        return put_marked(out, at, json, b);
+        return put_either(out, at, json, b"\\\\\\\\", b"\\\\");
     }
     if b == b'"' {
-        return put_marked(out, at, json, b);
+        return put_either(out, at, json, b"\\\\\\\"", b"\\\"");
     }
     if b == b',' {
-        return put_marked(out, at, json, b);
+        return put_either(out, at, json, b"\\\\,", b"\\,");
     }
     put(out, at, b)
 }
 
 // Writes the octets of a value.
-pub fn put_value(out: &mut [u8], at: usize, json: bool, s: &[u8]) -> usize
+fn put_value(out: &mut [u8], at: usize, json: bool, s: &[u8]) -> usize
     ensures { λ r. ⌜ Puts at (valueOf json (now (s .entry))) (now (out .entry)) r (now (out .exit)) ⌝ }
 {
     let mut o = least(at, out.len());
@@ -95,31 +77,29 @@ pub fn put_value(out: &mut [u8], at: usize, json: bool, s: &[u8]) -> usize
     o
 }
 
+// Writes the octets of a value, in JSON as a string.
+pub fn put_string(out: &mut [u8], at: usize, json: bool, s: &[u8]) -> usize
+    ensures { λ r. ⌜ Puts at (quoted json (valueOf json (now (s .entry)))) (now (out .entry)) r (now (out .exit)) ⌝ }
+{
+    let from = put_either(out, at, json, b"\"", b"");
+    let end = put_value(out, from, json, s);
+    put_either(out, end, json, b"\"", b"")
+}
+
 // ---- lists
 
-// Writes a comma, but before the first of several.
-pub fn put_comma(out: &mut [u8], at: usize, first: bool) -> usize
-    ensures { λ r. ⌜ Puts at (cond first [] (comma ∷ [])) (now (out .entry)) r (now (out .exit)) ⌝ }
+// Writes a comma where commas stand between items, but before the first.
+pub fn put_comma(out: &mut [u8], at: usize, commas: bool, first: bool) -> usize
+    ensures { λ r. ⌜ Puts at (beforeOf commas first) (now (out .entry)) r (now (out .exit)) ⌝ }
 {
     if first {
         return least(at, out.len());
     }
-    put(out, at, b',')
-}
-
-// Writes a quotation mark in JSON, and else nothing.
-fn put_quote(out: &mut [u8], at: usize, json: bool) -> usize
-    ensures { λ r. ⌜ Puts at (cond json (quotation ∷ []) []) (now (out .entry)) r (now (out .exit)) ⌝ }
-{
-    if json {
-        return put(out, at, b'"');
-    }
-    least(at, out.len())
+    put_either(out, at, commas, b",", b"")
 }
 
 // Writes a key by its name, or as keyN (RFC 9460 §2.1).
 pub fn put_key(out: &mut [u8], at: usize, key: usize) -> usize
-    ensures { λ r. ⌜ Counts r (now (out .exit)) ⌝ }
     ensures { λ r. ⌜ Puts at (keyOf key) (now (out .entry)) r (now (out .exit)) ⌝ }
 {
     if key == Key::MANDATORY {
@@ -143,15 +123,15 @@ pub fn put_key(out: &mut [u8], at: usize, key: usize) -> usize
 
 // Writes an item of a list of keys.
 fn put_key_item(out: &mut [u8], at: usize, json: bool, first: bool, key: usize) -> usize
-    ensures { λ r. ⌜ Puts at (cond first [] (comma ∷ []) ++ quoted json (keyOf key)) (now (out .entry)) r (now (out .exit)) ⌝ }
+    ensures { λ r. ⌜ Puts at (beforeOf true first ++ quoted json (keyOf key)) (now (out .entry)) r (now (out .exit)) ⌝ }
 {
-    let opens = put_comma(out, at, first);
-    let from = put_quote(out, opens, json);
-    let closes = put_key(out, from, key);
-    put_quote(out, closes, json)
+    let opens = put_comma(out, at, true, first);
+    let from = put_either(out, opens, json, b"\"", b"");
+    let end = put_key(out, from, key);
+    put_either(out, end, json, b"\"", b"")
 }
 
-// Writes the keys of a mandatory list, with commas between them.
+// Writes the keys of a mandatory list.
 pub fn put_keys(out: &mut [u8], at: usize, json: bool, s: &[u8]) -> usize
     ensures { λ r. ⌜ Puts at (keysOf json (now (s .entry))) (now (out .entry)) r (now (out .exit)) ⌝ }
 {
@@ -166,15 +146,13 @@ pub fn put_keys(out: &mut [u8], at: usize, json: bool, s: &[u8]) -> usize
 
 // Writes an item of a list of protocols.
 fn put_protocol(out: &mut [u8], at: usize, json: bool, first: bool, id: &[u8]) -> usize
-    ensures { λ r. ⌜ Puts at (cond first [] (comma ∷ []) ++ quoted json (valueOf json (now (id .entry)))) (now (out .entry)) r (now (out .exit)) ⌝ }
+    ensures { λ r. ⌜ Puts at (beforeOf true first ++ quoted json (valueOf json (now (id .entry)))) (now (out .entry)) r (now (out .exit)) ⌝ }
 {
-    let opens = put_comma(out, at, first);
-    let from = put_quote(out, opens, json);
-    let closes = put_value(out, from, json, id);
-    put_quote(out, closes, json)
+    let from = put_comma(out, at, true, first);
+    put_string(out, from, json, id)
 }
 
-// Writes the protocols of an alpn list, with commas between them.
+// Writes the protocols of an alpn list.
 pub fn put_protocols(out: &mut [u8], at: usize, json: bool, s: &[u8]) -> usize
     ensures { λ r. ⌜ Puts at (protocolsOf json (now (s .entry))) (now (out .entry)) r (now (out .exit)) ⌝ }
 {
@@ -193,7 +171,7 @@ pub fn put_protocols(out: &mut [u8], at: usize, json: bool, s: &[u8]) -> usize
     o
 }
 
-// ---- names and addresses
+// ---- carriers, names and addresses
 
 // Writes a carrier's name.
 pub fn put_carrier(out: &mut [u8], at: usize, c: Carrier) -> usize
@@ -210,7 +188,7 @@ pub fn put_carrier(out: &mut [u8], at: usize, c: Carrier) -> usize
 
 // Writes a name as text.
 pub fn put_name(out: &mut [u8], at: usize, wire: &[u8]) -> usize
-    requires { ⌜ length (now wire) ≤ 255 ⌝ }
+    requires { ⌜ length (now wire) ≤ longestName ⌝ }
     ensures { λ r. ⌜ Puts at (nameOf (now (wire .entry))) (now (out .entry)) r (now (out .exit)) ⌝ }
 {
     if wire.len() < 2 {
@@ -221,43 +199,18 @@ pub fn put_name(out: &mut [u8], at: usize, wire: &[u8]) -> usize
     put_all(out, at, &text[..n])
 }
 
-// Octets of a carrier's addresses.
-pub fn width(c: Carrier) -> usize
-    ensures { λ r. ⌜ Width r ⌝ }
-    ensures { λ r. ⌜ r ≡ addressWidth c ⌝ }
-{
-    c.address_width()
-}
-
-// Writes an IPv4 address.
-fn put_address4(out: &mut [u8], at: usize, a: &[u8]) -> usize
-    requires { ⌜ length (now a) ≡ 4 ⌝ }
-    ensures { λ r. ⌜ Puts at (text4 (now (a .entry))) (now (out .entry)) r (now (out .exit)) ⌝ }
-{
-    let mut text = [0u8; 16];
-    let n = ips::put4(&mut text, 0, a);
-    put_all(out, at, &text[..n])
-}
-
-// Writes an IPv6 address.
-fn put_address6(out: &mut [u8], at: usize, a: &[u8]) -> usize
-    requires { ⌜ length (now a) ≡ 16 ⌝ }
-    ensures { λ r. ⌜ Puts at (text6 (now (a .entry))) (now (out .entry)) r (now (out .exit)) ⌝ }
-{
-    let mut text = [0u8; 48];
-    let n = ips::put6(&mut text, 0, a);
-    put_all(out, at, &text[..n])
-}
-
 // Writes an address by its length.
 pub fn put_address(out: &mut [u8], at: usize, a: &[u8]) -> usize
     ensures { λ r. ⌜ Puts at (addressOf (now (a .entry))) (now (out .entry)) r (now (out .exit)) ⌝ }
 {
+    let mut text = [0u8; 48];
     if a.len() == 4 {
-        return put_address4(out, at, a);
+        let n = ips::put4(&mut text, 0, a);
+        return put_all(out, at, &text[..n]);
     }
     if a.len() == 16 {
-        return put_address6(out, at, a);
+        let n = ips::put6(&mut text, 0, a);
+        return put_all(out, at, &text[..n]);
     }
     least(at, out.len())
 }

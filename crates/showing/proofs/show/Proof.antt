@@ -10,4 +10,10 @@ returns c =
     (w .put .ensures .0, puts-then (w .before .before .before .before .put-sheet .ensures) (w .put .ensures .1))
 
 pub show-spec : {M : Type 1} → statement M
-show-spec = tie.close (tie.spec (λ c κs. search needs) (λ c κs. search needs) (λ c. search needs) returns)
+show-spec =
+    tie.close
+    (tie.spec
+    (λ c κs. search needs)
+    (λ c κs. search needs)
+    (λ c. search needs)
+    returns)

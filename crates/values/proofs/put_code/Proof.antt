@@ -9,13 +9,14 @@ returns c =
     let ones = c .before .before in
     let tens = ones .before .before .before .before in
     let hundreds = tens .before .before .before .before in
-    let mark = hundreds .before .before .before .before in
-    puts-then (mark .put-char .ensures) (puts-then (hundreds .put .ensures .1) (puts-then (tens .put2 .ensures .1) (ones .put3 .ensures .1)))
+    puts-then (hundreds .before .before .before .before .put-either .ensures) (puts-then (hundreds .put .ensures .1) (puts-then (tens .put2 .ensures .1) (ones .put3 .ensures .1)))
 
 pub put-code-spec : {M : Type 1} → statement M
 put-code-spec =
     tie.close
     (tie.spec
+    (λ c. search needs)
+    (λ c. search needs)
     (λ c κs. search needs)
     (λ c. search needs)
     (λ c κs. search needs)

@@ -1,19 +1,16 @@
 -- `values::put_name` meets its contract: the text of a name fits, and it is what is written. Assumes nothing.
-use native.Mathlib.Omega.{arith}
 use borrow.Author.Needs.{needs}
-use lib.ListN.{length-take}
 use mathlib.Core.Path.{_∙_}
-use Rattle.chars.specs.PutsLaws.{puts-none, puts-as}
+use native.Mathlib.Omega.{arith}
+use lib.ListN.{length-take}
 use Rattle.octets.specs.OverLaws.{wrote-front}
-use Rattle.values.specs.StringLaws.{name-short, name-long}
+use Rattle.chars.specs.PutsLaws.{puts-none, puts-as}
+use Rattle.values.specs.ValueLaws.{name-short, name-long}
 use Rattle.values.proofs.put_name.Statement.{statement}
 use Rattle.values.proofs.put_name.Tie as tie
 
 returns : tie.Need-returns
 returns c = puts-as (name-short _ (c .before .if1 .taken)) (puts-none _ _ (c .least .ensures))
-
-slice-aggregate-put-all : tie.Need-slice-aggregate-put-all
-slice-aggregate-put-all c = simp length-take (omega arith)
 
 returns-2 : tie.Need-returns-2
 returns-2 c =
@@ -30,7 +27,7 @@ put-name-spec =
     (λ c. search needs)
     (λ c κs. search needs)
     (λ c. search needs)
-    slice-aggregate-put-all
+    (λ c. simp length-take (omega arith))
     (λ c κs. search needs)
     (λ c. search needs)
     returns-2)

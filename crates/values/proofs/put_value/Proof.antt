@@ -1,39 +1,40 @@
--- `values::put_value` meets its contract. The loop's invariant: the first i octets of s are written. Assumes nothing.
-use mathlib.Core.Path.{_≡_, refl, ap}
-use Prim.Native.Nat.{_-_, _≤_}
-use native.Mathlib.Omega.{arith}
+-- `values::put_value` meets its contract. The loop's invariant: the octets before index i are written. Assumes nothing.
 use borrow.Author.Needs.{needs}
-use lib.ListN.{length, take}
-use lib.Seq.{take-all}
-use Rattle.chars.specs.Puts.{Puts}
-use Rattle.chars.specs.PutsLaws.{puts-none, puts-as}
-use Rattle.values.specs.Values.{valueOf}
-use Rattle.values.specs.ValueLaws.{puts-octet}
+use mathlib.Core.Path.{_≡_, refl}
+use mathlib.Core.Bool.{false}
+use mathlib.Core.List.{[]}
+use Prim.Native.Nat.{_-_, _≤_}
+use native.Mathlib.Numerals.{add-one}
+use native.Mathlib.Omega.{arith}
+use lib.ListN.{length, drop}
+use lib.Seq.{drop-cons}
+use Rattle.svcparams.specs.TilingLaws.{end-of}
+use Rattle.values.specs.Values.{escapedOf, valueOf}
+use Rattle.values.specs.ListLaws.{Listed, listed-start, listed-next, listed-end}
 use Rattle.values.proofs.put_value.Statement.{statement}
 use Rattle.values.proofs.put_value.Tie as tie
 
 abbrev Inv-loop : tie.InvT-loop
-Inv-loop out₀ at json s o₀ i₀ out o i = (i ≤ length s) × (length out ≡ length out₀) × Puts at (valueOf json (take i s)) out₀ o out
+Inv-loop out₀ at json s o₀ i₀ out o i = (i ≤ length s) × (length out ≡ length out₀) × Listed false (escapedOf json) s (drop i s) [] at out₀ o out
 
 abbrev μ-loop : tie.MeasureT-loop
 μ-loop out₀ at json s o₀ i₀ out o i = length s - i
 
 loop-holds : tie.Need-loop-holds Inv-loop μ-loop
-unfolding valueOf
-loop-holds c = (omega arith, refl, puts-none _ _ (c .least .ensures))
+loop-holds c = (omega arith, refl, listed-start _ _ _ (c .least .ensures))
 
 loop-again : tie.Need-loop-again Inv-loop μ-loop
 loop-again c =
     let w = c .before .before in
     let l = w .before .before .before .before in
-    let a = l .before .before .before .before .args in
-    (omega arith, omega arith, puts-octet (a .json) (l .loop .i) (a .s .now) (omega arith) (l .loop .inv .2) (w .put-escaped .ensures))
+    let s = l .before .before .before .before .args .s .now in
+    (omega arith, omega arith, listed-next _ _ (l .loop .inv .2) (rw add-one (drop-cons s (l .loop .i) 0 (omega arith))) refl (w .put-escaped .ensures))
 
 returns : tie.Need-returns Inv-loop μ-loop
+unfolding valueOf
 returns c =
     let l = c .before in
-    let a = l .before .before .before .before .args in
-    puts-as (ap (valueOf (a .json)) (take-all (l .loop .i) (a .s .now) (omega arith))) (l .loop .inv .2)
+    listed-end _ _ (l .loop .inv .2) (end-of _ (l .loop .i) (l .loop .inv .0) (c .loop-test .left))
 
 pub put-value-spec : {M : Type 1} → statement M
 put-value-spec =

@@ -1,3 +1,0 @@
-pub mod Json
-pub mod ItemsLaws
-pub mod JsonLaws

@@ -1,4 +1,0 @@
-pub mod Lines
-pub mod LabelLaws
-pub mod PartLaws
-pub mod ListedLaws

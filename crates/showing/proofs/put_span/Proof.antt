@@ -1,0 +1,40 @@
+-- `showing::put_span` meets its contract: a lifetime by its cases. Assumes nothing.
+use borrow.Author.Needs.{needs}
+use Rattle.chars.specs.PutsLaws.{puts-then, puts-as}
+use Rattle.showing.specs.Showing.{spanOf}
+use Rattle.showing.specs.PartLaws.{span-some}
+use Rattle.showing.proofs.put_span.Statement.{statement}
+use Rattle.showing.proofs.put_span.Tie as tie
+
+returns : tie.Need-returns
+unfolding spanOf
+returns c = let w = c .before .before in rw (w .before .before .before .if1 .taken) (w .put-all .ensures .1)
+
+returns-2 : tie.Need-returns-2
+unfolding spanOf
+returns-2 c = let w = c .before .before in rw (w .before .before .before .if2 .taken) (w .put-all2 .ensures .1)
+
+returns-3 : tie.Need-returns-3
+returns-3 c =
+    let w = c .before .before in
+    let number = w .before .before .before .before .before in
+    let e = number .before .before in
+    puts-as (span-some _ (e .before .if1 .left) (e .if2 .left)) (puts-then (number .put-number .ensures .1) (w .put-all3 .ensures .1))
+
+pub put-span-spec : {M : Type 1} → statement M
+put-span-spec =
+    tie.close
+    (tie.spec
+    (λ c. search needs)
+    (λ c κs. search needs)
+    (λ c. search needs)
+    returns
+    (λ c. search needs)
+    (λ c κs. search needs)
+    (λ c. search needs)
+    returns-2
+    (λ c κs. search needs)
+    (λ c. search needs)
+    (λ c κs. search needs)
+    (λ c. search needs)
+    returns-3)

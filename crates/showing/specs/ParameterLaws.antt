@@ -1,0 +1,85 @@
+-- The parameters of a field as a loop meets them from an index on, a whole one and the rest, or none; and what is shown of one by cases.
+-- Assumes nothing.
+use mathlib.Core.Path.{_≡_, refl, sym, ap, ap₂, _∙_}
+use mathlib.Core.Bool.{Bool, true, false, _&&_}
+use mathlib.Core.List.{List, [], _∷_}
+use Prim.Native.Nat.{ℕ, _+_, _-_, _*_, _≤_, _<_, min}
+use native.Mathlib.Nat.{add-zero, add-sub-cancel-left}
+use native.Mathlib.Omega.{arith}
+use lib.Dec.{eqb}
+use lib.ListN.{length, getD, take, drop, length-drop}
+use lib.Seq.{drop-drop, getD-drop}
+use borrow.Author.Tests.{eqb-true, ne-eqb}
+use Rattle.octets.specs.Numbers.{at16}
+use Rattle.octets.specs.ListsLaws.{take-rest}
+use Rattle.svcparams.specs.Params.{Param}
+use Rattle.svcparams.specs.Entries.{entries}
+use Rattle.svcparams.specs.TilingLaws.{rest, size-short, size-over, size-fits, stop-entries, next-entries}
+use Rattle.chars.specs.Ascii.{ascii, decimalOf}
+use Rattle.values.specs.Values.{keyOf, quoted, valueOf}
+use Rattle.showing.specs.Showing.{columns, gapOf, valueBy}
+
+-- ---- a field
+
+module _ (p : List ℕ) (i : ℕ) where
+  rest-length : length (rest p i) ≡ length p - i
+  rest-length = ap length (take-rest i p) ∙ length-drop i p
+
+  -- the 16-bit number k octets farther
+  number-at : (k : ℕ) → at16 (rest p i) k ≡ at16 p (i + k)
+  number-at k =
+      let next : i + (k + 1) ≡ i + k + 1 = omega arith in
+      ap (λ (l : List ℕ). at16 l k) (take-rest i p)
+      ∙ ap₂ (λ (x y : ℕ). x * 256 + y) (getD-drop i p k 0) (getD-drop i p (k + 1) 0 ∙ ap (λ (j : ℕ). getD p j 0) next)
+
+  -- fewer than four octets
+  pub params-short : length p - i < 4 → entries (drop i p) ≡ []
+  params-short h = stop-entries p i (size-short (rest p i) (rw rest-length h)) refl
+
+  module _ (h : 4 ≤ length p - i) {n : ℕ} (e : n ≡ at16 p (i + 2)) where
+    -- a value that runs past the end
+    pub params-cut : length p - (i + 4) < n → entries (drop i p) ≡ []
+    params-cut c =
+        let over : length p - i < 4 + n = omega arith in
+        stop-entries p i (size-over (rest p i) (rw rest-length h) (e ∙ sym (number-at 2)) (rw rest-length over)) refl
+
+    -- a whole parameter, and the rest
+    pub params-next : {k : ℕ} → k ≡ at16 p i → n ≤ length p - (i + 4)
+        → entries (drop i p) ≡ record { key = k; value = take (i + 4 + n - (i + 4)) (drop (i + 4) p) } ∷ entries (drop (i + 4 + n) p)
+    params-next q c =
+        let fits : 4 + n ≤ length p - i = omega arith in
+        let end : i + (4 + n) ≡ i + 4 + n = omega arith in
+        let value : take (4 + n - 4) (drop 4 (rest p i)) ≡ take n (drop (i + 4) p) =
+        rw add-sub-cancel-left (ap (λ (l : List ℕ). take n (drop 4 l)) (take-rest i p) ∙ ap (take n) (drop-drop 4 i p)) in
+        rw (add-sub-cancel-left, q)
+        (next-entries p i {n = 4 + n} (size-fits (rest p i) (rw rest-length h) (e ∙ sym (number-at 2)) (rw rest-length fits)) (λ z. omega arith)
+        ∙ ap₂ (λ (kv : Param) (l : List Param). kv ∷ l)
+        (ap₂ (λ (k : ℕ) (v : List ℕ). record { key = k; value = v }) (number-at 0 ∙ ap (at16 p) (add-zero i)) value)
+        (ap (λ (j : ℕ). entries (drop j p)) end))
+
+-- ---- a parameter
+
+pub gap-none : (k : ℕ) {size : ℕ} → size ≡ 0 → [] ≡ gapOf k size
+unfolding gapOf
+gap-none k e = simp e
+
+pub gap-some : (k : ℕ) {size n : ℕ} → (size ≡ 0 → ⊥) → n ≡ min (length (keyOf k)) (columns - 1) → take (columns - n) (ascii "                ") ≡ gapOf k size
+unfolding gapOf
+gap-some k {size} z e = simp (ne-eqb size 0 z, e)
+
+-- of two tests the second fails where the first does not
+not-both : (n m : ℕ) {b : Bool} → (n ≡ m → b ≡ false) → (eqb n m && b) ≡ false
+not-both n m {b} f = go (eqb n m) refl
+  where
+    go : (t : Bool) → eqb n m ≡ t → (t && b) ≡ false
+    go true e = f (eqb-true n m e)
+    go false e = refl
+
+module _ (json : Bool) {k : ℕ} (v : List ℕ) where
+  pub value-port : {n : ℕ} → k ≡ 3 → length v ≡ 2 → n ≡ at16 v 0 → decimalOf n ≡ valueBy json k v
+  unfolding valueBy
+  value-port e h q = ap decimalOf q ∙ simp (e, h)
+
+  pub value-string : (k ≡ 0 → ⊥) → (k ≡ 1 → ⊥) → (k ≡ 2 → json ≡ false) → (k ≡ 3 → eqb (length v) 2 ≡ false) → quoted json (valueOf json v) ≡ valueBy json k v
+  unfolding valueBy
+  value-string a b n m = simp (ne-eqb k 0 a, ne-eqb k 1 b, not-both k 2 n, not-both k 3 m)

@@ -1,0 +1,90 @@
+-- The laws of what is shown by cases: lifetimes, records and the head of a sheet; and addresses as a loop meets them. Assumes nothing.
+use mathlib.Core.Path.{_≡_, refl, sym, ap, _∙_}
+use mathlib.Core.Bool.{Bool, true, false, cond}
+use mathlib.Core.List.{List, [], _∷_, _++_}
+use Prim.Native.Nat.{ℕ, _+_, _-_, _≤_, _<_}
+use native.Mathlib.Nat.{add-sub-cancel-left}
+use lib.Dec.{eqb}
+use lib.ListN.{length, take, drop, length-drop}
+use lib.Seq.{drop-drop}
+use borrow.Author.Tests.{eq-eqb, ne-eqb}
+use Rattle.carriers.specs.declared.Carrier.{Carrier}
+use Rattle.carriers.specs.Carriers.{numberOf, addressWidth, lifetimeWidth}
+use Rattle.addresses.specs.Addresses.{listOf}
+use Rattle.addresses.specs.AddressesLaws.{wide-some, list-cons, list-nil}
+use Rattle.judge.specs.JudgeLaws.{carrier-width}
+use Rattle.taking.specs.declared.Spot.{Spot}
+use Rattle.taking.specs.Spot.{fieldsAt}
+use Rattle.chars.specs.Ascii.{ascii, decimalOf}
+use Rattle.values.specs.Values.{carrierOf}
+use Rattle.showing.specs.Showing.{headOf, forever, spanOf, lifetimeOf, commonOf, listsOf, recordOf}
+
+-- one of two by a test
+pub when-true : {t : Bool} (a b : List ℕ) → t ≡ true → a ≡ cond t a b
+when-true a b e = simp e
+
+pub when-false : {t : Bool} (a b : List ℕ) → t ≡ false → b ≡ cond t a b
+when-false a b e = simp e
+
+-- ---- the head of a sheet
+
+module _ (c : Carrier) {json : Bool} {n : ℕ} (count : ℕ) (e : n ≡ numberOf c) where
+  pub head-json : json ≡ true
+      → ascii "{\"carrier\":" ++ (decimalOf n ++ (ascii ",\"carrierName\":\"" ++ (carrierOf c ++ ascii "\",\"records\":["))) ≡ headOf json c count
+  unfolding headOf
+  head-json j = simp (j, e)
+
+  pub head-text : json ≡ false
+      → carrierOf c ++ (ascii " (carrier " ++ (decimalOf n ++ (ascii "), " ++ (decimalOf count ++ cond (eqb count 1) (ascii " record") (ascii " records")))))
+      ≡ headOf json c count
+  unfolding headOf
+  head-text j = simp (j, e)
+
+-- ---- lifetimes
+
+pub span-some : (n : ℕ) → (n ≡ forever → ⊥) → (n ≡ 0 → ⊥) → decimalOf n ++ ascii " s" ≡ spanOf n
+unfolding spanOf
+span-some n f z = simp (ne-eqb n forever f, ne-eqb n 0 z)
+
+module _ (json : Bool) (c : Carrier) (n : ℕ) {w : ℕ} (e : w ≡ lifetimeWidth c) where
+  pub lifetime-none : w ≡ 0 → [] ≡ lifetimeOf json c n
+  unfolding lifetimeOf
+  lifetime-none z = simp (eq-eqb (lifetimeWidth c) 0 (sym e ∙ z))
+
+  pub lifetime-some : (w ≡ 0 → ⊥)
+      → cond json (ascii ",\"lifetime\":") (ascii "\n    lifetime        ") ++ cond json (decimalOf n) (spanOf n) ≡ lifetimeOf json c n
+  unfolding lifetimeOf
+  lifetime-some z = simp (ne-eqb (lifetimeWidth c) 0 (λ q. z (e ∙ q)))
+
+-- ---- addresses
+
+pub width-some : (c : Carrier) {w : ℕ} → w ≡ addressWidth c → 0 < w
+width-some c e = rw e (wide-some (carrier-width c))
+
+module _ (w : ℕ) (s : List ℕ) (i : ℕ) where
+  pub address-next : 0 < w → w ≤ length s - i → listOf w (drop i s) ≡ take (i + w - i) (drop i s) ∷ listOf w (drop (i + w) s)
+  address-next some h =
+      let k : w ≤ length (drop i s) = rw length-drop h in
+      rw add-sub-cancel-left
+      (list-cons w (drop i s) some k ∙ ap (λ (l : List ℕ). take w (drop i s) ∷ listOf w l) (drop-drop w i s))
+
+  pub address-end : length s - i < w → listOf w (drop i s) ≡ []
+  address-end h = list-nil w (drop i s) (rw length-drop h)
+
+-- ---- a record, whose parts the code cuts from the sheet
+
+module _ (json : Bool) (c : Carrier) (s : List ℕ) (p : Spot) where
+  pub record-full : p .full ≡ true
+      → commonOf json c (p .priority) (p .lifetime) (take (p .name + p .nlen - p .name) (drop (p .name) s))
+      ++ listsOf json c (take (p .addresses + p .alen - p .addresses) (drop (p .addresses) s))
+      (take (p .parameters + p .plen - p .parameters) (drop (p .parameters) s))
+      ≡ recordOf json c (fieldsAt s p)
+  unfolding recordOf
+  record-full e = simp (e, add-sub-cancel-left)
+
+  pub record-short : p .full ≡ false
+      → commonOf json c (p .priority) (p .lifetime) (take (p .name + p .nlen - p .name) (drop (p .name) s))
+      ++ cond json (ascii ",\"nameOnly\":true}") (ascii "\n    name only")
+      ≡ recordOf json c (fieldsAt s p)
+  unfolding recordOf
+  record-short e = simp (e, add-sub-cancel-left)
