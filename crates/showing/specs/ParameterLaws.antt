@@ -1,18 +1,15 @@
 -- The parameters of a field as a loop meets them from an index on, a whole one and the rest, or none; and what is shown of one by cases.
 -- Assumes nothing.
-use mathlib.Core.Path.{_≡_, refl, sym, ap, ap₂, _∙_}
+use mathlib.Core.Path.{_≡_, refl, ap, _∙_}
 use mathlib.Core.Bool.{Bool, true, false, _&&_}
 use mathlib.Core.List.{List, [], _∷_}
-use Prim.Native.Nat.{ℕ, _+_, _-_, _*_, _≤_, _<_, min}
-use native.Mathlib.Nat.{add-zero, add-sub-cancel-left}
+use Prim.Native.Nat.{ℕ, _+_, _-_, _≤_, _<_, min}
 use native.Mathlib.Omega.{arith}
 use lib.Dec.{eqb}
-use lib.ListN.{length, getD, take, drop, length-drop}
-use lib.Seq.{drop-drop, getD-drop}
+use lib.ListN.{length, take, drop, length-drop}
 use borrow.Author.Tests.{eqb-true, ne-eqb}
 use Rattle.octets.specs.Numbers.{at16}
 use Rattle.octets.specs.ListsLaws.{take-rest}
-use Rattle.svcparams.specs.Params.{Param}
 use Rattle.svcparams.specs.Entries.{entries}
 use Rattle.svcparams.specs.TilingLaws.{rest, size-short, size-over, size-fits, stop-entries, next-entries}
 use Rattle.chars.specs.Ascii.{ascii, decimalOf}
@@ -25,37 +22,19 @@ module _ (p : List ℕ) (i : ℕ) where
   rest-length : length (rest p i) ≡ length p - i
   rest-length = ap length (take-rest i p) ∙ length-drop i p
 
-  -- the 16-bit number k octets farther
-  number-at : (k : ℕ) → at16 (rest p i) k ≡ at16 p (i + k)
-  number-at k =
-      let next : i + (k + 1) ≡ i + k + 1 = omega arith in
-      ap (λ (l : List ℕ). at16 l k) (take-rest i p)
-      ∙ ap₂ (λ (x y : ℕ). x * 256 + y) (getD-drop i p k 0) (getD-drop i p (k + 1) 0 ∙ ap (λ (j : ℕ). getD p j 0) next)
-
   -- fewer than four octets
   pub params-short : length p - i < 4 → entries (drop i p) ≡ []
   params-short h = stop-entries p i (size-short (rest p i) (rw rest-length h)) refl
 
-  module _ (h : 4 ≤ length p - i) {n : ℕ} (e : n ≡ at16 p (i + 2)) where
+  module _ {n : ℕ} (h : 4 ≤ length p - i) (e : n ≡ at16 (rest p i) 2) where
     -- a value that runs past the end
-    pub params-cut : length p - (i + 4) < n → entries (drop i p) ≡ []
-    params-cut c =
-        let over : length p - i < 4 + n = omega arith in
-        stop-entries p i (size-over (rest p i) (rw rest-length h) (e ∙ sym (number-at 2)) (rw rest-length over)) refl
+    pub params-cut : length p - i < 4 + n → entries (drop i p) ≡ []
+    params-cut c = stop-entries p i (size-over (rest p i) (rw rest-length h) e (rw rest-length c)) refl
 
     -- a whole parameter, and the rest
-    pub params-next : {k : ℕ} → k ≡ at16 p i → n ≤ length p - (i + 4)
-        → entries (drop i p) ≡ record { key = k; value = take (i + 4 + n - (i + 4)) (drop (i + 4) p) } ∷ entries (drop (i + 4 + n) p)
-    params-next q c =
-        let fits : 4 + n ≤ length p - i = omega arith in
-        let end : i + (4 + n) ≡ i + 4 + n = omega arith in
-        let value : take (4 + n - 4) (drop 4 (rest p i)) ≡ take n (drop (i + 4) p) =
-        rw add-sub-cancel-left (ap (λ (l : List ℕ). take n (drop 4 l)) (take-rest i p) ∙ ap (take n) (drop-drop 4 i p)) in
-        rw (add-sub-cancel-left, q)
-        (next-entries p i {n = 4 + n} (size-fits (rest p i) (rw rest-length h) (e ∙ sym (number-at 2)) (rw rest-length fits)) (λ z. omega arith)
-        ∙ ap₂ (λ (kv : Param) (l : List Param). kv ∷ l)
-        (ap₂ (λ (k : ℕ) (v : List ℕ). record { key = k; value = v }) (number-at 0 ∙ ap (at16 p) (add-zero i)) value)
-        (ap (λ (j : ℕ). entries (drop j p)) end))
+    pub params-next : {k : ℕ} → k ≡ at16 (rest p i) 0 → 4 + n ≤ length p - i
+        → entries (drop i p) ≡ record { key = k; value = take (4 + n - 4) (drop 4 (rest p i)) } ∷ entries (drop (i + (4 + n)) p)
+    params-next q c = rw q (next-entries p i {n = 4 + n} (size-fits (rest p i) (rw rest-length h) e (rw rest-length c)) (λ z. omega arith))
 
 -- ---- a parameter
 

@@ -30,22 +30,25 @@ use values::put_name;
 use values::put_protocols;
 use values::put_string;
 
+// Characters of a label with the blanks after it.
+const COLUMNS: usize = 16;
+
 // The lifetime that never ends: all ones (RFC 9463 §6.1).
 const FOREVER: usize = 4294967295;
 
 // ---- parameters
 
-// Fills up the label of a key to 16 columns, with one blank at least; where no value follows, not.
+// Fills up the label of a key to its columns, with one blank at least; where no value follows, not.
 fn put_gap(out: &mut [u8], at: usize, key: usize, size: usize) -> usize
     ensures { λ r. ⌜ Puts at (gapOf key size) (now (out .entry)) r (now (out .exit)) ⌝ }
 {
     if size == 0 {
         return least(at, out.len());
     }
-    let mut label = [0u8; 15];
+    let mut label = [0u8; COLUMNS - 1];
     let n = put_key(&mut label, 0, key);
-    let blanks = [b' '; 16];
-    let left = 16 - n;
+    let blanks = [b' '; COLUMNS];
+    let left = COLUMNS - n;
     put_all(out, at, &blanks[..left])
 }
 
@@ -109,14 +112,13 @@ fn put_parameters(out: &mut [u8], at: usize, json: bool, p: &[u8]) -> usize
     let mut o = least(at, out.len());
     let mut i = 0;
     while 4 <= p.len() - i {
-        let start = i + 4;
-        let n = get16(p, i + 2);
-        if p.len() - start < n {
+        let s = &p[i..];
+        let n = 4 + get16(s, 2);
+        if s.len() < n {
             return o;
         }
-        let end = start + n;
-        o = put_parameter(out, o, json, i == 0, get16(p, i), &p[start..end]);
-        i = end;
+        o = put_parameter(out, o, json, i == 0, get16(s, 0), &s[4..n]);
+        i += n;
     }
     o
 }

@@ -9,7 +9,7 @@ use borrow.Author.Tests.{le-leb, lt-leb, lt-ltb, le-ltb, eq-eqb, ne-eqb}
 use Rattle.texts.specs.Texts.{textOf}
 use Rattle.ips.specs.Ips.{text4, text6}
 use Rattle.chars.specs.Ascii.{ascii, decimalOf}
-use Rattle.values.specs.Values.{nameOf, addressOf, dohpath, keyOf, codeOf, escapedOf}
+use Rattle.values.specs.Values.{nameOf, addressOf, comma, dohpath, keyOf, backslash, quotation, codeOf, escapedOf}
 
 -- ---- octets of a value
 
@@ -24,22 +24,22 @@ module _ (json : Bool) {b : ℕ} where
       let low : 32 < b = omega arith in
       simp (lt-leb b 32 low, lt-ltb 126 b h)
 
-  pub escaped-plain : 32 < b → b ≤ 126 → (b ≡ 92 → ⊥) → (b ≡ 34 → ⊥) → (b ≡ 44 → ⊥) → b ∷ [] ≡ escapedOf json b
+  pub escaped-plain : 32 < b → b ≤ 126 → (b ≡ backslash → ⊥) → (b ≡ quotation → ⊥) → (b ≡ comma → ⊥) → b ∷ [] ≡ escapedOf json b
   unfolding escapedOf
-  escaped-plain low high n m o = simp (lt-leb b 32 low, le-ltb 126 b high, ne-eqb b 92 n, ne-eqb b 34 m, ne-eqb b 44 o)
+  escaped-plain low high n m o = simp (lt-leb b 32 low, le-ltb 126 b high, ne-eqb b backslash n, ne-eqb b quotation m, ne-eqb b comma o)
 
 -- the octets that stand after a backslash
-pub escaped-backslash : (json : Bool) → cond json (ascii "\\\\\\\\") (ascii "\\\\") ≡ escapedOf json 92
+pub escaped-backslash : (json : Bool) → cond json (ascii "\\\\\\\\") (ascii "\\\\") ≡ escapedOf json backslash
 unfolding escapedOf
 escaped-backslash true = refl
 escaped-backslash false = refl
 
-pub escaped-quotation : (json : Bool) → cond json (ascii "\\\\\\\"") (ascii "\\\"") ≡ escapedOf json 34
+pub escaped-quotation : (json : Bool) → cond json (ascii "\\\\\\\"") (ascii "\\\"") ≡ escapedOf json quotation
 unfolding escapedOf
 escaped-quotation true = refl
 escaped-quotation false = refl
 
-pub escaped-comma : (json : Bool) → cond json (ascii "\\\\,") (ascii "\\,") ≡ escapedOf json 44
+pub escaped-comma : (json : Bool) → cond json (ascii "\\\\,") (ascii "\\,") ≡ escapedOf json comma
 unfolding escapedOf
 escaped-comma true = refl
 escaped-comma false = refl

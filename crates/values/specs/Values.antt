@@ -76,7 +76,14 @@ keysOf json v = listOf true (map (λ (k : ℕ). quoted json (keyOf k)) (words v)
 
 -- ---- octets of a value
 
--- a backslash
+-- the codes of a backslash and of a quotation mark
+abbrev pub backslash : ℕ
+backslash = 92
+
+abbrev pub quotation : ℕ
+quotation = 34
+
+-- a backslash, in JSON after another
 abbrev pub slashOf : Bool → List ℕ
 slashOf json = cond json (ascii "\\\\") (ascii "\\")
 
@@ -90,8 +97,8 @@ unfoldable pub escapedOf : Bool → ℕ → List ℕ
 escapedOf json b =
     cond (leb b 32) (codeOf json b)
     (cond (ltb 126 b) (codeOf json b)
-    (cond (eqb b 92) (slashOf json ++ slashOf json)
-    (cond (eqb b 34) (slashOf json ++ cond json (ascii "\\\"") (ascii "\""))
+    (cond (eqb b backslash) (slashOf json ++ slashOf json)
+    (cond (eqb b quotation) (slashOf json ++ cond json (ascii "\\\"") (ascii "\""))
     (cond (eqb b comma) (slashOf json ++ ascii ",")
     (b ∷ [])))))
 

@@ -35,10 +35,9 @@ pub fn put_either(out: &mut [u8], at: usize, json: bool, a: &[u8], b: &[u8]) -> 
 fn put_code(out: &mut [u8], at: usize, json: bool, b: u8) -> usize
     ensures { λ r. ⌜ Puts at (codeOf json b) (now (out .entry)) r (now (out .exit)) ⌝ }
 {
-    let hundreds = put_either(out, at, json, b"\\\\", b"\\");
-    let tens = put(out, hundreds, b'0' + b / 100);
-    let ones = put(out, tens, b'0' + b / 10 % 10);
-    put(out, ones, b'0' + b % 10)
+    let next = put_either(out, at, json, b"\\\\", b"\\");
+    let digits = [b'0' + b / 100, b'0' + b / 10 % 10, b'0' + b % 10];
+    put_all(out, next, &digits)
 }
 
 // Writes an octet of a value: 33 to 126 as they are, but a backslash, a quotation mark and a comma after a backslash, and every other octet as

@@ -25,19 +25,20 @@ loop-holds c = (omega arith, refl, listed-start _ _ _ (c .least .ensures))
 returns : tie.Need-returns Inv-loop μ-loop
 unfolding parametersOf
 returns c =
-    let l = c .before .before .before in
-    listed-end _ _ (l .loop .inv .2) (params-cut _ (l .loop .i) (omega arith) (c .before .get16 .ensures .0) (c .if1 .taken))
+    let v = c .before in
+    let l = v .before .before .before in
+    listed-end _ _ (l .loop .inv .2) (params-cut _ (l .loop .i) (v .before .before .loop-test .taken) (v .get16 .ensures .0) (omega arith))
 
 loop-again : tie.Need-loop-again Inv-loop μ-loop
 loop-again c =
     let w = c .before .before in
     let v = w .before .before .before .before .before in
-    let l = v .before .before in
+    let l = v .before .before .before in
     let i = l .loop .i in (
       omega arith,
       omega arith,
-      listed-past _ _ (l .loop .inv .2) 0 (i + 4 + v .get16 .result) (omega arith)
-          (params-next _ i (v .before .loop-test .taken) (v .get16 .ensures .0) (w .before .before .get162 .ensures .0) (w .before .before .before .before .if1 .left))
+      listed-past _ _ (l .loop .inv .2) 0 (i + (4 + v .get16 .result)) (omega arith)
+          (params-next _ i (v .before .before .loop-test .taken) (v .get16 .ensures .0) (w .before .before .get162 .ensures .0) (omega arith))
           (w .put-parameter .ensures),
     )
 
@@ -58,16 +59,17 @@ put-parameters-spec =
     (λ c. omega arith)
     (λ c. omega arith)
     (λ c. omega arith)
+    (λ c. omega arith)
     (λ c κs. search needs)
     (λ c. omega arith)
     (λ c. search needs)
     returns
-    (λ c. omega arith)
     (λ c κs. search needs)
     (λ c. omega arith)
     (λ c. omega arith)
     (λ c. omega arith)
     (λ c κs. search needs)
+    (λ c. omega arith)
     (λ c. omega arith)
     loop-again
     (λ c. search needs)
