@@ -17,7 +17,7 @@ use Rattle.taking.specs.declared.Spot.{Spot}
 use Rattle.taking.specs.Spot.{fieldsAt}
 use Rattle.chars.specs.Ascii.{ascii, decimalOf}
 use Rattle.values.specs.Values.{carrierOf}
-use Rattle.showing.specs.Showing.{headOf, forever, spanOf, lifetimeOf, commonOf, listsOf, recordOf}
+use Rattle.showing.specs.Showing.{lineOf, objectOf, forever, spanOf, lifetimeOf, commonOf, listsOf, recordOf}
 
 -- one of two by a test
 pub when-true : {t : Bool} (a b : List ℕ) → t ≡ true → a ≡ cond t a b
@@ -28,17 +28,16 @@ when-false a b e = simp e
 
 -- ---- the head of a sheet
 
-module _ (c : Carrier) {json : Bool} {n : ℕ} (count : ℕ) (e : n ≡ numberOf c) where
-  pub head-json : json ≡ true
-      → ascii "{\"carrier\":" ++ (decimalOf n ++ (ascii ",\"carrierName\":\"" ++ (carrierOf c ++ ascii "\",\"records\":["))) ≡ headOf json c count
-  unfolding headOf
-  head-json j = simp (j, e)
+module _ (c : Carrier) {n : ℕ} (e : n ≡ numberOf c) where
+  pub object-is : ascii "{\"carrier\":" ++ (decimalOf n ++ (ascii ",\"carrierName\":\"" ++ (carrierOf c ++ ascii "\",\"records\":["))) ≡ objectOf c
+  unfolding objectOf
+  object-is = simp e
 
-  pub head-text : json ≡ false
+  pub line-is : (count : ℕ)
       → carrierOf c ++ (ascii " (carrier " ++ (decimalOf n ++ (ascii "), " ++ (decimalOf count ++ cond (eqb count 1) (ascii " record") (ascii " records")))))
-      ≡ headOf json c count
-  unfolding headOf
-  head-text j = simp (j, e)
+      ≡ lineOf c count
+  unfolding lineOf
+  line-is count = simp e
 
 -- ---- lifetimes
 

@@ -17,14 +17,21 @@ use Rattle.taking.specs.Taking.{Taken, refuse, sheet, takeOf}
 use Rattle.chars.specs.Ascii.{ascii, decimalOf}
 use Rattle.values.specs.Values.{carrierOf, nameOf, addressOf, listOf, quoted, keyOf, keysOf, valueOf, protocolsOf}
 
--- what stands before the records: the first line, or the object up to them
-unfoldable pub headOf : Bool → Carrier → ℕ → List ℕ
-headOf json c count =
-    cond json
-    (ascii "{\"carrier\":" ++ (decimalOf (numberOf c) ++ (ascii ",\"carrierName\":\"" ++ (carrierOf c ++ ascii "\",\"records\":["))))
-    (carrierOf c
+-- the first line
+unfoldable pub lineOf : Carrier → ℕ → List ℕ
+lineOf c count =
+    carrierOf c
     ++ (ascii " (carrier "
-    ++ (decimalOf (numberOf c) ++ (ascii "), " ++ (decimalOf count ++ cond (eqb count 1) (ascii " record") (ascii " records"))))))
+    ++ (decimalOf (numberOf c) ++ (ascii "), " ++ (decimalOf count ++ cond (eqb count 1) (ascii " record") (ascii " records")))))
+
+-- the object up to the records
+unfoldable pub objectOf : Carrier → List ℕ
+objectOf c =
+    ascii "{\"carrier\":" ++ (decimalOf (numberOf c) ++ (ascii ",\"carrierName\":\"" ++ (carrierOf c ++ ascii "\",\"records\":[")))
+
+-- what stands before the records
+abbrev pub headOf : Bool → Carrier → ℕ → List ℕ
+headOf json c count = cond json (objectOf c) (lineOf c count)
 
 -- ---- records
 

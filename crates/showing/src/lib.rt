@@ -11,7 +11,7 @@ ghost use Rattle.taking.specs.Spot.{fieldsAt};
 ghost use Rattle.taking.specs.Standing.{Standing};
 ghost use Rattle.chars.specs.Puts.{Puts};
 ghost use Rattle.values.specs.Values.{beforeOf, listOf, longestName};
-ghost use Rattle.showing.specs.Showing.{gapOf, labelOf, valueBy, parameterOf, parametersOf, addressItem, addressesOf, spanOf, lifetimeOf, commonOf, listsOf, recordOf, headOf, shownOf};
+ghost use Rattle.showing.specs.Showing.{gapOf, labelOf, valueBy, parameterOf, parametersOf, addressItem, addressesOf, spanOf, lifetimeOf, commonOf, listsOf, recordOf, lineOf, objectOf, headOf, shownOf};
 use carriers::Carrier;
 use chars::least;
 use chars::put_all;
@@ -24,6 +24,7 @@ use values::put_address;
 use values::put_carrier;
 use values::put_comma;
 use values::put_either;
+use values::put_json;
 use values::put_key;
 use values::put_keys;
 use values::put_name;
@@ -73,14 +74,14 @@ fn put_of_key(out: &mut [u8], at: usize, json: bool, key: usize, v: &[u8]) -> us
     ensures { λ r. ⌜ Puts at (valueBy json key (now (v .entry))) (now (out .entry)) r (now (out .exit)) ⌝ }
 {
     if key == Key::MANDATORY {
-        let from = put_either(out, at, json, b"[", b"");
+        let from = put_json(out, at, json, b"[");
         let end = put_keys(out, from, json, v);
-        return put_either(out, end, json, b"]", b"");
+        return put_json(out, end, json, b"]");
     }
     if key == Key::ALPN {
-        let from = put_either(out, at, json, b"[", b"");
+        let from = put_json(out, at, json, b"[");
         let end = put_protocols(out, from, json, v);
-        return put_either(out, end, json, b"]", b"");
+        return put_json(out, end, json, b"]");
     }
     if key == Key::NO_DEFAULT_ALPN {
         if json {
@@ -102,7 +103,7 @@ fn put_parameter(out: &mut [u8], at: usize, json: bool, first: bool, key: usize,
     let from = put_comma(out, at, json, first);
     let named = put_label(out, from, json, key, v.len());
     let end = put_of_key(out, named, json, key, v);
-    put_either(out, end, json, b"}", b"")
+    put_json(out, end, json, b"}")
 }
 
 // Writes the parameters.
@@ -132,7 +133,7 @@ fn put_address_item(out: &mut [u8], at: usize, json: bool, first: bool, a: &[u8]
     let opens = put_comma(out, at, json, first);
     let from = put_either(out, opens, json, b"\"", b"\n    address         ");
     let end = put_address(out, from, a);
-    put_either(out, end, json, b"\"", b"")
+    put_json(out, end, json, b"\"")
 }
 
 // Writes the addresses of a carrier.
@@ -189,11 +190,11 @@ fn put_lists(
 ) -> usize
     ensures { λ r. ⌜ Puts at (listsOf json c (now (list .entry)) (now (parameters .entry))) (now (out .entry)) r (now (out .exit)) ⌝ }
 {
-    let from = put_either(out, at, json, b",\"nameOnly\":false,\"addresses\":[", b"");
+    let from = put_json(out, at, json, b",\"nameOnly\":false,\"addresses\":[");
     let listed = put_addresses(out, from, json, c, list);
-    let next = put_either(out, listed, json, b"],\"parameters\":[", b"");
+    let next = put_json(out, listed, json, b"],\"parameters\":[");
     let end = put_parameters(out, next, json, parameters);
-    put_either(out, end, json, b"]}", b"")
+    put_json(out, end, json, b"]}")
 }
 
 // Writes what every record has: name, priority and, where the carrier has one, lifetime.
@@ -252,23 +253,37 @@ fn put_record(
 
 // ---- the sheet
 
-// Writes what stands before the records.
-fn put_head(out: &mut [u8], at: usize, json: bool, c: Carrier, count: usize) -> usize
-    ensures { λ r. ⌜ Puts at (headOf json c count) (now (out .entry)) r (now (out .exit)) ⌝ }
+// Writes the first line.
+fn put_line(out: &mut [u8], at: usize, c: Carrier, count: usize) -> usize
+    ensures { λ r. ⌜ Puts at (lineOf c count) (now (out .entry)) r (now (out .exit)) ⌝ }
 {
-    if json {
-        let from = put_all(out, at, b"{\"carrier\":");
-        let numbered = put_number(out, from, octets::wide(c.number()));
-        let name = put_all(out, numbered, b",\"carrierName\":\"");
-        let named = put_carrier(out, name, c);
-        return put_all(out, named, b"\",\"records\":[");
-    }
     let named = put_carrier(out, at, c);
     let opened = put_all(out, named, b" (carrier ");
     let numbered = put_number(out, opened, octets::wide(c.number()));
     let closed = put_all(out, numbered, b"), ");
     let counted = put_number(out, closed, count);
     put_either(out, counted, count == 1, b" record", b" records")
+}
+
+// Writes the object up to the records.
+fn put_object(out: &mut [u8], at: usize, c: Carrier) -> usize
+    ensures { λ r. ⌜ Puts at (objectOf c) (now (out .entry)) r (now (out .exit)) ⌝ }
+{
+    let from = put_all(out, at, b"{\"carrier\":");
+    let numbered = put_number(out, from, octets::wide(c.number()));
+    let name = put_all(out, numbered, b",\"carrierName\":\"");
+    let named = put_carrier(out, name, c);
+    put_all(out, named, b"\",\"records\":[")
+}
+
+// Writes what stands before the records.
+fn put_head(out: &mut [u8], at: usize, json: bool, c: Carrier, count: usize) -> usize
+    ensures { λ r. ⌜ Puts at (headOf json c count) (now (out .entry)) r (now (out .exit)) ⌝ }
+{
+    if json {
+        return put_object(out, at, c);
+    }
+    put_line(out, at, c, count)
 }
 
 // Writes the records of a sheet; of octets that are none nothing is said.
@@ -297,7 +312,7 @@ pub fn put_sheet(out: &mut [u8], at: usize, s: &[u8], json: bool) -> usize
         Took::Sheet { carrier, count } => {
             let from = put_head(out, at, json, carrier, count);
             let end = put_records(out, from, json, carrier, s);
-            put_either(out, end, json, b"]}", b"")
+            put_json(out, end, json, b"]}")
         }
     }
 }

@@ -2,7 +2,7 @@
 // (docs/COMMAND.md). Octets of values are escaped. A name is shown as its text stands: that of a record that writing accepts has letters,
 // digits, hyphens and dots alone. Nothing here judges a value.
 ghost use mathlib.Core.Bool.{true, cond};
-ghost use mathlib.Core.List.{_++_, map};
+ghost use mathlib.Core.List.{[], _++_};
 ghost use Prim.Native.Nat.{_≤_};
 ghost use lib.ListN.{length};
 ghost use Rattle.chars.specs.Puts.{Puts};
@@ -27,6 +27,16 @@ pub fn put_either(out: &mut [u8], at: usize, json: bool, a: &[u8], b: &[u8]) -> 
         return put_all(out, at, a);
     }
     put_all(out, at, b)
+}
+
+// Writes `a` in JSON, and else nothing.
+pub fn put_json(out: &mut [u8], at: usize, json: bool, a: &[u8]) -> usize
+    ensures { λ r. ⌜ Puts at (cond json (now (a .entry)) []) (now (out .entry)) r (now (out .exit)) ⌝ }
+{
+    if json {
+        return put_all(out, at, a);
+    }
+    least(at, out.len())
 }
 
 // ---- octets of a value
@@ -80,9 +90,9 @@ fn put_value(out: &mut [u8], at: usize, json: bool, s: &[u8]) -> usize
 pub fn put_string(out: &mut [u8], at: usize, json: bool, s: &[u8]) -> usize
     ensures { λ r. ⌜ Puts at (quoted json (valueOf json (now (s .entry)))) (now (out .entry)) r (now (out .exit)) ⌝ }
 {
-    let from = put_either(out, at, json, b"\"", b"");
+    let from = put_json(out, at, json, b"\"");
     let end = put_value(out, from, json, s);
-    put_either(out, end, json, b"\"", b"")
+    put_json(out, end, json, b"\"")
 }
 
 // ---- lists
@@ -94,7 +104,7 @@ pub fn put_comma(out: &mut [u8], at: usize, commas: bool, first: bool) -> usize
     if first {
         return least(at, out.len());
     }
-    put_either(out, at, commas, b",", b"")
+    put_json(out, at, commas, b",")
 }
 
 // Writes a key by its name, or as keyN (RFC 9460 §2.1).
@@ -125,9 +135,9 @@ fn put_key_item(out: &mut [u8], at: usize, json: bool, first: bool, key: usize) 
     ensures { λ r. ⌜ Puts at (beforeOf true first ++ quoted json (keyOf key)) (now (out .entry)) r (now (out .exit)) ⌝ }
 {
     let opens = put_comma(out, at, true, first);
-    let from = put_either(out, opens, json, b"\"", b"");
+    let from = put_json(out, opens, json, b"\"");
     let end = put_key(out, from, key);
-    put_either(out, end, json, b"\"", b"")
+    put_json(out, end, json, b"\"")
 }
 
 // Writes the keys of a mandatory list.

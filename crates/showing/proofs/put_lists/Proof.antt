@@ -9,26 +9,23 @@ returns : tie.Need-returns
 unfolding listsOf
 returns c =
     let end = c .before .before in
-    let parameters = end .before .before .before .before .before .before in
+    let parameters = end .before .before .before .before .before in
     let next = parameters .before .before .before .before in
-    let listed = next .before .before .before .before .before .before in
-    puts-then (listed .before .before .before .before .put-either .ensures)
+    let listed = next .before .before .before .before .before in
+    puts-then (listed .before .before .before .before .put-json .ensures)
     (puts-then (listed .put-addresses .ensures)
-    (puts-then (next .put-either2 .ensures) (puts-then (parameters .put-parameters .ensures) (end .put-either3 .ensures))))
+    (puts-then (next .put-json2 .ensures) (puts-then (parameters .put-parameters .ensures) (end .put-json3 .ensures))))
 
 pub put-lists-spec : {M : Type 1} → statement M
 put-lists-spec =
     tie.close
     (tie.spec
     (λ c. search needs)
-    (λ c. search needs)
     (λ c κs. search needs)
     (λ c κs. search needs)
     (λ c. search needs)
-    (λ c. search needs)
     (λ c κs. search needs)
     (λ c κs. search needs)
-    (λ c. search needs)
     (λ c. search needs)
     (λ c κs. search needs)
     (λ c. search needs)

@@ -12,17 +12,17 @@ returns : tie.Need-returns
 unfolding valueBy
 returns c =
     let end = c .before .before in
-    let keys = end .before .before .before .before .before .before in
+    let keys = end .before .before .before .before .before in
     let from = keys .before .before .before .before in
-    rw (from .before .before .before .before .if1 .taken) (puts-then (from .put-either .ensures) (puts-then (keys .put-keys .ensures) (end .put-either2 .ensures)))
+    rw (from .before .before .before .if1 .taken) (puts-then (from .put-json .ensures) (puts-then (keys .put-keys .ensures) (end .put-json2 .ensures)))
 
 returns-2 : tie.Need-returns-2
 unfolding valueBy
 returns-2 c =
     let end = c .before .before in
-    let ids = end .before .before .before .before .before .before in
+    let ids = end .before .before .before .before .before in
     let from = ids .before .before .before .before in
-    rw (from .before .before .before .before .if2 .taken) (puts-then (from .put-either3 .ensures) (puts-then (ids .put-protocols .ensures) (end .put-either4 .ensures)))
+    rw (from .before .before .before .if2 .taken) (puts-then (from .put-json3 .ensures) (puts-then (ids .put-protocols .ensures) (end .put-json4 .ensures)))
 
 returns-3 : tie.Need-returns-3
 unfolding valueBy
@@ -52,19 +52,15 @@ put-of-key-spec =
     tie.close
     (tie.spec
     (λ c. search needs)
-    (λ c. search needs)
     (λ c κs. search needs)
     (λ c κs. search needs)
-    (λ c. search needs)
     (λ c. search needs)
     (λ c κs. search needs)
     (λ c. search needs)
     returns
     (λ c. search needs)
-    (λ c. search needs)
     (λ c κs. search needs)
     (λ c κs. search needs)
-    (λ c. search needs)
     (λ c. search needs)
     (λ c κs. search needs)
     (λ c. search needs)

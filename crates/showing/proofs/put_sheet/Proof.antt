@@ -11,10 +11,10 @@ returns c = shown-nothing _ _ (sym (c .before .enum-told .given .1) ∙ c .befor
 returns-2 : tie.Need-returns-2
 returns-2 c =
     let end = c .before .before in
-    let records = end .before .before .before .before .before .before in
+    let records = end .before .before .before .before .before in
     let head = records .before .before .before .before in
     let k = head .before .before .before in
-    shown-sheet _ _ (sym (k .carrier .given .1) ∙ k .before .before .take .ensures) (head .put-head .ensures) (records .put-records .ensures) (end .put-either .ensures)
+    shown-sheet _ _ (sym (k .carrier .given .1) ∙ k .before .before .take .ensures) (head .put-head .ensures) (records .put-records .ensures) (end .put-json .ensures)
 
 pub put-sheet-spec : {M : Type 1} → statement M
 put-sheet-spec =
@@ -26,7 +26,6 @@ put-sheet-spec =
     (λ c. search needs)
     (λ c κs. search needs)
     (λ c κs. search needs)
-    (λ c. search needs)
     (λ c. search needs)
     (λ c κs. search needs)
     returns
