@@ -4,7 +4,5 @@ pub mod Numbers
 pub mod NumbersLaws
 pub mod Over
 pub mod OverLaws
-pub mod Answer
-pub mod AnswerLaws
 pub mod Fields
 pub mod FieldsLaws

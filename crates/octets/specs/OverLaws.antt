@@ -1,5 +1,5 @@
 -- The laws of octets laid over a list, and how writes compose. Assumes nothing.
-use mathlib.Core.Path.{_≡_, sym, ap, subst, _∙_}
+use mathlib.Core.Path.{_≡_, refl, sym, ap, subst, _∙_}
 use mathlib.Core.List.{List, [], _∷_, _++_, append-assoc, append-nil}
 use Prim.Native.Nat.{ℕ, suc, _+_, _-_, _≤_, _<_}
 use native.Mathlib.Nat.{add-zero, add-assoc}
@@ -22,6 +22,16 @@ head-length at bs l h = simp (length-append, length-take) (omega arith)
 pub over-length : (at : ℕ) (bs l : List ℕ) → at + length bs ≤ length l → length (over at bs l) ≡ length l
 unfolding over
 over-length at bs l h = simp (length-append, length-take, length-drop) (omega arith)
+
+-- and where they leave its length, they fit it
+pub over-fits : (bs l : List ℕ) → length (over 0 bs l) ≡ length l → length bs ≤ length l
+unfolding over
+over-fits bs l e = omega (arith, simp (length-append, length-take, length-drop) at e)
+
+-- what is laid over the front stands there
+pub over-front : (bs l : List ℕ) → take (length bs) (over 0 bs l) ≡ bs
+unfolding over
+over-front bs l = take-at bs (drop (0 + length bs) l) (length bs) refl
 
 -- what is laid just after a is laid with a
 pub over-over : (at : ℕ) (a b l : List ℕ) → at + length a + length b ≤ length l → over (at + length a) b (over at a l) ≡ over at (a ++ b) l

@@ -9,11 +9,8 @@ use borrow.Author.Tests.{ltb-false, lt-ltb, le-ltb}
 use lib.Dec.{ltb}
 use lib.ListN.{length, take}
 use lib.Seq.{take-at}
-use Rattle.octets.specs.OverLaws.{over-length}
 use Rattle.octets.specs.Over.{over, Wrote}
-use Rattle.octets.specs.Answer.{Answered, count}
-use Rattle.octets.specs.Answer as answer
-use Rattle.octets.specs.AnswerLaws.{answered-fits}
+use Rattle.octets.specs.OverLaws.{over-length, over-fits}
 use Rattle.numbers.specs.Refusal as refusal
 use Rattle.numbers.specs.Limit as limit
 use Rattle.carriers.specs.declared.Carrier.{Carrier}
@@ -35,7 +32,7 @@ use Rattle.records.specs.Records.{outcomeOf, recordOf}
 use Rattle.sheets.specs.Sheets.{frontSize, sheetOf}
 use Rattle.sheets.specs.SheetsLaws.{length-sheet}
 use Rattle.reading.specs.declared.Reading.{Reading}
-use Rattle.reading.specs.Reading.{Yield, single, joinedYield, yieldOf, arrivals, inOrder, Done, Answer, refuse, done, readYields, readBlocks, readFramed, readArea, readChosen, readOf, told, Reads}
+use Rattle.reading.specs.Reading.{Yield, single, joinedYield, yieldOf, arrivals, inOrder, Done, Answer, refuse, done, readYields, readBlocks, readFramed, readArea, readChosen, readOf, told, left, Reads}
 use Rattle.reading.specs.Tally.{recordsAt, Tally, Shows, alone, answerOf}
 use Rattle.reading.specs.ListLaws.{sort-laid}
 use Rattle.reading.specs.Walks.{Tallying}
@@ -180,9 +177,8 @@ reads-done {a} {d} e w =
 
 -- what it wrote fits its buffer, which keeps its length
 pub reads-fits : (a : Answer) {out out′ : List ℕ} {r : Reading} → Reads a out r out′ → length out′ ≡ length out → r .length ≤ length out′
-unfolding count answer.left
-reads-fits (refuse k) g e = omega (arith, ap (λ (r : Reading). r .length) (g .numbers))
-reads-fits (done d) {out} {out′} {r} g e =
-    let a : Answered 0 (d .sheet) out 0 (r .length) out′ =
-    record { numbered = refl; counted = ap (λ (r : Reading). r .length) (g .numbers); leaves = g .leaves } in
-    answered-fits a e
+reads-fits a {out} {out′} {r} g e = rw (g .numbers, e) (go a (g .leaves))
+  where
+    go : (a : Answer) → out′ ≡ left a out → told a .length ≤ length out
+    go (refuse k) l = omega arith
+    go (done d) l = over-fits (d .sheet) out (sym (ap length l) ∙ e)

@@ -7,11 +7,11 @@ use mathlib.Core.List.{List}
 use Prim.Native.Nat.{ℕ, _+_, _≤_, _<_}
 use native.Mathlib.Omega.{arith}
 use lib.Dec.{ltb}
-use lib.ListN.{length, getD, take, drop}
-use lib.Seq.{take-at}
+use lib.ListN.{length, getD, take}
 use Rattle.octets.specs.Numbers.{Bytes}
 use Rattle.octets.specs.Lists.{All}
 use Rattle.octets.specs.Over.{over}
+use Rattle.octets.specs.OverLaws.{over-front}
 use Rattle.numbers.specs.Refusal as refusal
 use Rattle.carriers.specs.declared.Carrier.{Carrier}
 use Rattle.carriers.specs.Carriers.{numberOf}
@@ -88,10 +88,9 @@ write-unique s t c rs qs a b e =
 
 -- ---- the two calls
 
--- what is laid over the front of a buffer stands there
-over-front : (bs out : List ℕ) {out′ : List ℕ} {size : ℕ} → size ≡ length bs → out′ ≡ over 0 bs out → take size out′ ≡ bs
-unfolding over
-over-front bs out n l = ap₂ (λ (n : ℕ) (l : List ℕ). take n l) n l ∙ take-at bs (drop (0 + length bs) out) (length bs) refl
+-- a call that wrote octets at the front of its buffer left them there
+front-of : (bs out : List ℕ) {out′ : List ℕ} {size : ℕ} → size ≡ length bs → out′ ≡ over 0 bs out → take size out′ ≡ bs
+front-of bs out n l = ap₂ (λ (n : ℕ) (l : List ℕ). take n l) n l ∙ over-front bs out
 
 -- a sheet says its carrier's number
 sheet-number : (s : List ℕ) (c : Carrier) (rs : List Fields) → s ≡ sheetOf c rs → getD s carrierAt 0 ≡ numberOf c
@@ -124,7 +123,7 @@ calls-return s out out₁ sheet sheet₁ w r octets v o g room =
     let gave : Writes (writing.written (octetsOf c rs)) out w out₁ =
     subst (λ (x : writing.Answer). Writes x out w out₁) (written-octets s c rs (length out) a z) v in
     let front : take (w .length) out₁ ≡ octetsOf c rs =
-    over-front (octetsOf c rs) out (ap (λ (w : Writing). w .length) (gave .numbers)) (gave .leaves) in
+    front-of (octetsOf c rs) out (ap (λ (w : Writing). w .length) (gave .numbers)) (gave .leaves) in
     let answer : readOf (getD s carrierAt 0) (take (w .length) out₁) (length sheet) ≡ done (returned c rs s) =
     ap₂ (λ (n : ℕ) (l : List ℕ). readOf n l (length sheet)) (sheet-number s c rs (a .is .is)) front ∙ read-write s c rs (length sheet) a room in
     let back : Reads (done (returned c rs s)) sheet r sheet₁ = subst (λ (x : Answer). Reads x sheet r sheet₁) answer g in
@@ -133,5 +132,5 @@ calls-return s out out₁ sheet sheet₁ w r octets v o g room =
       records = rs;
       accepted = a;
       numbers = back .numbers;
-      front = over-front s sheet (ap (λ (r : Reading). r .length) (back .numbers)) (back .leaves);
+      front = front-of s sheet (ap (λ (r : Reading). r .length) (back .numbers)) (back .leaves);
     }

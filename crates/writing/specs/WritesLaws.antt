@@ -5,9 +5,10 @@ use mathlib.Core.List.{List}
 use Prim.Native.Nat.{ℕ, _*_, _≤_, _<_}
 use native.Mathlib.Omega.{arith}
 use borrow.Author.Tests.{lt-ltb, le-ltb}
-use lib.ListN.{length, length-append, length-take, length-drop}
+use lib.ListN.{length}
 use Rattle.octets.specs.Numbers.{Bytes}
-use Rattle.octets.specs.Over.{over, Wrote}
+use Rattle.octets.specs.Over.{Wrote}
+use Rattle.octets.specs.OverLaws.{over-fits}
 use Rattle.numbers.specs.Refusal as refusal
 use Rattle.numbers.specs.Limit as limit
 use Rattle.carriers.specs.declared.Carrier.{Carrier}
@@ -37,11 +38,6 @@ pub writes-written : {bs out out′ : List ℕ} {n : ℕ} → Wrote 0 bs out n o
 writes-written {bs} {out} {out′} {n} w =
     let e : n ≡ length bs = omega (arith, w .next) in
     record { numbers = rw e refl; leaves = w .laid }
-
--- octets laid over the front of a list, which keeps its length, fit it
-over-fits : (bs l : List ℕ) → length (over 0 bs l) ≡ length l → length bs ≤ length l
-unfolding over
-over-fits bs l e = omega (arith, simp (length-append, length-take, length-drop) at e)
 
 -- what the call wrote fits its buffer, which keeps its length
 pub writes-fits : (a : Answer) {out out′ : List ℕ} {r : Writing} → Writes a out r out′ → length out′ ≡ length out → r .length ≤ length out′
