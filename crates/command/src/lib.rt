@@ -3,21 +3,18 @@
 // 01, 2 anything else). A result is made whole in memory before any of it is written. What is read and what is
 // written, no contract can say; the work itself is that of `reading`, `writing` and `showing`.
 mod help;
-mod input;
-mod links;
-mod messages;
-mod output;
 
-ghost use Prim.Native.Nat.{_≤_};
-ghost use lib.ListN.{length};
 ghost use Rattle.io.specs.Counts.{Counts};
 use arguments::Asked;
 use arguments::Command;
 use chars::put_all;
+use files::input;
+use files::messages;
+use files::messages::put_count;
+use files::output;
 use hexes::Hex;
 use libc::STDERR_FILENO;
 use libc::STDOUT_FILENO;
-use messages::put_count;
 use numbers::Limit;
 use numbers::Refusal;
 use reading::Reading;

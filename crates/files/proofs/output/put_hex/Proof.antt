@@ -1,12 +1,12 @@
--- `command::output::put_hex` meets its contract. The loop's invariant: `o` is at most the length of `out`, which stays. Assumes nothing.
+-- `files::output::put_hex` meets its contract. The loop's invariant: `o` is at most the length of `out`, which stays. Assumes nothing.
 use mathlib.Core.Path.{_≡_}
 use Prim.Native.Nat.{_-_, _≤_}
 use native.Mathlib.Omega.{arith}
 use borrow.Author.Needs.{needs}
 use lib.ListN.{length}
 use Rattle.io.proofs.Counting.{counts}
-use Rattle.command.proofs.output.put_hex.Statement.{statement}
-use Rattle.command.proofs.output.put_hex.Tie as tie
+use Rattle.files.proofs.output.put_hex.Statement.{statement}
+use Rattle.files.proofs.output.put_hex.Tie as tie
 
 abbrev Inv-loop : tie.InvT-loop
 Inv-loop out₀ s o₀ i₀ out o i = (i ≤ length s) × (o ≤ length out) × (length out ≡ length out₀)

@@ -1,12 +1,12 @@
--- `command::input::fill` meets its contract. The loop's invariant: `n` is at most the length, which stays. Assumes nothing.
+-- `files::input::fill` meets its contract. The loop's invariant: `n` is at most the length, which stays. Assumes nothing.
 use mathlib.Core.Path.{_≡_}
 use Prim.Native.Nat.{_-_, _≤_}
 use native.Mathlib.Omega.{arith}
 use borrow.Author.Needs.{needs}
 use lib.ListN.{length}
 use Rattle.io.proofs.Counting.{counts}
-use Rattle.command.proofs.input.fill.Statement.{statement}
-use Rattle.command.proofs.input.fill.Tie as tie
+use Rattle.files.proofs.input.fill.Statement.{statement}
+use Rattle.files.proofs.input.fill.Tie as tie
 
 abbrev Inv-loop : tie.InvT-loop
 Inv-loop fd buf₀ n₀ buf n = (n ≤ length buf) × (length buf ≡ length buf₀)

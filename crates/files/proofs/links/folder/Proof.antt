@@ -1,10 +1,10 @@
--- `command::links::folder` is safe and ends. The loop's invariant: `i` is at most the length. Assumes nothing.
+-- `files::links::folder` is safe and ends. The loop's invariant: `i` is at most the length. Assumes nothing.
 use Prim.Native.Nat.{_≤_}
 use native.Mathlib.Omega.{arith}
 use borrow.Author.Needs.{needs}
 use lib.ListN.{length}
-use Rattle.command.proofs.links.folder.Statement.{statement}
-use Rattle.command.proofs.links.folder.Tie as tie
+use Rattle.files.proofs.links.folder.Statement.{statement}
+use Rattle.files.proofs.links.folder.Tie as tie
 
 abbrev Inv-loop : tie.InvT-loop
 Inv-loop path i₀ i = i ≤ length path

@@ -1,10 +1,10 @@
--- `command::input::is_blank` is safe and ends. The loop's invariant: `i` is at most the length. Assumes nothing.
+-- `files::input::is_blank` is safe and ends. The loop's invariant: `i` is at most the length. Assumes nothing.
 use Prim.Native.Nat.{_-_, _≤_}
 use native.Mathlib.Omega.{arith}
 use borrow.Author.Needs.{needs}
 use lib.ListN.{length}
-use Rattle.command.proofs.input.is_blank.Statement.{statement}
-use Rattle.command.proofs.input.is_blank.Tie as tie
+use Rattle.files.proofs.input.is_blank.Statement.{statement}
+use Rattle.files.proofs.input.is_blank.Tie as tie
 
 abbrev Inv-loop : tie.InvT-loop
 Inv-loop text i₀ i = i ≤ length text

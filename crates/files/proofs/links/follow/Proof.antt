@@ -1,12 +1,12 @@
--- `command::links::follow` meets its contract. The loop's invariant: `m` is at most the length of `path`, which stays. Assumes nothing.
+-- `files::links::follow` meets its contract. The loop's invariant: `m` is at most the length of `path`, which stays. Assumes nothing.
 use mathlib.Core.Path.{_≡_}
 use Prim.Native.Nat.{_-_, _≤_}
 use native.Mathlib.Omega.{arith}
 use borrow.Author.Needs.{needs}
 use lib.ListN.{length}
 use Rattle.io.proofs.Counting.{counts}
-use Rattle.command.proofs.links.follow.Statement.{statement}
-use Rattle.command.proofs.links.follow.Tie as tie
+use Rattle.files.proofs.links.follow.Statement.{statement}
+use Rattle.files.proofs.links.follow.Tie as tie
 
 abbrev Inv-loop : tie.InvT-loop
 Inv-loop path₀ n m₀ turns₀ path m turns = (m ≤ length path) × (length path ≡ length path₀)

@@ -1,10 +1,10 @@
--- `command::links::step` meets its contract: a path's first octets are as many as they are said to be. Assumes nothing.
+-- `files::links::step` meets its contract: a path's first octets are as many as they are said to be. Assumes nothing.
 use mathlib.Core.Path.{sym}
 use native.Mathlib.Omega.{arith}
 use borrow.Author.Needs.{needs}
 use lib.Seq.{length-take-le}
-use Rattle.command.proofs.links.step.Statement.{statement}
-use Rattle.command.proofs.links.step.Tie as tie
+use Rattle.files.proofs.links.step.Statement.{statement}
+use Rattle.files.proofs.links.step.Tie as tie
 
 slice-aggregate-ended : tie.Need-slice-aggregate-ended
 slice-aggregate-ended c = sym (length-take-le _ _ (omega arith))
