@@ -57,7 +57,7 @@ module _ (c : Carrier) (plain : Plain c) (s : List ℕ) (rs : List Fields) (acce
       let sound = all-take (Sound c) k rs (accepted .sound) in
       let rising = rising-take 0 k rs (accepted .is .order) in
       let count : length (take k rs) ≡ k = length-take-le k rs h in
-      let few : length (take k rs) ≤ 16 = omega (arith, accepted .is .few) in
+      let few : length (take k rs) ≤ limit.records = omega (arith, accepted .is .few) in
       let reads : readOf (numberOf c) (take (length (octetsOf c (take k rs))) (octetsOf c rs)) room ≡ answerKept c (take k rs) k room =
       cut-framed (length (octetsOf c (take k rs))) room
       ∙ ap (λ (f : Framed). readFramed c f room) (first-framed k)

@@ -1,5 +1,6 @@
 -- What a reading has at hand before it writes: where kept bodies stand in their source, what is held of their records, and what a tally
--- tells of the blocks met. The code has the parts of `Held` and `Tally` as numbers of its own; the laws speak of them together.
+-- tells of the blocks met. The code has the parts of `Held` and `Tally` as numbers of its own, and hands them on as `Counts` beside the
+-- slots; the laws speak of them together.
 -- Assumes nothing: these are definitions.
 use mathlib.Core.Path.{_≡_}
 use mathlib.Core.Bool.{Bool, true, false, cond}
@@ -19,8 +20,18 @@ use Rattle.order.specs.Listed.{listed}
 use Rattle.records.specs.declared.Examined.{Examined}
 use Rattle.records.specs.Records.{Outcome, faulty, kept, outcomeOf}
 use Rattle.records.specs.Examined.{examinedOf, Clean, Kept}
-use Rattle.sheets.specs.Sheets.{sheetOf}
+use Rattle.sheets.specs.Sheets.{frontSize, sheetOf}
+use Rattle.reading.specs.declared.Counts.{Counts}
 use Rattle.reading.specs.Reading.{Yield, single, arrivals, discardedIn, firstFault, inOrder, Answer, refuse, done}
+
+-- ---- buffers
+
+-- octets of the buffers in which several options 162 of a smaller area are joined: of a usual message, and of half the largest input
+abbrev pub usual : ℕ
+usual = 4096
+
+abbrev pub half : ℕ
+half = 20480
 
 -- ---- slots
 
@@ -60,9 +71,9 @@ pub record Held : Type 0 where
 abbrev pub heldOf : Slots → ℕ → Bool → Bool → Held
 heldOf slots size clean more = record { slots = slots; size = size; clean = clean; more = more }
 
--- octets of a sheet of n records, at most: a head of 7 and 2,298 for a record (01, The record sheet)
+-- octets of a sheet of n records, at most
 abbrev pub largest : ℕ → ℕ
-largest n = 7 + 2298 * n
+largest n = frontSize + limit.recordSize * n
 
 -- the slot of a body from `start` to `end`
 abbrev pub slotOf : Examined → ℕ → ℕ → Slot
@@ -73,7 +84,7 @@ pub record Seen (c : Carrier) (source : List ℕ) (start end : ℕ) (e : Examine
   pub low : start ≤ end
   pub high : end ≤ length source
   pub tells : e ≡ examinedOf c (outcomeOf c (part start end source)) (e .clean)
-  pub small : e .size ≤ 2298
+  pub small : e .size ≤ limit.recordSize
   pub clean : e .clean ≡ true → Clean c (part start end source)
 
 -- there was room in h, the slots s are those of h and one more, of the body that e tells of, and `clean` claims no more of them than is known
@@ -107,6 +118,10 @@ pub record Tally : Type 0 where
 
 abbrev pub tallyOf : Held → ℕ → ℕ → ℕ → Tally
 tallyOf held found discarded fault = record { held = held; found = found; discarded = discarded; fault = fault }
+
+-- the tally that the code hands on
+abbrev pub tallyIn : Slots → Counts → Tally
+tallyIn slots k = tallyOf (heldOf slots (k .size) (k .clean) (k .more)) (k .found) (k .discarded) (k .fault)
 
 -- t tells of blocks that yield ys
 pub record Shows (c : Carrier) (source : List ℕ) (ys : List Yield) (t : Tally) : Type 0 where

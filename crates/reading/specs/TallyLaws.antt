@@ -9,6 +9,7 @@ use borrow.Author.Tests.{lt-ltb, le-ltb, ltb-false}
 use lib.ListN.{length, drop, length-append, length-map}
 use Rattle.octets.specs.Numbers.{at16}
 use Rattle.numbers.specs.Fault as fault
+use Rattle.numbers.specs.Limit as limit
 use Rattle.carriers.specs.declared.Carrier.{Carrier}
 use Rattle.carriers.specs.declared.Carrier.the-variants.{Dhcp4}
 use Rattle.frames.specs.declared.Step.{Step}
@@ -25,7 +26,7 @@ use Rattle.records.specs.declared.Examined.{Examined}
 use Rattle.records.specs.Records.{Outcome, faulty, kept, outcomeOf, recordOf}
 use Rattle.records.specs.Examined.{examinedOf}
 use Rattle.records.specs.RecordsLaws.{fault-some}
-use Rattle.sheets.specs.Sheets.{recordsOf, sheetOf}
+use Rattle.sheets.specs.Sheets.{frontSize, recordsOf, sheetOf}
 use Rattle.sheets.specs.SheetsLaws.{length-sheet}
 use Rattle.reading.specs.Reading.{Yield, discarded, yields, single, arrivals, ahead, instancesFrom, joinedYield}
 use Rattle.reading.specs.Tally.{Good, recordAt, slotOf, Held, heldOf, Seen, Grown, Holds, Tally, tallyOf, Shows, Open, alone, Ready}
@@ -60,7 +61,7 @@ module _ {c : Carrier} {source : List ℕ} {start end : ℕ} {e : Examined} (s :
 
 -- ---- records kept
 
-pub holds-none : (c : Carrier) (source : List ℕ) {s : Slots} → s .count ≡ 0 → listed s ≡ [] → Holds c source [] (heldOf s 7 true false)
+pub holds-none : (c : Carrier) (source : List ℕ) {s : Slots} → s .count ≡ 0 → listed s ≡ [] → Holds c source [] (heldOf s frontSize true false)
 holds-none c source n l = record {
   count = n;
   small = omega arith;
@@ -69,7 +70,7 @@ holds-none c source n l = record {
 }
 
 module _ {c : Carrier} {source : List ℕ} {rs : List Fields} {h : Held} (k : Holds c source rs h) where
-  pub holds-few : h .slots .count ≤ 16
+  pub holds-few : h .slots .count ≤ limit.records
   holds-few = omega (arith, k .count)
 
   module _ {start end : ℕ} {e : Examined} {f : Fields} (x : Seen c source start end e) (o : outcomeOf c (part start end source) ≡ kept f) where
@@ -79,13 +80,13 @@ module _ {c : Carrier} {source : List ℕ} {rs : List Fields} {h : Held} (k : Ho
     -- while there is room: one slot more
     pub holds-more : {s : Slots} {b : Bool} → Grown h e start end s b → Holds c source (rs ++ (f ∷ [])) (heldOf s (h .size + e .size) b (h .more))
     holds-more {s} {b} g =
-        let few : length rs < 16 = omega (arith, k .count, g .room) in
+        let few : length rs < limit.records = omega (arith, k .count, g .room) in
         let was = k .lists (omega arith) in
         let is : e ≡ examinedOf c (kept f) (e .clean) = same x o in
         record {
           count = omega (arith, k .count, g .count, longer);
           small = omega (arith, k .small, g .count, x .small);
-          more = k .more ∙ le-ltb 16 (length rs) (omega arith) ∙ sym (le-ltb 16 (length (rs ++ (f ∷ []))) (omega (arith, longer)));
+          more = k .more ∙ le-ltb limit.records (length rs) (omega arith) ∙ sym (le-ltb limit.records (length (rs ++ (f ∷ []))) (omega (arith, longer)));
           lists = λ _. record {
             good =
                 subst⁻¹ (All (Good c source b)) (g .list)
@@ -111,18 +112,18 @@ module _ {c : Carrier} {source : List ℕ} {rs : List Fields} {h : Held} (k : Ho
         }
 
     -- with 16 slots: that there are more records
-    pub holds-full : 16 ≤ h .slots .count → Holds c source (rs ++ (f ∷ [])) (heldOf (h .slots) (h .size) (h .clean) true)
+    pub holds-full : limit.records ≤ h .slots .count → Holds c source (rs ++ (f ∷ [])) (heldOf (h .slots) (h .size) (h .clean) true)
     holds-full many = record {
       count = omega (arith, k .count, longer);
       small = k .small;
-      more = sym (lt-ltb 16 (length (rs ++ (f ∷ []))) (omega (arith, k .count, longer)));
+      more = sym (lt-ltb limit.records (length (rs ++ (f ∷ []))) (omega (arith, k .count, longer)));
       lists = λ l. absurd (omega (arith, k .count, longer));
     }
 
   -- where there are no more than 16, they can be written
   pub holds-ready : Ready c source h
   holds-ready m =
-      let few : length rs ≤ 16 = ltb-false 16 (length rs) (sym (k .more) ∙ m) in
+      let few : length rs ≤ limit.records = ltb-false limit.records (length rs) (sym (k .more) ∙ m) in
       let l = k .lists few in (
         record {
           few = holds-few;
@@ -135,7 +136,7 @@ module _ {c : Carrier} {source : List ℕ} {rs : List Fields} {h : Held} (k : Ho
 -- ---- blocks
 
 module _ {c : Carrier} {source : List ℕ} {ys : List Yield} {t : Tally} (s : Shows c source ys t) where
-  pub shows-open : length ys < 40960 → Open t
+  pub shows-open : length ys < limit.input → Open t
   shows-open h = record {
     few = holds-few (s .holds);
     small = s .holds .small;
@@ -176,7 +177,7 @@ module _ (c : Carrier) (area : List ℕ) where
   tallying-start k = record { bodies = []; walked = walked-start c area; shows = shows-none k; behind = omega arith }
 
   module _ {at : ℕ} {t : Tally} (g : Tallying c area at t) where
-    pub tallying-open : at < 40960 → Open t
+    pub tallying-open : at < limit.input → Open t
     tallying-open h = shows-open (g .shows) (omega (arith, g .behind, length-map (g .bodies) (alone c)))
 
     pub tallying-skips : {to : ℕ} → Skips c area at to → Tallying c area to t
@@ -210,7 +211,7 @@ module _ (c : Carrier) (area : List ℕ) where
               let f = seen-kept x z in
               on (yields (f .0 ∷ [])) (ap single (f .1)) (shows-kept (g .shows) (f .0) (holds-more (g .shows .holds) x (f .1) a))
 
-          pub tallying-full : 16 ≤ t .held .slots .count
+          pub tallying-full : limit.records ≤ t .held .slots .count
               → Tallying c area end (tallyOf (heldOf (t .held .slots) (t .held .size) (t .held .clean) true) (t .found + 1) (t .discarded) (t .fault))
           tallying-full a =
               let f = seen-kept x z in
@@ -261,7 +262,7 @@ module _ (joined : List ℕ) where
               → Passed joined (at + 2 + long) (heldOf s (h .size + e .size) b (h .more))
           passed-kept a = let f = seen-kept x z in goes-on (f .0) (f .1) (holds-more (g .holds) x (f .1) a)
 
-          pub passed-full : 16 ≤ h .slots .count → Passed joined (at + 2 + long) (heldOf (h .slots) (h .size) (h .clean) true)
+          pub passed-full : limit.records ≤ h .slots .count → Passed joined (at + 2 + long) (heldOf (h .slots) (h .size) (h .clean) true)
           passed-full a = let f = seen-kept x z in goes-on (f .0) (f .1) (holds-full (g .holds) x (f .1) a)
 
     -- all instances are passed: the tally of the one block

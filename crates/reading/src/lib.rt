@@ -13,7 +13,7 @@ ghost use Rattle.frames.specs.Frame.{frame};
 ghost use Rattle.frames.specs.Gather.{Several};
 ghost use Rattle.sheets.specs.Sheets.{sheetOf};
 ghost use Rattle.reading.specs.Reading.{discarded, joinedYield, inOrder, refuse, readBlocks, readFramed, readOf, told, Reads};
-ghost use Rattle.reading.specs.Tally.{recordsAt, heldOf, slotOf, tallyOf, Sound, Ready, answerOf};
+ghost use Rattle.reading.specs.Tally.{usual, half, recordsAt, slotOf, tallyIn, Sound, Ready, answerOf};
 use carriers::Carrier;
 use carriers::Chosen;
 use frames::Gathered;
@@ -26,8 +26,8 @@ use order::Slot;
 use order::Slots;
 use records::Examined;
 
-// Buffers in which the data of several options 162 are joined, by the area's size: a buffer is cleared before it is used, and a large one
-// takes the cache from the area and the sheet. Octets of a usual message, and of half the largest input.
+// Sizes of the buffers in which the data of several options 162 are joined: of a usual message, and of half the largest input. Clearing
+// 40 KiB evicts area and sheet from the cache, so smaller areas use a smaller buffer.
 const USUAL: usize = 4096;
 
 const HALF: usize = 20480;
@@ -41,6 +41,18 @@ pub struct Reading {
     pub found: usize,
     pub discarded: usize,
     pub fault: usize,
+}
+
+// What is counted of the blocks met: the octets of a sheet of the kept records; how many blocks were found; whether every address of the
+// records is known to stay; how many blocks were discarded; whether more than 16 records were kept; the first discarded block's fault.
+// (Numbers that are neighbours in `Reading` are none here: LLVM would load them by one instruction, which waits for the separate stores.)
+struct Counts {
+    size: usize,
+    found: usize,
+    clean: bool,
+    discarded: usize,
+    more: bool,
+    fault: usize,
 }
 
 fn refused(number: usize) -> Reading
@@ -108,35 +120,24 @@ fn put_sheet(out: &mut [u8], c: Carrier, source: &[u8], slots: Slots, clean: boo
     o
 }
 
-// 4, 5, or the sheet of what is held of the records, with the blocks' counts. (`&source[..]`: lent anew, a slice goes on in registers.)
-fn settle(
-    out: &mut [u8],
-    c: Carrier,
-    source: &[u8],
-    slots: Slots,
-    size: usize,
-    clean: bool,
-    more: bool,
-    found: usize,
-    discarded: usize,
-    fault: usize,
-) -> Reading
-    requires { ⌜ Ready c (now source) (heldOf slots size clean more) ⌝ }
-    ensures { λ r. ⌜ Reads (answerOf c (now (source .entry)) (tallyOf (heldOf slots size clean more) found discarded fault) (length (now (out .entry)))) (now (out .entry)) r (now (out .exit)) ⌝ }
+// 4, 5, or the sheet of the kept records, with the blocks' counts. (`&source[..]`: see docs/DESIGN.md, Speed.)
+fn settle(out: &mut [u8], c: Carrier, source: &[u8], slots: Slots, counts: Counts) -> Reading
+    requires { ⌜ Ready c (now source) (tallyIn slots counts .held) ⌝ }
+    ensures { λ r. ⌜ Reads (answerOf c (now (source .entry)) (tallyIn slots counts) (length (now (out .entry)))) (now (out .entry)) r (now (out .exit)) ⌝ }
 {
-    if more {
+    if counts.more {
         return refused(Refusal::RECORDS);
     }
-    if out.len() < size {
+    if out.len() < counts.size {
         return refused(Refusal::ROOM);
     }
-    let length = put_sheet(out, c, &source[..], slots, clean);
+    let length = put_sheet(out, c, &source[..], slots, counts.clean);
     Reading {
         number: 0,
         length,
-        found,
-        discarded,
-        fault,
+        found: counts.found,
+        discarded: counts.discarded,
+        fault: counts.fault,
     }
 }
 
@@ -173,7 +174,17 @@ fn read_blocks(c: Carrier, area: &[u8], out: &mut [u8]) -> Reading
                 }
             }
             Step::Skipped { end: past } => at = frames::skip_foreign(c, area, past),
-            Step::End => return settle(out, c, area, slots, size, clean, more, found, bad, fault),
+            Step::End => {
+                let counts = Counts {
+                    size,
+                    clean,
+                    more,
+                    found,
+                    discarded: bad,
+                    fault,
+                };
+                return settle(out, c, area, slots, counts);
+            }
             Step::Fault => return refused(Refusal::FRAMING),
         }
     }
@@ -185,22 +196,18 @@ fn discard_joined(joined: &[u8], out: &mut [u8], fault: usize) -> Reading
     ensures { λ r. ⌜ Reads (readBlocks Dhcp4 (now (joined .entry) ∷ []) (length (now (out .entry)))) (now (out .entry)) r (now (out .exit)) ⌝ }
 {
     let none = order::empty();
-    settle(
-        out,
-        Carrier::Dhcp4,
-        joined,
-        none,
-        sheets::FRONT,
-        true,
-        false,
-        1,
-        1,
+    let counts = Counts {
+        size: sheets::FRONT,
+        clean: true,
+        more: false,
+        found: 1,
+        discarded: 1,
         fault,
-    )
+    };
+    settle(out, Carrier::Dhcp4, joined, none, counts)
 }
 
-// Carrier 1: the one block of joined data, each instance read from its own octets and nothing around them. (`&joined[..]`: lent anew, a
-// slice goes on in registers.)
+// Carrier 1: the one block of joined data, each instance read from its own octets and nothing around them.
 fn read_instances(joined: &[u8], out: &mut [u8]) -> Reading
     requires { ⌜ length (now joined) ≤ limit.input ⌝ }
     ensures { λ r. ⌜ Reads (readBlocks Dhcp4 (now (joined .entry) ∷ []) (length (now (out .entry)))) (now (out .entry)) r (now (out .exit)) ⌝ }
@@ -239,7 +246,15 @@ fn read_instances(joined: &[u8], out: &mut [u8]) -> Reading
             more = true;
         }
     }
-    settle(out, c, &joined[..], slots, size, clean, more, 1, 0, 0)
+    let counts = Counts {
+        size,
+        clean,
+        more,
+        found: 1,
+        discarded: 0,
+        fault: 0,
+    };
+    settle(out, c, &joined[..], slots, counts)
 }
 
 // Carrier 1 with several options 162: their data joined in a buffer that has room for the area.
@@ -255,7 +270,7 @@ fn read_within(area: &[u8], buffer: &mut [u8], out: &mut [u8]) -> Reading
 
 // The same in a local buffer, for an area of a usual message.
 fn read_few(area: &[u8], out: &mut [u8]) -> Reading
-    requires { ⌜ (length (now area) ≤ 4096) × Several (frame Dhcp4 (now area)) ⌝ }
+    requires { ⌜ (length (now area) ≤ usual) × Several (frame Dhcp4 (now area)) ⌝ }
     ensures { λ r. ⌜ Reads (readFramed Dhcp4 (frame Dhcp4 (now (area .entry))) (length (now (out .entry)))) (now (out .entry)) r (now (out .exit)) ⌝ }
 {
     let mut buffer = [0u8; USUAL];
@@ -264,7 +279,7 @@ fn read_few(area: &[u8], out: &mut [u8]) -> Reading
 
 // The same for an area of at most half the largest input.
 fn read_half(area: &[u8], out: &mut [u8]) -> Reading
-    requires { ⌜ (length (now area) ≤ 20480) × Several (frame Dhcp4 (now area)) ⌝ }
+    requires { ⌜ (length (now area) ≤ half) × Several (frame Dhcp4 (now area)) ⌝ }
     ensures { λ r. ⌜ Reads (readFramed Dhcp4 (frame Dhcp4 (now (area .entry))) (length (now (out .entry)))) (now (out .entry)) r (now (out .exit)) ⌝ }
 {
     let mut buffer = [0u8; HALF];
@@ -280,9 +295,8 @@ fn read_many(area: &[u8], out: &mut [u8]) -> Reading
     read_within(&area[..], &mut buffer, out)
 }
 
-// Carrier 1: the data of all options 162 are one block. What stands before the first of several is left out, so that they are joined in
-// a buffer by what is left. (A function that calls itself is not inlined, nor are the buffers into it: they stay out of the frames of the
-// other carriers.)
+// Carrier 1: the data of all options 162 are one block. What stands before the first of several is left out, so that the size of the rest
+// chooses the buffer. Recursive on purpose: LLVM then does not inline it, and its buffers stay out of dnr_read's stack frame.
 fn read_joined(area: &[u8], out: &mut [u8]) -> Reading
     requires { ⌜ length (now area) ≤ limit.input ⌝ }
     ensures { λ r. ⌜ Reads (readFramed Dhcp4 (frame Dhcp4 (now (area .entry))) (length (now (out .entry)))) (now (out .entry)) r (now (out .exit)) ⌝ }
@@ -291,18 +305,15 @@ fn read_joined(area: &[u8], out: &mut [u8]) -> Reading
         Gathered::Broken => refused(Refusal::FRAMING),
         Gathered::Absent => {
             let none = order::empty();
-            settle(
-                out,
-                Carrier::Dhcp4,
-                &area[..],
-                none,
-                sheets::FRONT,
-                true,
-                false,
-                0,
-                0,
-                0,
-            )
+            let counts = Counts {
+                size: sheets::FRONT,
+                clean: true,
+                more: false,
+                found: 0,
+                discarded: 0,
+                fault: 0,
+            };
+            settle(out, Carrier::Dhcp4, &area[..], none, counts)
         }
         Gathered::One { start, end } => read_instances(&area[start..end], out),
         Gathered::Many { from } => {

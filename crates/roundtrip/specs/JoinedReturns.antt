@@ -5,6 +5,7 @@ use Prim.Native.Nat.{ℕ, _-_, _≤_, _<_}
 use native.Mathlib.Omega.{arith}
 use lib.ListN.{length}
 use Rattle.octets.specs.Lists.{All, flat}
+use Rattle.numbers.specs.Limit as limit
 use Rattle.carriers.specs.declared.Carrier.the-variants.{Dhcp4}
 use Rattle.frames.specs.Frame.{Framed, frame, joined}
 use Rattle.blocks.specs.Block.{Fields}
@@ -58,7 +59,7 @@ joined-brings rs sound some =
     let all : yieldOf Dhcp4 (joinedOf rs) ≡ yields rs = joined-some (joinedOf rs) (λ z. omega arith) ∙ instances-return rs sound in
     rw all (record { arrive = append-nil rs; none-discarded = refl; faultless = refl })
 
-joined-answer : (rs : List Fields) (room : ℕ) → All (Sound Dhcp4) rs → NoneFalls 0 rs → length rs ≤ 16
+joined-answer : (rs : List Fields) (room : ℕ) → All (Sound Dhcp4) rs → NoneFalls 0 rs → length rs ≤ limit.records
     → readBlocks Dhcp4 (joined (pieces (joinedOf rs))) room ≡ answerKept Dhcp4 rs (blocksIn Dhcp4 rs) room
 joined-answer [] room sound rising few =
     ap (λ (bs : List (List ℕ)). readBlocks Dhcp4 bs room) joined-none
@@ -70,7 +71,7 @@ joined-answer (r ∷ rs) room sound rising few =
     ∙ brings-answer Dhcp4 (map (yieldOf Dhcp4) (l ∷ [])) (r ∷ rs) room (joined-brings (r ∷ rs) sound some) rising few
 
 -- accepted records come back from the options that their joined instances are cut into
-pub cut-answer : (rs : List Fields) (room : ℕ) → All (Sound Dhcp4) rs → NoneFalls 0 rs → length rs ≤ 16
+pub cut-answer : (rs : List Fields) (room : ℕ) → All (Sound Dhcp4) rs → NoneFalls 0 rs → length rs ≤ limit.records
     → readFramed Dhcp4 (frame Dhcp4 (octetsOf Dhcp4 rs)) room ≡ answerKept Dhcp4 rs (blocksIn Dhcp4 rs) room
 unfolding octetsOf
 cut-answer rs room sound rising few =

@@ -40,17 +40,17 @@ option-few c r s = omega (arith, option-length c (bodyOf c r), header-small c, w
 instance-few : (r : Fields) → Sound Dhcp4 r → length (instanceOf r) ≤ 2 + mostBody
 instance-few r s = omega (arith, length-append (bodyOf Dhcp4 r) [], writable-body Dhcp4 r (writable Dhcp4 r s))
 
-options-few : (c : Carrier) (rs : List Fields) → All (Sound c) rs → length rs ≤ 16 → length (flat (map (ownOption c) rs)) ≤ limit.input
+options-few : (c : Carrier) (rs : List Fields) → All (Sound c) rs → length rs ≤ limit.records → length (flat (map (ownOption c) rs)) ≤ limit.input
 options-few c rs s few = omega (arith, flat-few (ownOption c) (Sound c) (4 + mostBody) rs (option-few c) s)
 
-joined-few : (rs : List Fields) → All (Sound Dhcp4) rs → length rs ≤ 16 → length (joinedOf rs) ≤ limit.records * (2 + mostBody)
+joined-few : (rs : List Fields) → All (Sound Dhcp4) rs → length rs ≤ limit.records → length (joinedOf rs) ≤ limit.records * (2 + mostBody)
 joined-few rs s few = omega (arith, flat-few instanceOf (Sound Dhcp4) (2 + mostBody) rs instance-few s)
 
 -- the octets of 16 accepted records are within the limit of input
-pub octets-few : (c : Carrier) (rs : List Fields) → All (Sound c) rs → length rs ≤ 16 → length (octetsOf c rs) ≤ limit.input
+pub octets-few : (c : Carrier) (rs : List Fields) → All (Sound c) rs → length rs ≤ limit.records → length (octetsOf c rs) ≤ limit.input
 unfolding octetsOf
 octets-few =
-    by-joined (λ c. (rs : List Fields) → All (Sound c) rs → length rs ≤ 16 → length (octetsOf c rs) ≤ limit.input)
+    by-joined (λ c. (rs : List Fields) → All (Sound c) rs → length rs ≤ limit.records → length (octetsOf c rs) ≤ limit.input)
     (λ rs s few. omega (arith, cut-length (joinedOf rs), joined-few rs s few))
     (λ c e rs s few. rw e (options-few c rs s few))
 

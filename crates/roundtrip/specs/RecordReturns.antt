@@ -23,7 +23,7 @@ use Rattle.texts.specs.Complete.{good-complete}
 use Rattle.texts.specs.Convert.{wire-text, text-of-wire}
 use Rattle.addresses.specs.Addresses.{listOf, keptOf}
 use Rattle.addresses.specs.AddressesLaws.{wide-some, list-length, none-dropped, none-dropped-flat, kept-end}
-use Rattle.frames.specs.Frame.{framed, blocksOf}
+use Rattle.frames.specs.Frame.{framed}
 use Rattle.frames.specs.Walk.{Plain}
 use Rattle.frames.specs.WalkLaws.{apart-false}
 use Rattle.frames.specs.BodyLaws.{blocks-plain}
@@ -164,7 +164,7 @@ module _ (c : Carrier) (plain : Plain c) where
       rw (body-yields r (s .0))
       (record { arrive = ap (λ (l : List Fields). r ∷ l) (more .arrive); none-discarded = omega (arith, more .none-discarded); faultless = more .faultless })
 
-  module _ (rs : List Fields) (room : ℕ) (sound : All (Sound c) rs) (rising : NoneFalls 0 rs) (few : length rs ≤ 16) where
+  module _ (rs : List Fields) (room : ℕ) (sound : All (Sound c) rs) (rising : NoneFalls 0 rs) (few : length rs ≤ limit.records) where
     -- what reading their blocks answers, by the room
     pub blocks-answer : readFramed c (framed (bodiesOf c rs)) room ≡ answerKept c rs (length rs) room
     blocks-answer =

@@ -13,6 +13,7 @@ use Rattle.octets.specs.Lists.{All}
 use Rattle.octets.specs.Over.{over}
 use Rattle.octets.specs.OverLaws.{over-front}
 use Rattle.numbers.specs.Refusal as refusal
+use Rattle.numbers.specs.Limit as limit
 use Rattle.carriers.specs.declared.Carrier.{Carrier}
 use Rattle.carriers.specs.Carriers.{numberOf}
 use Rattle.carriers.specs.CarriersLaws.{chosen-number, number-octet, by-joined}
@@ -40,17 +41,17 @@ use Rattle.roundtrip.specs.RoundTrip.{blockIn, blocksIn, returned, Resto
 
 -- ---- reading what was defined to be written
 
-plain-answer : (c : Carrier) → Plain c → (rs : List Fields) (room : ℕ) → All (Sound c) rs → NoneFalls 0 rs → length rs ≤ 16
+plain-answer : (c : Carrier) → Plain c → (rs : List Fields) (room : ℕ) → All (Sound c) rs → NoneFalls 0 rs → length rs ≤ limit.records
     → readFramed c (frame c (octetsOf c rs)) room ≡ answerKept c rs (length rs) room
 plain-answer c p rs room sound rising few =
     ap (λ (f : Framed). readFramed c f room) (plain-framed c p rs sound) ∙ blocks-answer c p rs room sound rising few
 
 -- in every carrier the octets bring the records back
-octets-answer : (c : Carrier) (rs : List Fields) (room : ℕ) → All (Sound c) rs → NoneFalls 0 rs → length rs ≤ 16
+octets-answer : (c : Carrier) (rs : List Fields) (room : ℕ) → All (Sound c) rs → NoneFalls 0 rs → length rs ≤ limit.records
     → readFramed c (frame c (octetsOf c rs)) room ≡ answerKept c rs (blocksIn c rs) room
 octets-answer =
     by-joined
-    (λ c. (rs : List Fields) (room : ℕ) → All (Sound c) rs → NoneFalls 0 rs → length rs ≤ 16
+    (λ c. (rs : List Fields) (room : ℕ) → All (Sound c) rs → NoneFalls 0 rs → length rs ≤ limit.records
     → readFramed c (frame c (octetsOf c rs)) room ≡ answerKept c rs (blocksIn c rs) room)
     cut-answer
     (λ c e rs room sound rising few.

@@ -11,6 +11,7 @@ use Rattle.frames.specs.Frame.{frame}
 use Rattle.frames.specs.Step.{stepAt}
 use Rattle.frames.specs.Laws.{step-block, step-skipped}
 use Rattle.frames.specs.SkipLaws.{skips-step, skips-then}
+use Rattle.numbers.specs.Limit as limit
 use Rattle.order.specs.declared.Slot.{Slot}
 use Rattle.order.specs.Listed.{listed}
 use Rattle.order.specs.ListedLaws.{listed-next}
@@ -25,7 +26,7 @@ use Rattle.reading.proofs.read_blocks.Tie as tie
 
 abbrev Inv-loop : tie.InvT-loop
 Inv-loop c area out₀ slots₀ size₀ clean₀ more₀ found₀ bad₀ fault₀ at₀ out slots size clean more found bad fault at =
-    Tallying c area at (tallyOf (heldOf slots size clean more) found bad fault) × (out ≡ out₀) × (length (slots .items) ≡ 16)
+    Tallying c area at (tallyOf (heldOf slots size clean more) found bad fault) × (out ≡ out₀) × (length (slots .items) ≡ limit.records)
 
 abbrev μ-loop : tie.MeasureT-loop
 μ-loop c area out₀ slots₀ size₀ clean₀ more₀ found₀ bad₀ fault₀ at₀ out slots size clean more found bad fault at = length area - at

@@ -7,6 +7,7 @@ use Prim.Native.Nat.{_+_, _-_}
 use lib.ListN.{length, length-set}
 use denote.Ref.{now}
 use Rattle.carriers.specs.declared.Carrier.the-variants.{Dhcp4}
+use Rattle.numbers.specs.Limit as limit
 use Rattle.order.specs.declared.Slot.{Slot}
 use Rattle.order.specs.Listed.{listed}
 use Rattle.order.specs.ListedLaws.{listed-next}
@@ -22,7 +23,7 @@ use Rattle.reading.proofs.read_instances.Tie as tie
 
 abbrev Inv-loop : tie.InvT-loop
 Inv-loop joined out₀ c slots₀ size₀ clean₀ more₀ at₀ out slots size clean more at =
-    Passed joined at (heldOf slots size clean more) × (out ≡ out₀) × (length (slots .items) ≡ 16)
+    Passed joined at (heldOf slots size clean more) × (out ≡ out₀) × (length (slots .items) ≡ limit.records)
 
 abbrev μ-loop : tie.MeasureT-loop
 μ-loop joined out₀ c slots₀ size₀ clean₀ more₀ at₀ out slots size clean more at = length joined - at
