@@ -12,22 +12,16 @@ Inv-loop s at end₀ end = (at ≤ end) × (end ≤ length s)
 abbrev μ-loop : tie.MeasureT-loop
 μ-loop s at end₀ end = length s - end
 
-loop-holds : tie.Need-loop-holds Inv-loop μ-loop
-loop-holds c = (omega arith, omega arith)
-
-loop-again : tie.Need-loop-again Inv-loop μ-loop
-loop-again c = (omega arith, omega arith)
-
 pub line-end-spec : {M : Type 1} → statement M
 line-end-spec =
     tie.close
     (tie.spec
     Inv-loop
     μ-loop
-    loop-holds
+    (λ c. search needs)
     (λ c. omega arith)
     (λ c. search needs)
     (λ c. omega arith)
     (λ c. omega arith)
-    loop-again
+    (λ c. search needs)
     (λ c. search needs))
