@@ -8,7 +8,7 @@ ghost use Rattle.octets.specs.Over.{Wrote};
 ghost use Rattle.numbers.specs.Limit as limit;
 ghost use Rattle.addresses.specs.Addresses.{Width, listOf, keptOf};
 ghost use Rattle.carriers.specs.Carriers.{addressWidth};
-ghost use Rattle.blocks.specs.Block.{fieldsOf, nameOnly, whole};
+ghost use Rattle.blocks.specs.Block.{headWith, fieldsOf, nameOnly, whole};
 ghost use Rattle.records.specs.Records.{outcomeOf, nameAs, staying, headSize, tailSize, modeOf};
 ghost use Rattle.records.specs.Examined.{examinedOf, Clean, Kept, octetsIn};
 ghost use Rattle.records.specs.Given.{recordAs, Puttable};
@@ -153,16 +153,24 @@ fn mode_of(full: bool) -> u8
     if full { 1 } else { 0 }
 }
 
-// Writes a record to the end of its name.
-fn put_head(out: &mut [u8], at: usize, text: bool, head: Head, name: &[u8]) -> usize
-    requires { ⌜ (head .priority < 65536) × (head .lifetime < 4294967296) ⌝ }
+// Writes a record to the end of its name. (Numbers one by one: a struct goes through memory to a function that is not inlined.)
+fn put_head(
+    out: &mut [u8],
+    at: usize,
+    text: bool,
+    priority: usize,
+    lifetime: usize,
+    full: bool,
+    name: &[u8],
+) -> usize
+    requires { ⌜ (priority < 65536) × (lifetime < 4294967296) ⌝ }
     requires { ⌜ length (nameAs text (now name)) ≤ 255 ⌝ }
     requires { ⌜ at + headSize + length (nameAs text (now name)) ≤ length (now out) ⌝ }
-    ensures { λ r. ⌜ Wrote at (headPart head (nameAs text (now (name .entry)))) (now (out .entry)) r (now (out .exit)) ⌝ }
+    ensures { λ r. ⌜ Wrote at (headPart (headWith priority lifetime full) (nameAs text (now (name .entry)))) (now (out .entry)) r (now (out .exit)) ⌝ }
 {
-    let mode = mode_of(head.full);
-    let after_priority = octets::put16(out, at, head.priority);
-    let after_lifetime = octets::put32(out, after_priority, head.lifetime);
+    let mode = mode_of(full);
+    let after_priority = octets::put16(out, at, priority);
+    let after_lifetime = octets::put32(out, after_priority, lifetime);
     let after_mode = octets::put8(out, after_lifetime, mode);
     put_name(out, after_mode, text, name)
 }
@@ -218,7 +226,15 @@ pub fn put_fields(
     ensures { λ r. ⌜ Wrote at (recordAs given (fieldsOf head (now (name .entry)) (now (addresses .entry)) (now (parameters .entry))))
         (now (out .entry)) r (now (out .exit)) ⌝ }
 {
-    let end = put_head(out, at, given.text, head, name);
+    let end = put_head(
+        out,
+        at,
+        given.text,
+        head.priority,
+        head.lifetime,
+        head.full,
+        name,
+    );
     if head.full {
         return put_tail(out, end, given.width, given.clean, addresses, parameters);
     }
@@ -283,12 +299,15 @@ pub fn put_record(out: &mut [u8], at: usize, c: Carrier, clean: bool, body: &[u8
             nlen,
         } => {
             let end = name + nlen;
-            let head = Head {
+            put_head(
+                out,
+                at,
+                c.as_text(),
                 priority,
                 lifetime,
-                full: false,
-            };
-            put_head(out, at, c.as_text(), head, &body[name..end])
+                false,
+                &body[name..end],
+            )
         }
         Places::Full {
             priority,
