@@ -2,7 +2,7 @@
 -- docs/COMMAND.md, "Text of a sheet", "JSON"); `json` says which of the two. Assumes nothing: these are definitions.
 use Prim.Native.Nat.{ℕ, _-_, min}
 use mathlib.Core.Bool.{Bool, cond, _&&_}
-use mathlib.Core.List.{List, [], _∷_, _++_, map}
+use mathlib.Core.List.{List, [], _++_, map}
 use lib.Dec.{eqb}
 use lib.ListN.{length, take}
 use Rattle.octets.specs.Numbers.{at16}

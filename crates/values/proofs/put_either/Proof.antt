@@ -1,6 +1,5 @@
 -- `values::put_either` meets its contract: one of the two. Assumes nothing.
 use borrow.Author.Needs.{needs}
-use Rattle.chars.specs.PutsLaws.{puts-as}
 use Rattle.values.proofs.put_either.Statement.{statement}
 use Rattle.values.proofs.put_either.Tie as tie
 

@@ -1,8 +1,6 @@
 -- `values::put_escaped` meets its contract: an octet by its code, after a backslash, or as it is. Assumes nothing.
 use borrow.Author.Needs.{needs}
-use mathlib.Core.Path.{sym, ap, _∙_}
 use Rattle.chars.specs.PutsLaws.{puts-as}
-use Rattle.values.specs.Values.{escapedOf}
 use Rattle.values.specs.ValueLaws.{escaped-low, escaped-high, escaped-plain, escaped-backslash, escaped-quotation, escaped-comma}
 use Rattle.values.proofs.put_escaped.Statement.{statement}
 use Rattle.values.proofs.put_escaped.Tie as tie
