@@ -14,9 +14,9 @@ use Rattle.ips.specs.Ips.{digit, numeral, text6, mapped, shortened, runOf, long
 use Rattle.taking.specs.Taking.{takeOf, same, recordsFrom}
 use Rattle.taking.specs.Taking as taking
 use Rattle.chars.specs.Ascii.{ascii, decimalOf}
-use Rattle.values.specs.Values.{escapedOf, valueOf, quoted, keyOf, keysOf, stringsFrom, protocolsOf, carrierOf, nameOf, addressOf}
+use Rattle.values.specs.Values.{escapedOf, valueOf, quoted, keyOf, gapOf, labelOf, keysOf, stringsFrom, protocolsOf, carrierOf, nameOf, addressOf}
 use Rattle.words.specs.Words.{table, wordsIn, wordsOf}
-use Rattle.showing.specs.Showing.{lineOf, objectOf, lifetimeOf, commonOf, addressesOf, gapOf, labelOf, valueBy, parameterOf, parametersOf, listsOf, recordOf, sheetOf, shownOf}
+use Rattle.showing.specs.Showing.{lineOf, objectOf, lifetimeOf, commonOf, addressesOf, valueBy, parameterOf, parametersOf, listsOf, recordOf, sheetOf, shownOf}
 
 -- K1's sheet (01, Boundary pieces)
 abbrev k1 : List ℕ

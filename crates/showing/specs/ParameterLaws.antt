@@ -3,7 +3,7 @@
 use mathlib.Core.Path.{_≡_, refl, ap, _∙_}
 use mathlib.Core.Bool.{Bool, true, false, _&&_}
 use mathlib.Core.List.{List, [], _∷_}
-use Prim.Native.Nat.{ℕ, _+_, _-_, _≤_, _<_, min}
+use Prim.Native.Nat.{ℕ, _+_, _-_, _≤_, _<_}
 use native.Mathlib.Omega.{arith}
 use lib.Dec.{eqb}
 use lib.ListN.{length, take, drop, length-drop}
@@ -12,9 +12,9 @@ use Rattle.octets.specs.Numbers.{at16}
 use Rattle.octets.specs.ListsLaws.{take-rest}
 use Rattle.svcparams.specs.Entries.{entries}
 use Rattle.svcparams.specs.TilingLaws.{rest, size-short, size-over, size-fits, stop-entries, next-entries}
-use Rattle.chars.specs.Ascii.{ascii, decimalOf}
-use Rattle.values.specs.Values.{keyOf, quoted, valueOf}
-use Rattle.showing.specs.Showing.{columns, gapOf, valueBy}
+use Rattle.chars.specs.Ascii.{decimalOf}
+use Rattle.values.specs.Values.{quoted, valueOf}
+use Rattle.showing.specs.Showing.{valueBy}
 
 -- ---- a field
 
@@ -37,14 +37,6 @@ module _ (p : List ℕ) (i : ℕ) where
     params-next q c = rw q (next-entries p i {n = 4 + n} (size-fits (rest p i) (rw rest-length h) e (rw rest-length c)) (λ z. omega arith))
 
 -- ---- a parameter
-
-pub gap-none : (k : ℕ) {size : ℕ} → size ≡ 0 → [] ≡ gapOf k size
-unfolding gapOf
-gap-none k e = simp e
-
-pub gap-some : (k : ℕ) {size n : ℕ} → (size ≡ 0 → ⊥) → n ≡ min (length (keyOf k)) (columns - 1) → take (columns - n) (ascii "                ") ≡ gapOf k size
-unfolding gapOf
-gap-some k {size} z e = simp (ne-eqb size 0 z, e)
 
 -- of two tests the second fails where the first does not
 not-both : (n m : ℕ) {b : Bool} → (n ≡ m → b ≡ false) → (eqb n m && b) ≡ false

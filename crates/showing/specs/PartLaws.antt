@@ -16,8 +16,8 @@ use Rattle.judge.specs.JudgeLaws.{carrier-width}
 use Rattle.taking.specs.declared.Spot.{Spot}
 use Rattle.taking.specs.Spot.{fieldsAt}
 use Rattle.chars.specs.Ascii.{ascii, decimalOf}
-use Rattle.values.specs.Values.{carrierOf}
-use Rattle.showing.specs.Showing.{lineOf, objectOf, forever, spanOf, lifetimeOf, commonOf, listsOf, recordOf}
+use Rattle.values.specs.Values.{carrierOf, spanOf}
+use Rattle.showing.specs.Showing.{lineOf, objectOf, lifetimeOf, commonOf, listsOf, recordOf}
 
 -- one of two by a test
 pub when-true : {t : Bool} (a b : List ℕ) → t ≡ true → a ≡ cond t a b
@@ -40,10 +40,6 @@ module _ (c : Carrier) {n : ℕ} (e : n ≡ numberOf c) where
   line-is count = simp e
 
 -- ---- lifetimes
-
-pub span-some : (n : ℕ) → (n ≡ forever → ⊥) → (n ≡ 0 → ⊥) → decimalOf n ++ ascii " s" ≡ spanOf n
-unfolding spanOf
-span-some n f z = simp (ne-eqb n forever f, ne-eqb n 0 z)
 
 module _ (json : Bool) (c : Carrier) (n : ℕ) {w : ℕ} (e : w ≡ lifetimeWidth c) where
   pub lifetime-none : w ≡ 0 → [] ≡ lifetimeOf json c n

@@ -1,10 +1,10 @@
 -- What is shown of a sheet: lines for a person, each but the first after a line break, or one JSON object without blanks (RFC 8259;
 -- docs/COMMAND.md, "Text of a sheet", "JSON"); `json` says which of the two. Assumes nothing: these are definitions.
-use Prim.Native.Nat.{ℕ, _-_, min}
+use Prim.Native.Nat.{ℕ}
 use mathlib.Core.Bool.{Bool, cond, _&&_}
 use mathlib.Core.List.{List, [], _++_, map}
 use lib.Dec.{eqb}
-use lib.ListN.{length, take}
+use lib.ListN.{length}
 use Rattle.octets.specs.Numbers.{at16}
 use Rattle.carriers.specs.declared.Carrier.{Carrier}
 use Rattle.carriers.specs.Carriers.{numberOf, addressWidth, lifetimeWidth}
@@ -15,7 +15,7 @@ use Rattle.svcparams.specs.Key as key
 use Rattle.blocks.specs.Block.{Fields}
 use Rattle.taking.specs.Taking.{Taken, refuse, sheet, takeOf}
 use Rattle.chars.specs.Ascii.{ascii, decimalOf}
-use Rattle.values.specs.Values.{carrierOf, nameOf, addressOf, listOf, quoted, keyOf, keysOf, valueOf, protocolsOf}
+use Rattle.values.specs.Values.{carrierOf, nameOf, spanOf, addressOf, listOf, quoted, labelOf, keysOf, valueOf, protocolsOf}
 
 -- the first line
 unfoldable pub lineOf : Carrier → ℕ → List ℕ
@@ -34,16 +34,6 @@ abbrev pub headOf : Bool → Carrier → ℕ → List ℕ
 headOf json c count = cond json (objectOf c) (lineOf c count)
 
 -- ---- records
-
--- the lifetime that never ends: all ones (RFC 9463 §6.1)
-abbrev pub forever : ℕ
-forever = 4294967295
-
--- a lifetime for a person; 0 withdraws the resolver (RFC 9463 §6.1)
-unfoldable pub spanOf : ℕ → List ℕ
-spanOf lifetime =
-    cond (eqb lifetime forever) (ascii "never expires")
-    (cond (eqb lifetime 0) (ascii "0 s, no longer to be used") (decimalOf lifetime ++ ascii " s"))
 
 -- the lifetime, where the carrier has one
 unfoldable pub lifetimeOf : Bool → Carrier → ℕ → List ℕ
@@ -67,21 +57,6 @@ unfoldable pub addressesOf : Bool → Carrier → List ℕ → List ℕ
 addressesOf json c s = listOf json (map (addressItem json) (addresses.listOf (addressWidth c) s))
 
 -- ---- parameters
-
--- characters of a label with the blanks after it
-abbrev pub columns : ℕ
-columns = 16
-
--- what fills up the label of a key to its columns, with one blank at least; nothing where the value has no octets
-unfoldable pub gapOf : ℕ → ℕ → List ℕ
-gapOf k size = cond (eqb size 0) [] (take (columns - min (length (keyOf k)) (columns - 1)) (ascii "                "))
-
--- what stands before the value of a parameter: its key by number and by name, or the begin of a line
-unfoldable pub labelOf : Bool → ℕ → ℕ → List ℕ
-labelOf json k size =
-    cond json
-    (ascii "{\"key\":" ++ (decimalOf k ++ (ascii ",\"name\":\"" ++ (keyOf k ++ ascii "\",\"value\":"))))
-    (ascii "\n    " ++ (keyOf k ++ gapOf k size))
 
 -- in JSON a list
 abbrev pub bracketed : Bool → List ℕ → List ℕ

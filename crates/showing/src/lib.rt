@@ -11,7 +11,7 @@ ghost use Rattle.taking.specs.Spot.{fieldsAt};
 ghost use Rattle.taking.specs.Standing.{Standing};
 ghost use Rattle.chars.specs.Puts.{Puts};
 ghost use Rattle.values.specs.Values.{beforeOf, listOf, longestName};
-ghost use Rattle.showing.specs.Showing.{gapOf, labelOf, valueBy, parameterOf, parametersOf, addressItem, addressesOf, spanOf, lifetimeOf, commonOf, listsOf, recordOf, lineOf, objectOf, headOf, shownOf};
+ghost use Rattle.showing.specs.Showing.{valueBy, parameterOf, parametersOf, addressItem, addressesOf, lifetimeOf, commonOf, listsOf, recordOf, lineOf, objectOf, headOf, shownOf};
 use carriers::Carrier;
 use chars::least;
 use chars::put_all;
@@ -25,49 +25,14 @@ use values::put_carrier;
 use values::put_comma;
 use values::put_either;
 use values::put_json;
-use values::put_key;
 use values::put_keys;
+use values::put_label;
 use values::put_name;
 use values::put_protocols;
+use values::put_span;
 use values::put_string;
 
-// Characters of a label with the blanks after it.
-const COLUMNS: usize = 16;
-
-// The lifetime that never ends: all ones (RFC 9463 §6.1).
-const FOREVER: usize = 4294967295;
-
 // ---- parameters
-
-// Fills up the label of a key to its columns, with one blank at least; where no value follows, not.
-fn put_gap(out: &mut [u8], at: usize, key: usize, size: usize) -> usize
-    ensures { λ r. ⌜ Puts at (gapOf key size) (now (out .entry)) r (now (out .exit)) ⌝ }
-{
-    if size == 0 {
-        return least(at, out.len());
-    }
-    let mut label = [0u8; COLUMNS - 1];
-    let n = put_key(&mut label, 0, key);
-    let blanks = [b' '; COLUMNS];
-    let left = COLUMNS - n;
-    put_all(out, at, &blanks[..left])
-}
-
-// Writes what stands before the value of a parameter: in JSON its key by number and by name, in text the begin of a line up to its column.
-fn put_label(out: &mut [u8], at: usize, json: bool, key: usize, size: usize) -> usize
-    ensures { λ r. ⌜ Puts at (labelOf json key size) (now (out .entry)) r (now (out .exit)) ⌝ }
-{
-    if json {
-        let from = put_all(out, at, b"{\"key\":");
-        let numbered = put_number(out, from, key);
-        let name = put_all(out, numbered, b",\"name\":\"");
-        let named = put_key(out, name, key);
-        return put_all(out, named, b"\",\"value\":");
-    }
-    let from = put_all(out, at, b"\n    ");
-    let named = put_key(out, from, key);
-    put_gap(out, named, key, size)
-}
 
 // Writes the value of a parameter.
 fn put_of_key(out: &mut [u8], at: usize, json: bool, key: usize, v: &[u8]) -> usize
@@ -149,20 +114,6 @@ fn put_addresses(out: &mut [u8], at: usize, json: bool, c: Carrier, list: &[u8])
         i = next;
     }
     o
-}
-
-// Writes a lifetime in seconds for a person.
-fn put_span(out: &mut [u8], at: usize, lifetime: usize) -> usize
-    ensures { λ r. ⌜ Puts at (spanOf lifetime) (now (out .entry)) r (now (out .exit)) ⌝ }
-{
-    if lifetime == FOREVER {
-        return put_all(out, at, b"never expires");
-    }
-    if lifetime == 0 {
-        return put_all(out, at, b"0 s, no longer to be used");
-    }
-    let next = put_number(out, at, lifetime);
-    put_all(out, next, b" s")
 }
 
 // Writes the lifetime, where the carrier has one.

@@ -2,14 +2,14 @@
 use mathlib.Core.Path.{_≡_, refl}
 use mathlib.Core.Bool.{Bool, true, false, cond}
 use mathlib.Core.List.{List, [], _∷_, _++_}
-use Prim.Native.Nat.{ℕ, _≤_, _<_}
+use Prim.Native.Nat.{ℕ, _-_, _≤_, _<_, min}
 use native.Mathlib.Omega.{arith}
-use lib.ListN.{length}
+use lib.ListN.{length, take}
 use borrow.Author.Tests.{le-leb, lt-leb, lt-ltb, le-ltb, eq-eqb, ne-eqb}
 use Rattle.texts.specs.Texts.{textOf}
 use Rattle.ips.specs.Ips.{text4, text6}
 use Rattle.chars.specs.Ascii.{ascii, decimalOf}
-use Rattle.values.specs.Values.{nameOf, addressOf, comma, dohpath, keyOf, backslash, quotation, codeOf, escapedOf}
+use Rattle.values.specs.Values.{nameOf, forever, spanOf, addressOf, comma, dohpath, keyOf, columns, gapOf, backslash, quotation, codeOf, escapedOf}
 
 -- ---- octets of a value
 
@@ -44,11 +44,23 @@ unfolding escapedOf
 escaped-comma true = refl
 escaped-comma false = refl
 
--- ---- keys, names and addresses
+-- ---- keys, lifetimes, names and addresses
 
 pub key-number : {k : ℕ} → (k ≡ 0 → ⊥) → (k ≡ 1 → ⊥) → (k ≡ 2 → ⊥) → (k ≡ 3 → ⊥) → (k ≡ dohpath → ⊥) → ascii "key" ++ decimalOf k ≡ keyOf k
 unfolding keyOf
 key-number {k} a b c d e = simp (ne-eqb k 0 a, ne-eqb k 1 b, ne-eqb k 2 c, ne-eqb k 3 d, ne-eqb k dohpath e)
+
+pub gap-none : (k : ℕ) {size : ℕ} → size ≡ 0 → [] ≡ gapOf k size
+unfolding gapOf
+gap-none k e = simp e
+
+pub gap-some : (k : ℕ) {size n : ℕ} → (size ≡ 0 → ⊥) → n ≡ min (length (keyOf k)) (columns - 1) → take (columns - n) (ascii "                ") ≡ gapOf k size
+unfolding gapOf
+gap-some k {size} z e = simp (ne-eqb size 0 z, e)
+
+pub span-some : (n : ℕ) → (n ≡ forever → ⊥) → (n ≡ 0 → ⊥) → decimalOf n ++ ascii " s" ≡ spanOf n
+unfolding spanOf
+span-some n f z = simp (ne-eqb n forever f, ne-eqb n 0 z)
 
 pub name-short : (wire : List ℕ) → length wire < 2 → [] ≡ nameOf wire
 unfolding nameOf

@@ -1,7 +1,7 @@
 -- What text and JSON have in common: octets of values, lists, keys, names and addresses, each as it is shown (docs/COMMAND.md, "Text of a
 -- sheet", "JSON"); `json` says which of the two. In JSON a quotation mark and a backslash within a string stand after a backslash
 -- (RFC 8259 §7). Assumes nothing: these are definitions.
-use Prim.Native.Nat.{ℕ, zero, suc, _+_, _/_, _%_}
+use Prim.Native.Nat.{ℕ, zero, suc, _+_, _-_, _/_, _%_, min}
 use mathlib.Core.Bool.{Bool, true, cond}
 use mathlib.Core.List.{List, [], _∷_, _++_, map}
 use lib.Dec.{leb, ltb, eqb}
@@ -15,7 +15,7 @@ use Rattle.texts.specs.Texts.{textOf}
 use Rattle.ips.specs.Ips.{joined, text4, text6}
 use Rattle.chars.specs.Ascii.{ascii, decimalOf}
 
--- ---- carriers, names and addresses
+-- ---- carriers, names, lifetimes and addresses
 
 unfoldable pub carrierOf : Carrier → List ℕ
 carrierOf Dhcp4 = ascii "DHCPv4"
@@ -31,6 +31,16 @@ longestName = 255
 -- a name in wire form, as text without a final dot; of fewer than two octets, which are no name, nothing
 unfoldable pub nameOf : List ℕ → List ℕ
 nameOf wire = cond (ltb (length wire) 2) [] (textOf wire)
+
+-- the lifetime that never ends: all ones (RFC 9463 §6.1)
+abbrev pub forever : ℕ
+forever = 4294967295
+
+-- a lifetime for a person; 0 withdraws the resolver (RFC 9463 §6.1)
+unfoldable pub spanOf : ℕ → List ℕ
+spanOf lifetime =
+    cond (eqb lifetime forever) (ascii "never expires")
+    (cond (eqb lifetime 0) (ascii "0 s, no longer to be used") (decimalOf lifetime ++ ascii " s"))
 
 -- an address by its length (RFC 5952 §4, §5)
 unfoldable pub addressOf : List ℕ → List ℕ
@@ -69,6 +79,21 @@ keyOf k =
     (cond (eqb k key.port) (ascii "port")
     (cond (eqb k dohpath) (ascii "dohpath")
     (ascii "key" ++ decimalOf k)))))
+
+-- characters of a label with the blanks after it
+abbrev pub columns : ℕ
+columns = 16
+
+-- what fills up the label of a key to its columns, with one blank at least; nothing where the value has no octets
+unfoldable pub gapOf : ℕ → ℕ → List ℕ
+gapOf k size = cond (eqb size 0) [] (take (columns - min (length (keyOf k)) (columns - 1)) (ascii "                "))
+
+-- what stands before the value of a parameter: its key by number and by name, or the begin of a line
+unfoldable pub labelOf : Bool → ℕ → ℕ → List ℕ
+labelOf json k size =
+    cond json
+    (ascii "{\"key\":" ++ (decimalOf k ++ (ascii ",\"name\":\"" ++ (keyOf k ++ ascii "\",\"value\":"))))
+    (ascii "\n    " ++ (keyOf k ++ gapOf k size))
 
 -- the keys of a mandatory list
 unfoldable pub keysOf : Bool → List ℕ → List ℕ

@@ -6,7 +6,7 @@ ghost use mathlib.Core.List.{[], _++_};
 ghost use Prim.Native.Nat.{_≤_};
 ghost use lib.ListN.{length};
 ghost use Rattle.chars.specs.Puts.{Puts};
-ghost use Rattle.values.specs.Values.{codeOf, escapedOf, valueOf, quoted, beforeOf, keyOf, keysOf, protocolsOf, carrierOf, longestName, nameOf, addressOf};
+ghost use Rattle.values.specs.Values.{codeOf, escapedOf, valueOf, quoted, beforeOf, keyOf, gapOf, labelOf, keysOf, protocolsOf, carrierOf, longestName, nameOf, spanOf, addressOf};
 use carriers::Carrier;
 use chars::least;
 use chars::put;
@@ -18,6 +18,12 @@ use svcparams::Key;
 
 // The key of the template of DNS over HTTPS (RFC 9461 §5).
 const DOHPATH: usize = 7;
+
+// Characters of a label with the blanks after it.
+const COLUMNS: usize = 16;
+
+// The lifetime that never ends: all ones (RFC 9463 §6.1).
+const FOREVER: usize = 4294967295;
 
 // Writes `a` in JSON, and else `b`.
 pub fn put_either(out: &mut [u8], at: usize, json: bool, a: &[u8], b: &[u8]) -> usize
@@ -130,6 +136,36 @@ pub fn put_key(out: &mut [u8], at: usize, key: usize) -> usize
     put_number(out, next, key)
 }
 
+// Fills up the label of a key to its columns, with one blank at least; where no value follows, not.
+fn put_gap(out: &mut [u8], at: usize, key: usize, size: usize) -> usize
+    ensures { λ r. ⌜ Puts at (gapOf key size) (now (out .entry)) r (now (out .exit)) ⌝ }
+{
+    if size == 0 {
+        return least(at, out.len());
+    }
+    let mut label = [0u8; COLUMNS - 1];
+    let n = put_key(&mut label, 0, key);
+    let blanks = [b' '; COLUMNS];
+    let left = COLUMNS - n;
+    put_all(out, at, &blanks[..left])
+}
+
+// Writes what stands before the value of a parameter: in JSON its key by number and by name, in text the begin of a line up to its column.
+pub fn put_label(out: &mut [u8], at: usize, json: bool, key: usize, size: usize) -> usize
+    ensures { λ r. ⌜ Puts at (labelOf json key size) (now (out .entry)) r (now (out .exit)) ⌝ }
+{
+    if json {
+        let from = put_all(out, at, b"{\"key\":");
+        let numbered = put_number(out, from, key);
+        let name = put_all(out, numbered, b",\"name\":\"");
+        let named = put_key(out, name, key);
+        return put_all(out, named, b"\",\"value\":");
+    }
+    let from = put_all(out, at, b"\n    ");
+    let named = put_key(out, from, key);
+    put_gap(out, named, key, size)
+}
+
 // Writes an item of a list of keys.
 fn put_key_item(out: &mut [u8], at: usize, json: bool, first: bool, key: usize) -> usize
     ensures { λ r. ⌜ Puts at (beforeOf true first ++ quoted json (keyOf key)) (now (out .entry)) r (now (out .exit)) ⌝ }
@@ -180,7 +216,7 @@ pub fn put_protocols(out: &mut [u8], at: usize, json: bool, s: &[u8]) -> usize
     o
 }
 
-// ---- carriers, names and addresses
+// ---- carriers, names, lifetimes and addresses
 
 // Writes a carrier's name.
 pub fn put_carrier(out: &mut [u8], at: usize, c: Carrier) -> usize
@@ -206,6 +242,20 @@ pub fn put_name(out: &mut [u8], at: usize, wire: &[u8]) -> usize
     let mut text = [0u8; 256];
     let n = texts::to_text(&mut text, 0, wire);
     put_all(out, at, &text[..n])
+}
+
+// Writes a lifetime in seconds for a person.
+pub fn put_span(out: &mut [u8], at: usize, lifetime: usize) -> usize
+    ensures { λ r. ⌜ Puts at (spanOf lifetime) (now (out .entry)) r (now (out .exit)) ⌝ }
+{
+    if lifetime == FOREVER {
+        return put_all(out, at, b"never expires");
+    }
+    if lifetime == 0 {
+        return put_all(out, at, b"0 s, no longer to be used");
+    }
+    let next = put_number(out, at, lifetime);
+    put_all(out, next, b" s")
 }
 
 // Writes an address by its length.

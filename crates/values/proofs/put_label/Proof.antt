@@ -1,9 +1,9 @@
--- `showing::put_label` meets its contract: the parts one after another. Assumes nothing.
+-- `values::put_label` meets its contract: the parts one after another. Assumes nothing.
 use borrow.Author.Needs.{needs}
 use Rattle.chars.specs.PutsLaws.{puts-then}
-use Rattle.showing.specs.Showing.{labelOf}
-use Rattle.showing.proofs.put_label.Statement.{statement}
-use Rattle.showing.proofs.put_label.Tie as tie
+use Rattle.values.specs.Values.{labelOf}
+use Rattle.values.proofs.put_label.Statement.{statement}
+use Rattle.values.proofs.put_label.Tie as tie
 
 returns : tie.Need-returns
 unfolding labelOf

@@ -1,11 +1,11 @@
--- `showing::put_gap` meets its contract: blanks up to the column. Assumes nothing.
+-- `values::put_gap` meets its contract: blanks up to the column. Assumes nothing.
 use borrow.Author.Needs.{needs}
 use native.Mathlib.Omega.{arith}
 use lib.ListN.{length-take}
 use Rattle.chars.specs.PutsLaws.{puts-none, puts-as}
-use Rattle.showing.specs.ParameterLaws.{gap-none, gap-some}
-use Rattle.showing.proofs.put_gap.Statement.{statement}
-use Rattle.showing.proofs.put_gap.Tie as tie
+use Rattle.values.specs.ValueLaws.{gap-none, gap-some}
+use Rattle.values.proofs.put_gap.Statement.{statement}
+use Rattle.values.proofs.put_gap.Tie as tie
 
 returns : tie.Need-returns
 returns c = puts-as (gap-none _ (c .before .if1 .taken)) (puts-none _ _ (c .least .ensures))

@@ -1,10 +1,10 @@
--- `showing::put_span` meets its contract: a lifetime by its cases. Assumes nothing.
+-- `values::put_span` meets its contract: a lifetime by its cases. Assumes nothing.
 use borrow.Author.Needs.{needs}
 use Rattle.chars.specs.PutsLaws.{puts-then, puts-as}
-use Rattle.showing.specs.Showing.{spanOf}
-use Rattle.showing.specs.PartLaws.{span-some}
-use Rattle.showing.proofs.put_span.Statement.{statement}
-use Rattle.showing.proofs.put_span.Tie as tie
+use Rattle.values.specs.Values.{spanOf}
+use Rattle.values.specs.ValueLaws.{span-some}
+use Rattle.values.proofs.put_span.Statement.{statement}
+use Rattle.values.proofs.put_span.Tie as tie
 
 returns : tie.Need-returns
 unfolding spanOf
