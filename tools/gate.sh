@@ -67,7 +67,8 @@ command_built() {
 
 # Compiles exactly when the header says what the source exports.
 header_held() {
-    python3 tools/header.py include/dnr.h crates/dnr/src/lib.rt crates/reading/src/lib.rt crates/writing/src/lib.rt >"$log/header.c" &&
+    python3 tools/header.py include/dnr.h host/dnr/src/raw.rs crates/dnr/src/lib.rt crates/reading/src/lib.rt crates/writing/src/lib.rt crates/numbers/src/lib.rt \
+        >"$log/header.c" &&
         gcc -std=gnu11 -fsyntax-only -Wall -Werror -I . "$log/header.c"
 }
 

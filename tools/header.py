@@ -1,9 +1,10 @@
 #!/usr/bin/env python3
-"""header.py HEADER LIB.rt [MORE.rt..]: holds a C header against the Rattle source of the functions that it declares.
+"""header.py HEADER RAW.rs LIB.rt [MORE.rt..]: holds a C header and its Rust declarations against the Rattle source.
 
 Writes C to standard output that compiles (gcc -fsyntax-only -Werror) exactly when the header declares every exported function of LIB.rt
-with the parameters and the result of the source, and the #[repr(C)] structs of all sources have in the header the same fields in order,
-type and size. A function that the source does not export and the header declares is found by its name.
+with the parameters and the result of the source, the #[repr(C)] structs of all sources have in the header the same fields in order,
+type and size, and the refusals, faults and limits of the sources have in the header the same numbers. A function that the source does not
+export and the header declares is found by its name. RAW.rs has the same structs with the same fields.
 """
 import re
 import sys
@@ -14,15 +15,24 @@ NUMBERS = {
 }
 PREFIX = "dnr_"
 FIELD = r"(?:pub )?(\w+): (?:(\w+)|\[(\w+); (\w+)\]),"
+STRUCT = r"#\[repr\(C\)\]\s*(?:#\[derive\([^]]*\)\]\s*)?pub struct (\w+) \{(.*?)\}"
+# The prefix of the numbers of each type in the header, and whether it has them all.
+NUMBERED = {"Refusal": ("DNR_REFUSAL_", True), "Fault": ("DNR_FAULT_", True), "Limit": ("DNR_MAX_", False)}
+
+
+def plain(*paths):
+    """What stands in some files of Rattle or Rust, without comments."""
+    return "\n".join(re.sub(r"//.*", "", open(path).read()) for path in paths)
 
 
 class Source:
     """The structs and the constants of some files; what is wrong with them is kept as lines of C that do not compile."""
 
     def __init__(self, paths):
-        text = "\n".join(re.sub(r"//.*", "", open(path).read()) for path in paths)
+        text = plain(*paths)
         self.numbers = dict(re.findall(r"\bconst (\w+): usize = (\d+);", text))
-        self.structs = dict(re.findall(r"#\[repr\(C\)\]\s*pub struct (\w+) \{(.*?)\}", text, re.S))
+        self.structs = dict(re.findall(STRUCT, text, re.S))
+        self.types = {name: dict(re.findall(r"const (\w+): usize = (\d+);", body)) for name, body in re.findall(r"^impl (\w+) \{(.*?)^\}", text, re.S | re.M)}
         self.errors = []
 
     def c_type(self, name):
@@ -62,12 +72,30 @@ def hold_structs(source):
             )
 
 
-def main(header, library, *more):
-    text = re.sub(r"//.*", "", open(library).read())
-    declared = set(re.findall(r"\b(%s\w+)\(" % PREFIX, re.sub(r"/\*.*?\*/", "", open(header).read(), flags=re.S)))
+def hold_numbers(source, header):
+    for kind, (prefix, all_of_them) in NUMBERED.items():
+        if not source.types.get(kind):
+            source.errors.append(f"#error the sources have no {kind}")
+        for name, number in source.types.get(kind, {}).items():
+            if all_of_them or re.search(rf"\b{prefix}{name}\b", header):
+                print(f'_Static_assert({prefix}{name} == {number}, "{kind}::{name}");')
+
+
+def hold_rust(source, path):
+    theirs = {name: re.findall(FIELD, body) for name, body in re.findall(STRUCT, plain(path), re.S)}
+    mine = {name: re.findall(FIELD, body) for name, body in source.structs.items()}
+    source.errors += [f"#error {name} differs in {path}" for name in sorted(mine.keys() | theirs) if mine.get(name) != theirs.get(name)]
+
+
+def main(header, rust, library, *more):
+    text = plain(library)
+    said = re.sub(r"/\*.*?\*/", "", open(header).read(), flags=re.S)
+    declared = set(re.findall(r"\b(%s\w+)\(" % PREFIX, said))
     source = Source((library, *more))
     print(f'#include "{header}"')
     hold_structs(source)
+    hold_numbers(source, said)
+    hold_rust(source, rust)
     exported = set()
     pattern = r'#\[no_mangle\]\s*pub extern "C" fn (\w+)\((.*?)\)(?: -> (\w+))?\s*(?:requires|ensures|\{)'
     for name, parameters, result in re.findall(pattern, text, re.S):
