@@ -12,8 +12,7 @@ use borrow.Author.Tests.{ne-eqb, lt-ltb, le-ltb, not-true, not-false}
 use lib.ListN.{length, getD, take, drop, length-append, length-drop, take-append-drop}
 use lib.Seq.{length-take-le, drop-drop, take-at, drop-at}
 use Rattle.octets.specs.Lists.{All, flat}
-use Rattle.octets.specs.Numbers.{Bytes, allZero}
-use Rattle.octets.specs.NumbersLaws.{bytes-append, bytes-take, bytes-drop}
+use Rattle.octets.specs.Numbers.{allZero}
 use Rattle.addresses.specs.Addresses.{Width, unusable, unusable4, unusable16, addressesOf, listOf, keptOf, hasOf, anyOf, noneOf}
 
 pub wide-some : {w : ℕ} → Width w → 0 < w
@@ -107,15 +106,6 @@ module _ (w : ℕ) where
   unfolding listOf
   list-wide s = wide-of (length s / w) s (div-mul-le-self (length s) w)
 
-  bytes-of : (n : ℕ) (s : List ℕ) → Bytes s → All Bytes (addressesOf w n s)
-  bytes-of zero s h = tt
-  bytes-of (suc n) s h = (bytes-take w s h, bytes-of n (drop w s) (bytes-drop w s h))
-
-  -- each address is octets
-  pub list-bytes : (s : List ℕ) → Bytes s → All Bytes (listOf w s)
-  unfolding listOf
-  list-bytes s h = bytes-of (length s / w) s h
-
   -- addresses of w octets one after another have w octets each
   pub flat-length : (ls : List (List ℕ)) → All (λ (a : List ℕ). length a ≡ w) ls → length (flat ls) ≡ length ls * w
   flat-length [] h = omega arith
@@ -128,10 +118,6 @@ module _ (w : ℕ) where
       let k : w ≤ length (a ++ flat more) = simp length-append (omega (arith, h .0)) in
       list-cons w (a ++ flat more) p k
       ∙ rw (take-at a (flat more) w (h .0), drop-at a (flat more) w (h .0)) (ap (λ (l : List (List ℕ)). a ∷ l) (list-flat more p (h .1)))
-
-pub flat-bytes : (ls : List (List ℕ)) → All Bytes ls → Bytes (flat ls)
-flat-bytes [] h = tt
-flat-bytes (a ∷ more) h = bytes-append a (flat more) (h .0) (flat-bytes more (h .1))
 
 -- ---- what is kept
 
@@ -148,10 +134,6 @@ kept-all P w (a ∷ more) h = go (unusable w a) (kept-all P w more (h .1))
 -- each that is kept has w octets
 pub kept-wide : (w : ℕ) (more : List (List ℕ)) → All (λ (a : List ℕ). length a ≡ w) more → All (λ (a : List ℕ). length a ≡ w) (keptOf w more)
 kept-wide w more h = kept-all (λ a. length a ≡ w) w more h
-
--- what is kept of octets is octets
-pub kept-bytes : (w : ℕ) (s : List ℕ) → Bytes s → Bytes (flat (keptOf w (listOf w s)))
-kept-bytes w s h = flat-bytes (keptOf w (listOf w s)) (kept-all Bytes w (listOf w s) (list-bytes w s h))
 
 -- what is dropped nowhere is kept whole
 pub none-dropped : (w : ℕ) (more : List (List ℕ)) → anyOf w more ≡ false → keptOf w more ≡ more

@@ -160,7 +160,7 @@ sizeBy Text c full n a p = 4 + a + n + p
 abbrev pub sizeOf : Carrier → Fields → ℕ
 sizeOf c f = sizeBy (formOf c) c (f .full) (length (f .name)) (length (f .addresses)) (length (f .parameters))
 
--- octets of a carrier 3 option
+-- octets of a carrier 3 option, rounded (01, "10 + name octets, or 14 + name + addresses + parameters, rounded up to 8": the law `option-rounded`)
 abbrev pub optionSize : Fields → ℕ
 optionSize f = headerOf Router + sizeOf Router f
 

@@ -1,7 +1,6 @@
 -- How many octets a layout has, and which fields fit. Assumes nothing.
 use mathlib.Core.Path.{_≡_, refl, ap, _∙_}
 use mathlib.Core.Bool.{Bool, true, false, cond, true≢false}
-use mathlib.Core.List.{List}
 use Prim.Native.Nat.{ℕ, _+_, _*_, _/_, _%_, _^_, _≤_, _<_}
 use native.Mathlib.Omega.{arith}
 use native.Mathlib.Nat.{mul-div-cancel, mul-mod-left}
@@ -12,9 +11,9 @@ use Rattle.carriers.specs.declared.Carrier.{Carrier}
 use Rattle.carriers.specs.declared.Carrier.the-variants.{Router}
 use Rattle.carriers.specs.declared.Form.{Form}
 use Rattle.carriers.specs.declared.Form.the-variants.{Wire, Padded, Text}
-use Rattle.carriers.specs.Carriers.{headerOf, formOf, lengthWidth, lifetimeIn, lifetimeWidth, addressWidth, textIn, asText}
+use Rattle.carriers.specs.Carriers.{headerOf, formOf, lengthWidth, lifetimeIn, lifetimeWidth, addressWidth, textIn}
 use Rattle.carriers.specs.CarriersLaws.{by-body, address-width, length-room, text-width, padded-router}
-use Rattle.blocks.specs.Block.{Fields, nameOnly, gap, optionSize, layoutBy, layout, sizeBy, sizeOf, FitsBy, Fits, PossibleBy, Possible}
+use Rattle.blocks.specs.Block.{Fields, gap, optionSize, layoutBy, layout, sizeBy, sizeOf, FitsBy, Fits, PossibleBy, Possible}
 
 size-router : (f : Fields) (b : Bool) → f .full ≡ b → length (layoutBy Padded Router f) ≡ sizeOf Router f
 size-router f true e = simp (e, length-append, length-replicate) (omega arith)
@@ -65,14 +64,6 @@ layout-possible c f = go (formOf c) refl
     go Text e = tt
 
 -- ---- records within the limits (01, "The record sheet") fit their carrier
-
-pub fits-name-only : (c : Carrier) (p t : ℕ) (n : List ℕ) → asText c ≡ false → p < 65536 → t < 256 ^ lifetimeWidth c → length n < 256 → Fits c (nameOnly p t n)
-fits-name-only c p t n e hp ht hn = record { priority = hp; lifetime = ht; name = length-room (length n) hn c; tail = go (formOf c) e }
-  where
-    go : (k : Form) → textIn k ≡ false → FitsBy k c (nameOnly p t n)
-    go Wire x = (refl, refl)
-    go Padded x = (refl, refl)
-    go Text x = absurd (true≢false x)
 
 -- in carriers 1 and 2 the address length has room for the addresses that a record may have
 address-room : (k n : ℕ) → k ≤ limit.addresses → (c : Carrier) → formOf c ≡ Wire → n ≡ k * addressWidth c → n < 256 ^ lengthWidth c

@@ -49,7 +49,7 @@ pub struct Facts {
     pub joined: bool,
     // Octets of an address.
     pub address: usize,
-    // Octets of the ADN length, and of the address length in carriers 1 to 3.
+    // Octets of the ADN length, of the address length in carriers 1 to 3, and of the parameter length in carrier 3.
     pub length: usize,
     pub form: Form,
 }
@@ -211,7 +211,7 @@ impl Carrier {
         f.address
     }
 
-    // Octets of the ADN length, and of the address length in carriers 1 to 3.
+    // Octets of the ADN length, of the address length in carriers 1 to 3, and of the parameter length in carrier 3.
     pub fn length_width(self) -> usize
         ensures { λ r. ⌜ r ≡ lengthWidth self ⌝ }
     {

@@ -19,8 +19,8 @@ use numbers::Limit;
 use numbers::Refusal;
 use reading::Reading;
 
-// Octets that hold the text of any sheet: 16 for each of its own. A parameter without a value takes 4 octets of a sheet and 45 of JSON at most,
-// an octet of a value 5, a mandatory key 18 for its 2, an address 42.
+// Octets that hold the text of any sheet: 16 for each of its own. A parameter without a value takes 4 octets of a sheet and 48 of JSON at most,
+// an octet of a value 5, a mandatory key 18 for its 2, an address of 16 a line of 60.
 const TEXT: usize = 16 * Limit::SHEET;
 
 // Octets that hold what any sheet is written as: 16 records of `Limit::RECORD` octets, and less than 64 more for each.

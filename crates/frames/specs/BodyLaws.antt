@@ -2,22 +2,19 @@
 -- Assumes nothing.
 use mathlib.Core.Path.{_≡_, refl, ap, _∙_, subst}
 use mathlib.Core.Bool.{Bool, true, false}
-use mathlib.Core.List.{List, [], _∷_, append-nil}
-use Prim.Native.Nat.{ℕ, zero, suc, _+_, _-_, _%_, _≤_, _<_}
-use native.Mathlib.Nat.{not-suc-le-zero}
-use native.Mathlib.Numerals.{add-one}
+use mathlib.Core.List.{List, [], _∷_}
+use Prim.Native.Nat.{ℕ, zero, suc, _+_, _-_, _%_, _≤_}
 use native.Mathlib.Omega.{arith}
-use lib.ListN.{length, take, drop, length-append, length-take, length-drop}
+use lib.ListN.{length, take, drop, length-drop}
 use lib.Seq.{length-take-le}
 use lib.Dec.{ltb}
 use borrow.Author.Tests.{ltb-true, ltb-false}
 use Rattle.octets.specs.Numbers.{Bytes}
 use Rattle.octets.specs.NumbersLaws.{bytes-take, bytes-drop}
 use Rattle.carriers.specs.declared.Carrier.{Carrier}
-use Rattle.carriers.specs.declared.Carrier.the-variants.{Dhcp4, Router}
+use Rattle.carriers.specs.declared.Carrier.the-variants.{Router}
 use Rattle.carriers.specs.Carriers.{headerOf, isJoined, octets}
 use Rattle.frames.specs.declared.Head.{Head}
-use Rattle.octets.specs.Lists.{flat}
 use Rattle.frames.specs.Frame.{firstOf, Framed, fault, framed, onto, after, frameFrom, frame, blocksOf}
 use Rattle.octets.specs.Lists.{All}
 use Rattle.frames.specs.Walk.{Plain}
@@ -68,14 +65,6 @@ module _ (c : Carrier) (S P : List ℕ → Type 0)
 body-length : (s : List ℕ) (h n : ℕ) → n ≤ length s → length (drop h (take n s)) ≡ n - h
 body-length s h n le = length-drop h (take n s) ∙ ap (λ (k : ℕ). k - h) (length-take-le n s le)
 
--- a body and its header are no longer than the area
-pub bodies-within : (c : Carrier) (area : List ℕ) (bs : List (List ℕ)) → frame c area ≡ framed bs → All (λ b. length b + headerOf c ≤ length area) bs
-bodies-within c area bs e =
-    each-body c (λ s. length s ≤ length area) (λ b. length b + headerOf c ≤ length area)
-    (λ x xs h. omega arith)
-    (λ s n h e le. omega (arith, body-length s (headerOf c) n le, first-own c s e .body))
-    area bs (omega arith) e
-
 -- the bodies of octets are octets
 pub bodies-bytes : (c : Carrier) (area : List ℕ) (bs : List (List ℕ)) → Bytes area → frame c area ≡ framed bs → All Bytes bs
 bodies-bytes c area bs h e =
@@ -92,52 +81,8 @@ bodies-units area bs e =
     (λ s n h e le. let r = first-own Router s e in omega (arith, body-length s 2 n le, r .size, r .body))
     area bs tt e
 
--- ---- all bodies together
-
-abbrev Within : ℕ → ℕ → Framed → Type 0
-Within k m fault = Unit {0}
-Within k m (framed bs) = length (flat bs) + k ≤ m
-
-within-onto : (own : Bool) (b : List ℕ) (f : Framed) (k n m : ℕ) → length b ≤ n → n ≤ k + 1 → Within k m f → Within 0 (m + 1) (onto own b f)
-within-onto own b fault k n m h l w = tt
-within-onto true b (framed bs) k n m h l w = omega (arith, length-append b (flat bs))
-within-onto false b (framed bs) k n m h l w = omega arith
-
-within-head : (c : Carrier) (x : ℕ) (xs : List ℕ) (z : Head) → firstOf c (x ∷ xs) ≡ z → ((k : ℕ) → Within k (length xs) (frameFrom c k xs))
-    → Within 0 (length xs + 1) (after c (x ∷ xs) z (λ k. frameFrom c k xs))
-within-head c x xs Head.Bad e ih = tt
-within-head c x xs Head.End e ih = omega arith
-within-head c x xs (Head.Option own size) e ih =
-    let n : ℕ = size .0 in
-    let b : List ℕ = drop (headerOf c) (take n (x ∷ xs)) in
-    let short : length b ≤ n = simp (length-drop, length-take) (omega arith) in
-    within-onto own b (frameFrom c (n - 1) xs) (n - 1) n (length xs) short (omega arith) (ih (n - 1))
-
-within-suc : (k m : ℕ) (f : Framed) → Within k m f → Within (suc k) (suc m) f
-within-suc k m fault w = tt
-within-suc k m (framed bs) w = omega arith
-
-within-from : (c : Carrier) (k : ℕ) (s : List ℕ) → Within k (length s) (frameFrom c k s)
-unfolding frameFrom
-within-from c zero [] = omega arith
-within-from c (suc k) [] = tt
-within-from c zero (x ∷ xs) = rw add-one at (within-head c x xs (firstOf c (x ∷ xs)) refl (λ k. within-from c k xs))
-within-from c (suc k) (x ∷ xs) = within-suc k (length xs) (frameFrom c k xs) (within-from c k xs)
-
--- all bodies together are no longer than the area
-pub flat-within : (c : Carrier) (area : List ℕ) (bs : List (List ℕ)) → frame c area ≡ framed bs → length (flat bs) ≤ length area
-flat-within c area bs e = let h = subst (Within 0 (length area)) e (within-from c 0 area) in omega arith
-
 -- ---- blocks
 
 -- in carriers 2 to 5 each body is a block
 pub blocks-plain : (c : Carrier) (bs : List (List ℕ)) → Plain c → blocksOf c bs ≡ bs
 blocks-plain c bs p = rw (apart-false (isJoined c) p)
-
--- in carrier 1 a body alone is the block, and several make one
-pub blocks-one : (b : List ℕ) → blocksOf Dhcp4 (b ∷ []) ≡ b ∷ []
-blocks-one b = ap (λ (l : List ℕ). l ∷ []) (append-nil b)
-
-pub blocks-some : (bs : List (List ℕ)) → 0 < length bs → blocksOf Dhcp4 bs ≡ flat bs ∷ []
-blocks-some [] h = absurd (not-suc-le-zero h)
-blocks-some (b ∷ bs) h = refl

@@ -8,7 +8,7 @@ use Rattle.octets.specs.Numbers.{be}
 use Rattle.carriers.specs.declared.Carrier.{Carrier}
 use Rattle.carriers.specs.Carriers.{codeOf, headWidth, headerOf, inEights}
 
--- the length that says a body of n octets after h octets of header; in units of eight the header is counted
+-- the length that says a body of n octets after h octets of header; in units of eight the header is counted (RFC 4861 §4.6)
 abbrev pub lengthSaid : Bool → ℕ → ℕ → ℕ
 lengthSaid eights h n = cond eights ((n + h) / 8) n
 

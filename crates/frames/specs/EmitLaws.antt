@@ -8,7 +8,7 @@ use native.Mathlib.Omega.{arith}
 use lib.ListN.{length, getD, take, drop, length-append, List·getD-append}
 use lib.Seq.{take-at, drop-at}
 use borrow.Author.Tests.{eq-eqb}
-use Rattle.octets.specs.Numbers.{be, numberAt}
+use Rattle.octets.specs.Numbers.{be}
 use Rattle.octets.specs.NumbersLaws.{length-be, number-laid}
 use Rattle.octets.specs.Over.{Wrote}
 use Rattle.octets.specs.OverLaws.{then}

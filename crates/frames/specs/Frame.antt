@@ -13,7 +13,7 @@ use Rattle.frames.specs.declared.Head.the-variants.{Bad, End, Option}
 
 -- ---- one header
 
--- the octets of an option with h octets of header of which the length n was read; in units of eight the header is counted (RFC 4861 §4.6)
+-- octets of an option whose header of h octets says the length n: in units of eight the header is counted (RFC 4861 §4.6), else not
 abbrev pub wholeSize : Bool → ℕ → ℕ → ℕ
 wholeSize eights h n = cond eights (8 * n) (h + n)
 

@@ -7,11 +7,11 @@ use native.Mathlib.Omega.{arith}
 use lib.ListN.{length, getD, take, length-append, List·getD-append}
 use lib.Seq.{getD-take, length-take-le}
 use lib.Dec.{ltb, eqb}
-use borrow.Author.Tests.{lt-ltb, le-ltb, eq-eqb, ne-eqb, ltb-false, eqb-true, eqb-false}
+use borrow.Author.Tests.{lt-ltb, le-ltb, eq-eqb, ne-eqb, ltb-false, eqb-false}
 use Rattle.octets.specs.Numbers.{at16, numberAt}
 use Rattle.octets.specs.NumbersLaws.{number-8, number-16, number-local}
 use Rattle.carriers.specs.declared.Carrier.{Carrier}
-use Rattle.carriers.specs.Carriers.{codeOf, headWidth, headerOf, hasReserved, inEights, isJoined, octets}
+use Rattle.carriers.specs.Carriers.{codeOf, headWidth, headerOf, inEights, isJoined, octets}
 use Rattle.carriers.specs.CarriersLaws.{headed}
 use Rattle.frames.specs.declared.Head.{Head}
 use Rattle.frames.specs.declared.Head.the-variants.{Bad, End, Option}

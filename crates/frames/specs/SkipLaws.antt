@@ -2,17 +2,17 @@
 use mathlib.Core.Path.{_≡_, refl, sym, ap, ap₂, _∙_}
 use mathlib.Core.Bool.{Bool, false}
 use mathlib.Core.List.{List}
-use Prim.Native.Nat.{ℕ, _+_, _-_, _≤_, _<_}
+use Prim.Native.Nat.{ℕ, _+_, _-_, _≤_}
 use native.Mathlib.Omega.{arith}
 use lib.ListN.{length, getD, take, drop, length-drop}
 use borrow.Author.Tests.{ne-eqb}
 use Rattle.octets.specs.Numbers.{numberAt}
 use Rattle.octets.specs.ListsLaws.{take-rest}
 use Rattle.carriers.specs.declared.Carrier.{Carrier}
-use Rattle.carriers.specs.Carriers.{codeOf, headWidth, headerOf, hasReserved, bareCode, inEights, isJoined, octets}
+use Rattle.carriers.specs.Carriers.{codeOf, headerOf, bareCode, octets}
 use Rattle.frames.specs.declared.Head.{Head}
 use Rattle.frames.specs.declared.Step.{Step}
-use Rattle.frames.specs.Frame.{wholeSize, codeIn, sizeIn, headIn, orMark, firstOf}
+use Rattle.frames.specs.Frame.{codeIn, sizeIn, headIn, orMark, firstOf}
 use Rattle.frames.specs.Step.{headAt, stepAt}
 use Rattle.frames.specs.Skip.{Wide, Skips, Passes}
 use Rattle.frames.specs.HeadLaws.{head-option}

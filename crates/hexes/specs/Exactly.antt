@@ -4,12 +4,11 @@ use mathlib.Core.Path.{_≡_, refl, ap, _∙_}
 use mathlib.Core.Logic.{_↔_}
 use mathlib.Core.Bool.{Bool, true, false, _||_, false≢true}
 use mathlib.Core.List.{List, [], _∷_}
-use Prim.Native.Nat.{ℕ, _≤_, _<_}
+use Prim.Native.Nat.{ℕ, _≤_}
 use native.Mathlib.Omega.{arith}
 use borrow.Author.Tests.{eqb-true}
 use lib.Dec.{eqb}
 use lib.ListN.{length}
-use Rattle.octets.specs.Numbers.{Bytes}
 use Rattle.hexes.specs.Hexes.{digit, value, separator, octet, Read, octets, other, onto, pairs, some, readHex}
 use Rattle.hexes.specs.HexesLaws.{by-digit, value-decimal, value-upper, value-lower, digit-decimal, digit-upper, digit-lower, digit-separator, pairs-separator, pairs-pair, pairs-first, pairs-second, some-is, is-some}
 use Rattle.hexes.specs.Spelled.{Digit, decimal, upper, lower, Separator, space, tab, line-feed, carriage-return, colon, Spelled, nothing, separated, paired}
@@ -27,11 +26,6 @@ digit-is : {x v : ℕ} → Digit x v → (digit x ≡ true) × (value x ≡ v)
 digit-is {x} {v} (decimal h e) = (digit-decimal x (omega arith) (omega arith), value-decimal x (omega arith) ∙ omega arith)
 digit-is {x} {v} (upper h k e) = (digit-upper x (omega arith) (omega arith), value-upper x (omega arith) (omega arith) ∙ omega arith)
 digit-is {x} {v} (lower h k e) = (digit-lower x (omega arith) (omega arith), value-lower x (omega arith) ∙ omega arith)
-
-digit-small : {x v : ℕ} → Digit x v → v < 16
-digit-small (decimal h e) = omega arith
-digit-small (upper h k e) = k
-digit-small (lower h k e) = k
 
 separator-says : (x : ℕ) → separator x ≡ true → Separator x
 unfolding separator
@@ -112,11 +106,3 @@ spelled-once {t} {bs} {cs} s u =
     let e : pairs t ≡ octets bs = spelled-read s in
     let f : pairs t ≡ octets cs = spelled-read u in
     cc
-
-pub spelled-bytes : {t bs : List ℕ} → Spelled t bs → Bytes bs
-spelled-bytes nothing = tt
-spelled-bytes (separated x s) = spelled-bytes s
-spelled-bytes (paired d e s) = (omega (arith, digit-small d, digit-small e), spelled-bytes s)
-
-pub read-bytes : (t bs : List ℕ) → readHex t ≡ octets bs → Bytes bs
-read-bytes t bs e = spelled-bytes (hex-exactly t bs .0 e .0)

@@ -135,13 +135,6 @@ not-before {s} {n} {fs} l e = omega (arith, l .most s (suc n) (record { inside =
     at zero h = rw (add-zero s) e
     at (suc i) h = rw (add-suc s i) (rw (suc-add s i) at (l .zeros .zero i (omega arith)))
 
-pub not-after : {s n : ℕ} {fs : List ℕ} → Longest fs s n → s + n < length fs → getD fs (s + n) 0 ≡ 0 → ⊥
-not-after {s} {n} {fs} l k e = omega (arith, l .most s (suc n) (record { inside = omega arith; zero = λ i h. go i h (eqb i n) refl }))
-  where
-    go : (i : ℕ) → i < suc n → (b : Bool) → eqb i n ≡ b → getD fs (s + i) 0 ≡ 0
-    go i h true t = let q : i ≡ n = eqb-true _ _ t in rw q e
-    go i h false t = let ne : i < n = omega (arith, eqb-false i n t) in l .zeros .zero i ne
-
 pub longest-unique : {s n t m : ℕ} {fs : List ℕ} → Longest fs s n → Longest fs t m → (s ≡ t) × (n ≡ m)
 longest-unique {s} {n} {t} {m} l k =
     let e : n ≡ m = omega (arith, l .most t m (k .zeros), k .most s n (l .zeros)) in

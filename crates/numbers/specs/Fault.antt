@@ -10,6 +10,7 @@ field = 20
 abbrev pub priority : ℕ
 priority = 21
 
+-- the name is not acceptable
 abbrev pub name : ℕ
 name = 22
 

@@ -9,7 +9,7 @@ carrier = 1
 abbrev pub input : ℕ
 input = 2
 
--- area framing
+-- area framing: a header or body runs past the end, or carrier 3 length 0
 abbrev pub framing : ℕ
 framing = 3
 

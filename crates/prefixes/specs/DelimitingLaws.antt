@@ -14,7 +14,7 @@ use Rattle.octets.specs.ListsLaws.{flat-append}
 use Rattle.octets.specs.Fields.{putCounted}
 use Rattle.carriers.specs.declared.Carrier.{Carrier}
 use Rattle.carriers.specs.Carriers.{codeOf, headWidth, headerOf, inEights}
-use Rattle.frames.specs.Emit.{lengthIn, headOf, optionOf, CanSay, Fits}
+use Rattle.frames.specs.Emit.{lengthIn, headOf, optionOf, Fits}
 use Rattle.frames.specs.Frame.{wholeSize}
 use Rattle.frames.specs.EmitLaws.{said}
 use Rattle.prefixes.specs.Prefix.{Leading, SelfDelimiting}

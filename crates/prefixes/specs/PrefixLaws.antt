@@ -1,7 +1,7 @@
 -- Demand 3, its first half: of two sheets of one carrier that writing accepts, the octets of the first are a leading part of the second's
 -- exactly if the first sheet's records are the first records of the second, in order. In carrier 1 these are the joined octets before they
 -- are cut into options. Assumes nothing.
-use mathlib.Core.Path.{_≡_, refl, sym, ap, ap₂, _∙_}
+use mathlib.Core.Path.{_≡_, sym, ap, ap₂, _∙_}
 use mathlib.Core.Logic.{_↔_}
 use mathlib.Core.Bool.{Bool, true, false, cond}
 use mathlib.Core.List.{List, [], _++_, map, append-assoc}

@@ -33,7 +33,7 @@ use Rattle.sheets.specs.Sheets.{frontSize, sheetOf}
 use Rattle.sheets.specs.SheetsLaws.{length-sheet}
 use Rattle.reading.specs.declared.Reading.{Reading}
 use Rattle.reading.specs.Reading.{Yield, single, joinedYield, yieldOf, arrivals, inOrder, Done, Answer, refuse, done, readYields, readBlocks, readFramed, readArea, readChosen, readOf, told, left, Reads}
-use Rattle.reading.specs.Tally.{recordsAt, Tally, Shows, alone, answerOf}
+use Rattle.reading.specs.Tally.{recordsAt, Tally, Shows, answerOf}
 use Rattle.reading.specs.ListLaws.{sort-laid}
 use Rattle.reading.specs.Walks.{Tallying}
 

@@ -1,6 +1,6 @@
 // Reading: an area under a carrier becomes a record sheet (document 01, "Reading", "Area walk", "Numbers given back").
-// The area is walked once, and in carrier 1 with several options once more to join them; each body is examined as it is met, and the places
-// of at most 16 kept bodies are remembered. Only when the answer is 0 are they ordered and written. The tests stand in the order 1, 2, 3, 4, 5.
+// The area is walked once; in carrier 1 with several options it is walked to the second of them, and then from the first on to join them. Each
+// body is examined as it is met, and the places of at most 16 kept bodies are remembered. Only when the answer is 0 are they ordered and written. The tests stand in the order 1, 2, 3, 4, 5.
 ghost use mathlib.Core.Path.{_≡_};
 ghost use mathlib.Core.Bool.{true};
 ghost use mathlib.Core.List.{[], _∷_};

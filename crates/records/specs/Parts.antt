@@ -1,23 +1,15 @@
 -- What the functions over the parts of a body answer and write. Assumes nothing: these are definitions.
-use mathlib.Core.Bool.{false, cond}
+use mathlib.Core.Bool.{false}
 use mathlib.Core.List.{List, _++_}
 use Prim.Native.Nat.{ℕ}
-use lib.Dec.{eqb}
 use lib.ListN.{length}
 use Rattle.octets.specs.Numbers.{be}
 use Rattle.carriers.specs.declared.Carrier.{Carrier}
 use Rattle.carriers.specs.Carriers.{asText}
 use Rattle.addresses.specs.Addresses.{listOf, keptOf}
 use Rattle.blocks.specs.declared.Head.{Head}
-use Rattle.blocks.specs.Block.{Fields}
-use Rattle.judge.specs.declared.Side.the-variants.{Reading}
-use Rattle.judge.specs.Judge.{faultOf}
 use Rattle.records.specs.declared.Examined.{Examined}
-use Rattle.records.specs.Records.{Outcome, faulty, kept, nameAs, keepOf, staying, modeOf}
-
--- what fields yield: a fault of 21 to 28, or a record
-abbrev pub yieldOf : Carrier → Fields → Outcome
-yieldOf c f = cond (eqb (faultOf Reading c f) 0) (kept (keepOf c f)) (faulty (faultOf Reading c f))
+use Rattle.records.specs.Records.{nameAs, staying, modeOf}
 
 -- what is answered of a body with a fault
 abbrev pub discarded : ℕ → Examined

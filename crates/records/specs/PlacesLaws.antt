@@ -24,9 +24,9 @@ use Rattle.judge.specs.Passed.{Passed}
 use Rattle.judge.specs.JudgeLaws.{carrier-width, fault-passed}
 use Rattle.records.specs.declared.Examined.{Examined}
 use Rattle.records.specs.declared.Given.{Given}
-use Rattle.records.specs.Records.{Outcome, faulty, kept, outcomeOf, staying, nameAs, keepOf, headSize, recordOf}
+use Rattle.records.specs.Records.{Outcome, faulty, kept, outcomeOf, staying, nameAs, keepOf, headSize, recordOf, yieldOf}
 use Rattle.records.specs.Examined.{examinedOf, Clean, Kept, octetsIn}
-use Rattle.records.specs.Parts.{yieldOf, discarded, headPart}
+use Rattle.records.specs.Parts.{discarded, headPart}
 use Rattle.records.specs.Given.{recordAs, GivenTail, Puttable}
 use Rattle.records.specs.GivenLaws.{given-record, asks-head, writes-bare}
 use Rattle.records.specs.RecordsLaws.{yield-kept, outcome-bad, outcome-fields, name-small, kept-count-small, kept-small}

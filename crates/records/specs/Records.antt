@@ -47,10 +47,13 @@ abbrev pub onParsed : {A : Type 0} → Parsed → (ℕ → A) → (Fields → A)
 onParsed (bad k) short next = short k
 onParsed (fields f) short next = next f
 
+-- 21 to 28 of the fields, or their record
+abbrev pub yieldOf : Carrier → Fields → Outcome
+yieldOf c f = cond (eqb (faultOf Reading c f) 0) (kept (keepOf c f)) (faulty (faultOf Reading c f))
+
 -- 20 and 29 by `parse`, then 21 to 28
 unfoldable pub outcomeOf : Carrier → List ℕ → Outcome
-outcomeOf c body =
-    onParsed (parse c body) faulty (λ f. cond (eqb (faultOf Reading c f) 0) (kept (keepOf c f)) (faulty (faultOf Reading c f)))
+outcomeOf c body = onParsed (parse c body) faulty (yieldOf c)
 
 -- ---- a record's octets
 

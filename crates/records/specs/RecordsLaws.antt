@@ -28,8 +28,8 @@ use Rattle.judge.specs.declared.Side.the-variants.{Reading, Writing}
 use Rattle.judge.specs.Judge.{nameOf, faultOf}
 use Rattle.judge.specs.Passed.{PassedTail, Passed}
 use Rattle.judge.specs.JudgeLaws.{carrier-width, fault-passed, read-text, read-name}
-use Rattle.records.specs.Records.{faulty, kept, outcomeOf, staying, keepOf, headSize, tailSize, modeOf, tailOf, recordBy, recordOf}
-use Rattle.records.specs.Parts.{yieldOf, nameIn}
+use Rattle.records.specs.Records.{faulty, kept, outcomeOf, staying, keepOf, headSize, tailSize, modeOf, tailOf, recordBy, recordOf, yieldOf}
+use Rattle.records.specs.Parts.{nameIn}
 
 -- ---- what fields yield
 

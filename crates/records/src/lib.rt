@@ -1,5 +1,6 @@
 // One body, in carrier 1 one instance: whether it yields a record, how many octets the record has in a sheet, and writing it there.
-// `put_fields` is the one place where a record's fields are put into a sheet, and where unusable addresses are dropped.
+// `put_fields` puts a record's fields into a sheet, and is the one place where unusable addresses are dropped; a name alone is put by its first
+// half, `put_head`.
 ghost use mathlib.Core.Path.{_≡_};
 ghost use mathlib.Core.Bool.{true};
 ghost use Prim.Native.Nat.{ℕ, _+_, _≤_, _<_};
@@ -9,17 +10,17 @@ ghost use Rattle.numbers.specs.Limit as limit;
 ghost use Rattle.addresses.specs.Addresses.{Width, listOf, keptOf};
 ghost use Rattle.carriers.specs.Carriers.{addressWidth};
 ghost use Rattle.blocks.specs.Block.{headWith, fieldsOf, nameOnly, whole};
-ghost use Rattle.records.specs.Records.{outcomeOf, nameAs, staying, headSize, tailSize, modeOf};
+ghost use Rattle.records.specs.Records.{outcomeOf, nameAs, staying, headSize, tailSize, modeOf, yieldOf};
 ghost use Rattle.records.specs.Examined.{examinedOf, Clean, Kept, octetsIn};
 ghost use Rattle.records.specs.Given.{recordAs, Puttable};
-ghost use Rattle.records.specs.Parts.{yieldOf, discarded, nameIn, namePart, headPart, tailPart};
+ghost use Rattle.records.specs.Parts.{discarded, nameIn, namePart, headPart, tailPart};
 use blocks::Head;
 use blocks::Places;
 use carriers::Carrier;
 use judge::Side;
 
 // A body's fault, or 0 with its record's priority and size in a sheet, and whether every address is known to stay, so that the
-// list can be copied as it stands. Of a body with a fault nothing is known.
+// list can be copied as it stands. Of a body with a fault priority and size are 0, and `clean` means nothing.
 pub struct Examined {
     pub fault: usize,
     pub priority: usize,

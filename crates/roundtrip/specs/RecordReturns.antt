@@ -171,7 +171,3 @@ module _ (c : Carrier) (plain : Plain c) where
         ap (λ (bs : List (List ℕ)). readBlocks c bs room) (blocks-plain c (bodiesOf c rs) plain)
         ∙ brings-answer c (map (yieldOf c) (bodiesOf c rs)) rs room (bodies-bring rs sound) rising few
         ∙ ap (λ (n : ℕ). answerKept c rs n room) (length-map (bodiesOf c rs) (yieldOf c) ∙ length-map rs (bodyOf c))
-
-    -- accepted records come back from their blocks
-    pub blocks-return : length (sheetOf c rs) ≤ room → readFramed c (framed (bodiesOf c rs)) room ≡ done (faultless (sheetOf c rs) (length rs))
-    blocks-return h = blocks-answer ∙ kept-room c rs (length rs) room h

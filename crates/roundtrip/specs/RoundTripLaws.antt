@@ -1,6 +1,6 @@
 -- Demand 2, last sentence: the octets defined for an accepted sheet, read with room for it, give the sheet back; with less room, refusal 5.
 -- Assumes nothing.
-use mathlib.Core.Path.{_≡_, refl, sym, ap, ap₂, subst, _∙_}
+use mathlib.Core.Path.{_≡_, sym, ap, ap₂, subst, _∙_}
 use mathlib.Core.Bool.{Bool, true, false, cond}
 use mathlib.Core.Logic.{inl}
 use mathlib.Core.List.{List}

@@ -1,7 +1,6 @@
 // The head of a record sheet, house edition 1 (document 01, "The record sheet"): the letters RSV, the version, the carrier and the
 // record count. The letters and the version stand here once, for writing a sheet's head and for comparing when a sheet is taken.
-ghost use mathlib.Core.Path.{_≡_};
-ghost use Prim.Native.Nat.{_≤_, _<_};
+ghost use Prim.Native.Nat.{_≤_};
 ghost use lib.ListN.{length};
 ghost use Rattle.octets.specs.Over.{Wrote};
 ghost use Rattle.sheets.specs.Sheets.{frontSize, frontOf};

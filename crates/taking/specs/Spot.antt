@@ -118,5 +118,5 @@ pub record Sized (p : Spot) : Type 0 where
   pub priority : p .priority < 65536
   pub lifetime : p .lifetime < 4294967296
   pub nlen : p .nlen < 256
-  pub alen : p .alen ≤ 4080
+  pub alen : p .alen ≤ 4080  -- 255 addresses of 16 octets
   pub plen : p .plen < 65536

@@ -2,7 +2,6 @@
 -- `taken-standing`), each turn moves it to the index after a record (`standing-step`), and at the sheet's end no record is left
 -- (`standing-none`). Assumes nothing.
 use mathlib.Core.Path.{_≡_, refl, sym, ap, _∙_}
-use mathlib.Core.Logic.{_↔_}
 use mathlib.Core.Bool.{Bool, true, false, false≢true}
 use mathlib.Core.List.{List, [], _∷_}
 use Prim.Native.Nat.{ℕ, zero, suc, _-_, _≤_, _<_}
@@ -36,12 +35,6 @@ past c s at h =
     rw (lt-ltb (length s - at) headSize k)
 
 module _ {c : Carrier} {s : List ℕ} {at : ℕ} where
-  pub standing-end : Standing c s at [] ↔ (at ≡ length s)
-  standing-end = (ended, none)
-    where
-      ended : Standing c s at [] → at ≡ length s
-      ended (none e) = e
-
   module _ {r : Fields} {rs : List Fields} where
     -- a record has octets
     pub standing-before : Standing c s at (r ∷ rs) → at < length s
@@ -77,10 +70,6 @@ module _ {c : Carrier} {s : List ℕ} {at : ℕ} where
   pub standing-none : {rs : List Fields} → Standing c s at rs → length s ≤ at → rs ≡ []
   standing-none (none e) k = refl
   standing-none (one g f h) k = let j : at < length s = standing-before (one g f h) in absurd (omega arith)
-
-  pub standing-some : {rs : List Fields} → Standing c s at rs → 0 < length rs → at < length s
-  standing-some (none e) k = absurd (omega arith)
-  standing-some (one g f h) k = standing-before (one g f h)
 
   -- a turn of the loop
   pub standing-step : {rs : List Fields} {p : Spot} → p ≡ spotOf c s at → Standing c s at rs → at < length s → Step c s at rs p

@@ -4,14 +4,12 @@ use mathlib.Core.Path.{_≡_, refl, sym, ap, _∙_}
 use mathlib.Core.Bool.{Bool, true, false, cond}
 use mathlib.Core.Logic.{inl, inr}
 use mathlib.Core.List.{List, [], _∷_, _++_, append-nil}
-use Prim.Native.Nat.{ℕ, zero, suc, _+_, _-_, _≤_, _<_}
+use Prim.Native.Nat.{ℕ, zero, suc, _+_, _-_, _≤_}
 use native.Mathlib.Omega.{arith}
 use lib.Dec.{eqb}
-use lib.ListN.{length, take, drop, length-append, length-take, length-drop}
+use lib.ListN.{length, take, length-append, length-take, length-drop}
 use lib.Seq.{take-append-add}
 use borrow.Author.Tests.{eqb-true, ne-eqb}
-use Rattle.octets.specs.Numbers.{Bytes}
-use Rattle.octets.specs.NumbersLaws.{bytes-take, bytes-drop}
 use Rattle.octets.specs.Lists.{All}
 use Rattle.names.specs.Names.{alnum, Ldh, Label, wire, IsName}
 use Rattle.texts.specs.Texts.{dotted, text, IsText, run, wireFrom, wireOf, dotsFrom, textOf}
@@ -158,7 +156,7 @@ text-of-wire w o = record {
   short = (let h = o .short in let l = text-length w in omega arith);
 }
 
--- ---- octets stay octets
+-- ---- labels of a text are short
 
 pub run-short : (t : List ℕ) → run t ≤ length t
 unfolding run
@@ -168,26 +166,3 @@ run-short (x ∷ xs) = go (eqb x 46) (run-short xs)
     go : (b : Bool) → run xs ≤ length xs → cond b 0 (suc (run xs)) ≤ suc (length xs)
     go true h = omega arith
     go false h = omega arith
-
-from-bytes : (t : List ℕ) → length t ≤ 255 → Bytes t → Bytes (wireFrom t)
-unfolding wireFrom
-from-bytes [] h b = (omega arith, tt)
-from-bytes (x ∷ xs) h b = (go (eqb x 46) (run-short xs) (b .0), from-bytes xs (omega arith) (b .1))
-  where
-    go : (c : Bool) → run xs ≤ length xs → x < 256 → cond c (run xs) x < 256
-    go true r l = omega arith
-    go false r l = l
-
-pub wire-bytes : (t : List ℕ) → length t ≤ 255 → Bytes t → Bytes (wireOf t)
-unfolding wireOf
-wire-bytes t h b = (let r = run-short t in omega arith, from-bytes t h b)
-
-dots-bytes : (k : ℕ) (w : List ℕ) → Bytes w → Bytes (dotsFrom k w)
-unfolding dotsFrom
-dots-bytes k [] b = tt
-dots-bytes zero (x ∷ xs) b = (omega arith, dots-bytes x xs (b .1))
-dots-bytes (suc k) (x ∷ xs) b = (b .0, dots-bytes k xs (b .1))
-
-pub text-bytes : (w : List ℕ) → Bytes w → Bytes (textOf w)
-unfolding textOf
-text-bytes w b = dots-bytes _ _ (bytes-take (length w - 2) (drop 1 w) (bytes-drop 1 w b))

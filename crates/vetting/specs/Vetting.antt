@@ -1,9 +1,8 @@
--- Vetting a sheet (01, Numbers given back: "Writing checks 2, 40, 41, 42, 4, 43, then 21 to 28 record by record, then 44, then 5"): the one test of a
--- sheet, 2 to 28, that every call makes which takes one; and what else the call returns of a sheet that passes it, for 44 and 5. Assumes nothing:
--- these are definitions.
+-- Vetting a sheet (01, Numbers given back: "Writing checks 2, 40, 41, 42, 4, 43, then 21 to 28 record by record, then 44, then 5"): the one place where a
+-- sheet's records are tested, up to 28; and what else the call returns of a sheet that passes, for 44 and 5. Assumes nothing: these are definitions.
 use mathlib.Core.Bool.{Bool, false, cond, _||_}
 use mathlib.Core.List.{List, [], _∷_, map}
-use Prim.Native.Nat.{ℕ, _+_}
+use Prim.Native.Nat.{ℕ}
 use lib.Dec.{ltb, eqb}
 use lib.ListN.{length}
 use Rattle.octets.specs.Lists.{flat}
@@ -49,9 +48,12 @@ vetOf s = vetTaken (takeOf s)
 abbrev pub streamOf : Carrier → List Fields → List ℕ
 streamOf c rs = cond (isJoined c) (joinedOf rs) (flat (map (ownOption c) rs))
 
--- 44: a carrier 3 record above 2,040 octets when rounded
+-- 44: a carrier 3 record above 2,040 octets when rounded; by the octets of an option, and of a record
+abbrev pub largeBy : Carrier → ℕ → Bool
+largeBy c n = cond (inEights c) (ltb limit.option n) false
+
 abbrev pub large : Carrier → Fields → Bool
-large c r = cond (inEights c) (ltb limit.option (optionSize r)) false
+large c r = largeBy c (optionSize r)
 
 unfoldable pub anyLarge : Carrier → List Fields → Bool
 anyLarge c [] = false

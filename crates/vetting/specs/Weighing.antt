@@ -1,15 +1,14 @@
 -- The octets that a sheet's records take, and what the pass over them finds: the first fault, 21 to 28, whether a record is large (44), and how
 -- many octets they are one after another. Assumes nothing: these are definitions.
 use mathlib.Core.Path.{_≡_}
-use mathlib.Core.Bool.{Bool, false, cond, _||_}
+use mathlib.Core.Bool.{Bool, cond, _||_}
 use mathlib.Core.List.{List, []}
 use Prim.Native.Nat.{ℕ, _+_, _-_, _*_, _≤_}
-use lib.Dec.{ltb}
 use lib.ListN.{length, take, drop}
 use Rattle.octets.specs.Lists.{All}
 use Rattle.numbers.specs.Limit as limit
 use Rattle.carriers.specs.declared.Carrier.{Carrier}
-use Rattle.carriers.specs.Carriers.{inEights, isJoined}
+use Rattle.carriers.specs.Carriers.{isJoined}
 use Rattle.blocks.specs.Block.{Fields, headWith, fieldsOf}
 use Rattle.judge.specs.declared.Side.the-variants.{Writing}
 use Rattle.judge.specs.declared.Judged.{Judged}
@@ -61,10 +60,6 @@ shareOctets c full n a p = cond (isJoined c) (instanceOctets full n a p) (option
 
 abbrev pub weightOf : Carrier → Fields → ℕ
 weightOf c r = shareOctets c (r .full) (length (r .name)) (length (r .addresses)) (length (r .parameters))
-
--- 44, by the octets of an option
-abbrev pub largeBy : Carrier → ℕ → Bool
-largeBy c n = cond (inEights c) (ltb limit.option n) false
 
 -- the lengths of a name, of addresses and of parameters without a fault
 pub record Light (n a p : ℕ) : Type 0 where

@@ -12,7 +12,7 @@ use Rattle.numbers.specs.Limit as limit
 use Rattle.octets.specs.Lists.{All, flat}
 use Rattle.octets.specs.Numbers.{Bytes}
 use Rattle.carriers.specs.declared.Carrier.{Carrier}
-use Rattle.carriers.specs.declared.Carrier.the-variants.{Dhcp4, Router}
+use Rattle.carriers.specs.declared.Carrier.the-variants.{Dhcp4}
 use Rattle.carriers.specs.declared.Facts.{Facts}
 use Rattle.carriers.specs.Carriers.{factsOf, addressWidth, inEights, isJoined}
 use Rattle.carriers.specs.CarriersLaws.{eights-router}
@@ -35,8 +35,8 @@ use Rattle.taking.specs.Standing.{Step}
 use Rattle.taking.specs.StandingLaws.{standing-none, standing-step, taken-standing}
 use Rattle.taking.specs.Exactly.{taken-sheet}
 use Rattle.vetting.specs.declared.Weighed.{Weighed}
-use Rattle.vetting.specs.Vetting.{streamOf, firstFault, large, anyLarge}
-use Rattle.vetting.specs.Weighing.{recordsOf, TakenAs, cutAt, judgedBy, shareOf, shareOctets, weightOf, largeBy, Light, most, WeighsOne, Weighs, Weighing}
+use Rattle.vetting.specs.Vetting.{streamOf, firstFault, large, anyLarge, largeBy}
+use Rattle.vetting.specs.Weighing.{recordsOf, TakenAs, cutAt, judgedBy, shareOf, shareOctets, weightOf, Light, most, WeighsOne, Weighs, Weighing}
 
 -- ---- octets
 

@@ -119,11 +119,6 @@ pub accepted-writes : (s : List ℕ) (c : Carrier) (rs : List Fields) (room : �
 unfolding writeOf
 accepted-writes s c rs room a = rw (accepted-vetted s c rs a, sound-small c rs (a .sound))
 
--- with room, its octets
-pub accepted-written : (s : List ℕ) (c : Carrier) (rs : List Fields) (room : ℕ) → Accepted s c rs → length (octetsOf c rs) ≤ room
-    → writeOf s room ≡ written (octetsOf c rs)
-accepted-written s c rs room a h = rw (accepted-writes s c rs room a, le-ltb room (length (octetsOf c rs)) h)
-
 -- 0 or 5
 abbrev pub Accepting : ℕ → Type 0
 Accepting k = (k ≡ 0) ⊎ (k ≡ refusal.room)

@@ -1,5 +1,4 @@
 -- `frames::bare_code` meets its contract. Assumes nothing.
-use borrow.Author.Needs.{needs}
 use Rattle.frames.proofs.bare_code.Statement.{statement}
 use Rattle.frames.proofs.bare_code.Tie as tie
 

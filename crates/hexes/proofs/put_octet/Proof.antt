@@ -1,7 +1,7 @@
 -- `hexes::put_octet` meets its contract: one digit after the other. Assumes nothing.
 use borrow.Author.Needs.{needs}
 use mathlib.Core.Path.{ap₂}
-use mathlib.Core.List.{List, [], _∷_}
+use mathlib.Core.List.{[], _∷_}
 use Prim.Native.Nat.{ℕ}
 use Rattle.chars.specs.PutsLaws.{puts-then, puts-as}
 use Rattle.hexes.proofs.put_octet.Statement.{statement}

@@ -1,6 +1,6 @@
 -- `octets::copy_held` meets its contract: what is held is `src`, and then it is written. Assumes nothing.
 use borrow.Author.Needs.{needs}
-use mathlib.Core.Path.{_≡_, sym, ap}
+use mathlib.Core.Path.{_≡_, ap}
 use native.Mathlib.Omega.{arith}
 use lib.ListN.{length, take}
 use Rattle.octets.specs.OverLaws.{wrote-front}

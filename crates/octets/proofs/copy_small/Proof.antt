@@ -1,5 +1,4 @@
 -- `octets::copy_small` meets its contract: the first octets, and then the last, which reach back to them. Assumes nothing.
-use mathlib.Core.Path.{ap}
 use native.Mathlib.Omega.{arith}
 use Prim.Native.Nat.{_-_}
 use lib.ListN.{length, length-take, length-drop}

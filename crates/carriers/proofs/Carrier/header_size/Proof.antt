@@ -1,6 +1,6 @@
 -- `carriers::Carrier::header_size` meets its contract: code and length are as wide as the row says. Assumes nothing.
 use mathlib.Core.Path.{ap}
-use Prim.Native.Nat.{ℕ, _+_}
+use Prim.Native.Nat.{_+_}
 use native.Mathlib.Omega.{arith}
 use borrow.Author.Needs.{needs}
 use Rattle.carriers.specs.declared.Facts.{Facts}

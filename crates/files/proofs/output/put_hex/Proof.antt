@@ -1,7 +1,6 @@
 -- `files::output::put_hex` meets its contract. The loop's invariant: `o` is at most the length of `out`, which stays. Assumes nothing.
 use mathlib.Core.Path.{_≡_}
 use Prim.Native.Nat.{_-_, _≤_}
-use native.Mathlib.Omega.{arith}
 use borrow.Author.Needs.{needs}
 use lib.ListN.{length}
 use Rattle.io.proofs.Counting.{counts}
