@@ -1,0 +1,137 @@
+-- How many octets a sheet has that reading gives (01, "The record sheet"). Assumes nothing.
+use mathlib.Core.Path.{_≡_, refl, subst}
+use mathlib.Core.Bool.{Bool, true, false, cond}
+use mathlib.Core.List.{List, [], _∷_, map}
+use Prim.Native.Nat.{ℕ, zero, suc, _+_, _*_, _-_, _≤_, _<_}
+use native.Mathlib.Omega.{arith}
+use borrow.Author.Tests.{ltb-true, ltb-false}
+use lib.Dec.{ltb, eqb}
+use lib.ListN.{length, take, drop, length-append}
+use Rattle.octets.specs.Lists.{All}
+use Rattle.octets.specs.ListsLaws.{all-append}
+use Rattle.octets.specs.Numbers.{at16}
+use Rattle.numbers.specs.Refusal as refusal
+use Rattle.numbers.specs.Fault as fault
+use Rattle.numbers.specs.Limit as limit
+use Rattle.carriers.specs.declared.Carrier.{Carrier}
+use Rattle.carriers.specs.declared.Carrier.the-variants.{Dhcp4}
+use Rattle.carriers.specs.declared.Chosen.{Chosen}
+use Rattle.carriers.specs.declared.Chosen.the-variants.{Known, Unknown}
+use Rattle.carriers.specs.Carriers.{chosenOf}
+use Rattle.carriers.specs.CarriersLaws.{by-joined}
+use Rattle.frames.specs.Frame.{Framed, framed, frame, blocksOf}
+use Rattle.frames.specs.Frame as area
+use Rattle.blocks.specs.Block.{Fields}
+use Rattle.records.specs.Records.{Outcome, faulty, kept, outcomeOf, recordOf}
+use Rattle.records.specs.RecordsLaws.{record-small}
+use Rattle.sheets.specs.Sheets.{recordsOf, sheetOf}
+use Rattle.sheets.specs.SheetsLaws.{length-sheet}
+use Rattle.reading.specs.Reading.{Yield, discarded, yields, single, ahead, instance, instancesFrom, joinedYield, yieldOf, recordsIn, arrivals, discardedIn, firstFault, inOrder, Done, Answer, refuse, done, settle, readYields, readFramed, readChosen, readOf}
+use Rattle.reading.specs.ListLaws.{sort-laid}
+
+-- ---- what a block yields
+
+-- a record of at most 2,298 octets
+abbrev Small : Carrier → Fields → Type 0
+Small c r = length (recordOf c r) ≤ limit.recordSize
+
+abbrev Smalls : Carrier → Yield → Type 0
+Smalls c y = All (Small c) (recordsIn y)
+
+-- a discarded block has no record
+unless-small : (c : Carrier) (bad : Bool) (k : ℕ) (y : Yield) → Smalls c y → Smalls c (cond bad (discarded k) y)
+unless-small c true k y h = tt
+unless-small c false k y h = h
+
+single-small : (c : Carrier) (o : Outcome) → ((r : Fields) → o ≡ kept r → Small c r) → Smalls c (single o)
+single-small c (faulty k) h = tt
+single-small c (kept r) h = (h r refl, tt)
+
+ahead-small : (c : Carrier) (o : Outcome) (y : Yield) → ((r : Fields) → o ≡ kept r → Small c r) → Smalls c y → Smalls c (ahead o y)
+ahead-small c (faulty k) y h later = tt
+ahead-small c (kept r) (discarded k) h later = tt
+ahead-small c (kept r) (yields rs) h later = (h r refl, later)
+
+instance-small : (l : List ℕ) (go : ℕ → Yield) → ((k : ℕ) → Smalls Dhcp4 (go k)) → Smalls Dhcp4 (instance l go)
+instance-small l go later =
+    let b : List ℕ = take (at16 l 0) (drop 2 l) in
+    let y : Yield = ahead (outcomeOf Dhcp4 b) (go (1 + at16 l 0)) in
+    let past : Bool = ltb (length l - 2) (at16 l 0) in
+    let small : Smalls Dhcp4 y = ahead-small Dhcp4 (outcomeOf Dhcp4 b) (go (1 + at16 l 0)) (record-small Dhcp4 b) (later (1 + at16 l 0)) in
+    unless-small Dhcp4 (ltb (length l) 2) fault.field (cond past (discarded fault.field) y) (unless-small Dhcp4 past fault.field y small)
+
+instances-small : (k : ℕ) (l : List ℕ) → Smalls Dhcp4 (instancesFrom k l)
+unfolding instancesFrom
+instances-small k [] = tt
+instances-small zero (x ∷ xs) = instance-small (x ∷ xs) (λ k. instancesFrom k xs) (λ k. instances-small k xs)
+instances-small (suc k) (x ∷ xs) = instances-small k xs
+
+joined-small : (b : List ℕ) → Smalls Dhcp4 (joinedYield b)
+unfolding joinedYield
+joined-small b = unless-small Dhcp4 (eqb (length b) 0) fault.field (instancesFrom 0 b) (instances-small 0 b)
+
+block-small : (c : Carrier) (b : List ℕ) → Smalls c (yieldOf c b)
+block-small =
+    by-joined (λ c. (b : List ℕ) → Smalls c (yieldOf c b)) joined-small
+    (λ c e b. rw e (single-small c (outcomeOf c b) (record-small c b)))
+
+arrivals-small : (c : Carrier) (bs : List (List ℕ)) → All (Small c) (arrivals (map (yieldOf c) bs))
+arrivals-small c [] = tt
+arrivals-small c (b ∷ bs) = all-append (Small c) (recordsIn (yieldOf c b)) (arrivals (map (yieldOf c) bs)) (block-small c b) (arrivals-small c bs)
+
+-- ---- a sheet of such records
+
+records-few : (c : Carrier) (rs : List Fields) → All (Small c) rs → length (recordsOf c rs) ≤ length rs * limit.recordSize
+records-few c [] h = omega arith
+records-few c (r ∷ rs) h = omega (arith, length-append (recordOf c r) (recordsOf c rs), h .0, records-few c rs (h .1))
+
+-- 16 records at most, in order
+ordered-few : (c : Carrier) (rs : List Fields) → All (Small c) rs → length rs ≤ limit.records → length (sheetOf c (inOrder rs)) ≤ limit.sheetSize
+ordered-few c rs h few =
+    omega (arith, length-sheet c (inOrder rs), sort-laid (recordOf c) (λ (r : Fields). r .priority) rs, records-few c rs h)
+
+-- ---- the answer
+
+-- a sheet that is given has at most 36,775 octets, and 5 is answered for less room alone
+abbrev Within : ℕ → Answer → Type 0
+Within room (refuse k) = k ≡ refusal.room → room < limit.sheetSize
+Within room (done d) = length (d .sheet) ≤ limit.sheetSize
+
+settle-within : (room : ℕ) (rs : List Fields) (d : Done) → (length rs ≤ limit.records → length (d .sheet) ≤ limit.sheetSize) → Within room (settle room rs d)
+settle-within room rs d size = go (ltb limit.records (length rs)) refl (ltb room (length (d .sheet))) refl
+  where
+    go : (more : Bool) → ltb limit.records (length rs) ≡ more → (short : Bool) → ltb room (length (d .sheet)) ≡ short
+        → Within room (cond more (refuse refusal.records) (cond short (refuse refusal.room) (done d)))
+    go true m short s = λ e. absurd (omega arith)
+    go false m true s = λ e. omega (arith, ltb-true room (length (d .sheet)) s, size (ltb-false _ _ m))
+    go false m false s = size (ltb-false _ _ m)
+
+yields-within : (c : Carrier) (ys : List Yield) (room : ℕ) → All (Small c) (arrivals ys) → Within room (readYields c ys room)
+yields-within c ys room h =
+    settle-within room (arrivals ys)
+    (record { sheet = sheetOf c (inOrder (arrivals ys)); found = length ys; discarded = discardedIn ys; fault = firstFault ys })
+    (ordered-few c (arrivals ys) h)
+
+framed-within : (c : Carrier) (f : Framed) (room : ℕ) → Within room (readFramed c f room)
+framed-within c area.fault room = λ e. absurd (omega arith)
+framed-within c (framed bodies) room = yields-within c (map (yieldOf c) (blocksOf c bodies)) room (arrivals-small c (blocksOf c bodies))
+
+chosen-within : (k : Chosen) (s : List ℕ) (room : ℕ) → Within room (readChosen k s room)
+chosen-within Unknown s room = λ e. absurd (omega arith)
+chosen-within (Known c) s room = go (ltb limit.input (length s))
+  where
+    go : (long : Bool) → Within room (cond long (refuse refusal.input) (readFramed c (frame c s) room))
+    go true = λ e. absurd (omega arith)
+    go false = framed-within c (frame c s) room
+
+read-within : (n : ℕ) (s : List ℕ) (room : ℕ) → Within room (readOf n s room)
+unfolding readOf
+read-within n s room = chosen-within (chosenOf n) s room
+
+-- a sheet that reading gives has at most 36,775 octets (01, "The record sheet")
+pub sheet-small : (n : ℕ) (s : List ℕ) (room : ℕ) (d : Done) → readOf n s room ≡ done d → length (d .sheet) ≤ limit.sheetSize
+sheet-small n s room d e = subst (Within room) e (read-within n s room)
+
+-- so a buffer of 36,775 octets is never too short for it (01, "The record sheet")
+pub never-short : (n : ℕ) (s : List ℕ) (room : ℕ) → limit.sheetSize ≤ room → readOf n s room ≡ refuse refusal.room → ⊥
+never-short n s room enough e = let h : room < limit.sheetSize = subst (Within room) e (read-within n s room) refl in omega arith
