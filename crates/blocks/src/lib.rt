@@ -248,8 +248,8 @@ fn attribute(carrier: Carrier, body: &[u8]) -> Places
     }
 }
 
-// Where the fields of a body stand, or its fault. (`&body[..]` makes LLVM pass pointer and length in registers. One arm for each carrier:
-// LLVM then knows its widths where they are used.)
+// Where the fields of a body stand, or its fault. (`&body[..]`, and one arm for each carrier so that LLVM knows its widths where they are
+// used: docs/DESIGN.md, Speed.)
 pub fn split(carrier: Carrier, body: &[u8]) -> Places
     ensures { λ r. ⌜ told (now (body .entry)) r ≡ parse carrier (now (body .entry)) ⌝ }
     ensures { λ r. ⌜ Inside (now (body .entry)) r ⌝ }

@@ -80,8 +80,8 @@ fn name_only_fault(c: Carrier) -> usize
     0
 }
 
-// The first of faults 21 to 28 of a record's fields; a name-only record has neither addresses nor parameters. (`&name[..]`: lent anew, a
-// slice goes on in registers.)
+// The first of faults 21 to 28 of a record's fields; a name-only record has neither addresses nor parameters. (`&name[..]`:
+// docs/DESIGN.md, Speed.)
 pub fn judge_fields(
     side: Side,
     c: Carrier,

@@ -194,7 +194,7 @@ fn copy_all(out: &mut [u8], at: usize, src: &[u8]) -> usize
     copy_each(out, at, src)
 }
 
-// Writes src at `at`, and returns the index after it. (`&src[..]`: lent anew, a slice goes on in registers.)
+// Writes src at `at`, and returns the index after it. (`&src[..]`: docs/DESIGN.md, Speed.)
 pub fn copy(out: &mut [u8], at: usize, src: &[u8]) -> usize
     requires { ⌜ at + length (now src) ≤ length (now out) ⌝ }
     ensures { λ r. ⌜ Wrote at (now (src .entry)) (now (out .entry)) r (now (out .exit)) ⌝ }

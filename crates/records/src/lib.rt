@@ -242,7 +242,7 @@ pub fn put_fields(
     end
 }
 
-// Whether a body yields a record. (`&body[..]` makes LLVM pass pointer and length in registers.)
+// Whether a body yields a record. (`&body[..]`: docs/DESIGN.md, Speed.)
 pub fn examine(c: Carrier, body: &[u8]) -> Examined
     ensures { λ r. ⌜ r ≡ examinedOf c (outcomeOf c (now (body .entry))) (r .clean) ⌝ }
     ensures { λ r. ⌜ (r .priority < 65536) × (r .size ≤ limit.recordSize) ⌝ }

@@ -8,7 +8,8 @@ ghost use Rattle.words.specs.Encoded.{Found, breakAt};
 use chars::put_all;
 use octets::wide;
 
-// Writes the words of a number. The table has an entry to a line: the number as an octet (here in hexadecimal), its words and a line break.
+// Writes the words of a number. The table has an entry to a line: the number as an octet (in hexadecimal; `words/Words` has it by name, and the
+// two tables are proved to be the same), its words and a line break.
 pub fn put_words(out: &mut [u8], at: usize, number: usize) -> usize
     ensures { λ r. ⌜ Puts at (wordsOf number) (now (out .entry)) r (now (out .exit)) ⌝ }
 {

@@ -66,8 +66,8 @@ fn put_record(out: &mut [u8], at: usize, c: Carrier, s: &[u8], p: Spot) -> usize
     }
 }
 
-// Writes the records of a sheet one after another from `from` on, and returns the index after them. (`&s[..]`: lent anew, a slice goes on
-// in registers.)
+// Writes the records of a sheet one after another from `from` on, and returns the index after them. (`&s[..]`: docs/DESIGN.md,
+// Speed.)
 fn put_stream(out: &mut [u8], from: usize, c: Carrier, s: &[u8]) -> usize
     requires { ⌜ Ready c (now s) ⌝ }
     requires { ⌜ from + length (streamOf c (recordsOf (now s))) ≤ length (now out) ⌝ }
