@@ -15,8 +15,7 @@ use Rattle.taking.specs.Taking.{takeOf, same, recordsFrom}
 use Rattle.taking.specs.Taking as taking
 use Rattle.chars.specs.Ascii.{ascii, decimalOf}
 use Rattle.values.specs.Values.{escapedOf, valueOf, quoted, keyOf, gapOf, labelOf, keysOf, stringsFrom, protocolsOf, carrierOf, nameOf, addressOf}
-use Rattle.words.specs.Words.{table, wordsIn, wordsOf}
-use Rattle.showing.specs.Showing.{lineOf, objectOf, lifetimeOf, commonOf, addressesOf, valueBy, parameterOf, parametersOf, listsOf, recordOf, sheetOf, shownOf}
+use Rattle.showing.specs.Showing.{countOf, lineOf, objectOf, lifetimeOf, commonOf, addressesOf, valueBy, parameterOf, parametersOf, listsOf, restOf, recordOf, sheetOf, shownOf}
 
 -- K1's sheet (01, Boundary pieces)
 abbrev k1 : List ℕ
@@ -27,12 +26,12 @@ k1 =
 
 -- its text and its JSON, as docs/COMMAND.md has them
 pub k1-text : shownOf false k1 ≡ ascii "DHCPv6 (carrier 2), 1 record\n\ndoh1.example.com\n    priority        1\n    address         2001:db8:122:300::1\n    alpn            dot"
-unfolding takeOf taking.headOf same recordsFrom part number counted chosenOf numeral digit escapedOf valueOf quoted keyOf keysOf stringsFrom protocolsOf carrierOf nameOf addressOf texts.textOf texts.dotsFrom text6 mapped allZero shortened runOf longestFrom around colons fieldsOf zerosAhead listOf sizeOf entriesFrom lineOf objectOf lifetimeOf commonOf addressesOf gapOf labelOf valueBy parameterOf parametersOf listsOf recordOf sheetOf
+unfolding takeOf taking.headOf same recordsFrom part number counted chosenOf numeral digit escapedOf valueOf quoted keyOf keysOf stringsFrom protocolsOf carrierOf nameOf addressOf texts.textOf texts.dotsFrom text6 mapped allZero shortened runOf longestFrom around colons fieldsOf zerosAhead listOf sizeOf entriesFrom countOf lineOf objectOf lifetimeOf commonOf addressesOf gapOf labelOf valueBy parameterOf parametersOf listsOf restOf recordOf sheetOf
 k1-text = refl
 
 pub k1-json : shownOf true k1
     ≡ ascii "{\"carrier\":2,\"carrierName\":\"DHCPv6\",\"records\":[{\"name\":\"doh1.example.com\",\"priority\":1,\"nameOnly\":false,\"addresses\":[\"2001:db8:122:300::1\"],\"parameters\":[{\"key\":1,\"name\":\"alpn\",\"value\":[\"dot\"]}]}]}"
-unfolding takeOf taking.headOf same recordsFrom part number counted chosenOf numeral digit escapedOf valueOf quoted keyOf keysOf stringsFrom protocolsOf carrierOf nameOf addressOf texts.textOf texts.dotsFrom text6 mapped allZero shortened runOf longestFrom around colons fieldsOf zerosAhead listOf sizeOf entriesFrom lineOf objectOf lifetimeOf commonOf addressesOf gapOf labelOf valueBy parameterOf parametersOf listsOf recordOf sheetOf
+unfolding takeOf taking.headOf same recordsFrom part number counted chosenOf numeral digit escapedOf valueOf quoted keyOf keysOf stringsFrom protocolsOf carrierOf nameOf addressOf texts.textOf texts.dotsFrom text6 mapped allZero shortened runOf longestFrom around colons fieldsOf zerosAhead listOf sizeOf entriesFrom countOf lineOf objectOf lifetimeOf commonOf addressesOf gapOf labelOf valueBy parameterOf parametersOf listsOf restOf recordOf sheetOf
 k1-json = refl
 
 -- of octets that are no sheet, nothing is shown
@@ -53,12 +52,3 @@ escapes-json = refl
 numbers : decimalOf 0 ++ (ascii " " ++ (decimalOf 443 ++ (ascii " " ++ decimalOf 4294967295))) ≡ ascii "0 443 4294967295"
 unfolding numeral digit
 numbers = refl
-
--- words of document 01's numbers
-fault-21 : wordsOf 21 ≡ ascii "priority 0 (AliasMode)"
-unfolding wordsIn table
-fault-21 = refl
-
-number-6 : wordsOf 6 ≡ ascii "unknown number"
-unfolding wordsIn table
-number-6 = refl

@@ -1,5 +1,5 @@
 -- The laws of what is shown by cases: lifetimes, records and the head of a sheet; and addresses as a loop meets them. Assumes nothing.
-use mathlib.Core.Path.{_≡_, sym, ap, _∙_}
+use mathlib.Core.Path.{_≡_, refl, sym, ap, _∙_}
 use mathlib.Core.Bool.{Bool, true, false, cond}
 use mathlib.Core.List.{List, [], _∷_, _++_}
 use Prim.Native.Nat.{ℕ, _+_, _-_, _≤_, _<_}
@@ -17,14 +17,7 @@ use Rattle.taking.specs.declared.Spot.{Spot}
 use Rattle.taking.specs.Spot.{fieldsAt}
 use Rattle.chars.specs.Ascii.{ascii, decimalOf}
 use Rattle.values.specs.Values.{carrierOf, spanOf}
-use Rattle.showing.specs.Showing.{lineOf, objectOf, lifetimeOf, commonOf, listsOf, recordOf}
-
--- one of two by a test
-pub when-true : {t : Bool} (a b : List ℕ) → t ≡ true → a ≡ cond t a b
-when-true a b e = simp e
-
-pub when-false : {t : Bool} (a b : List ℕ) → t ≡ false → b ≡ cond t a b
-when-false a b e = simp e
+use Rattle.showing.specs.Showing.{lineOf, objectOf, lifetimeOf, commonOf, listsOf, restOf, recordOf, countOf}
 
 -- ---- the head of a sheet
 
@@ -34,8 +27,7 @@ module _ (c : Carrier) {n : ℕ} (e : n ≡ numberOf c) where
   object-is = simp e
 
   pub line-is : (count : ℕ)
-      → carrierOf c ++ (ascii " (carrier " ++ (decimalOf n ++ (ascii "), " ++ (decimalOf count ++ cond (eqb count 1) (ascii " record") (ascii " records")))))
-      ≡ lineOf c count
+      → carrierOf c ++ (ascii " (carrier " ++ (decimalOf n ++ countOf count)) ≡ lineOf c count
   unfolding lineOf
   line-is count = simp e
 
@@ -47,7 +39,7 @@ module _ (json : Bool) (c : Carrier) (n : ℕ) {w : ℕ} (e : w ≡ lifetimeWidt
   lifetime-none z = simp (eq-eqb (lifetimeWidth c) 0 (sym e ∙ z))
 
   pub lifetime-some : (w ≡ 0 → ⊥)
-      → cond json (ascii ",\"lifetime\":") (ascii "\n    lifetime        ") ++ cond json (decimalOf n) (spanOf n) ≡ lifetimeOf json c n
+      → cond json (ascii ",\"lifetime\":") (ascii "\n    lifetime        ") ++ spanOf json n ≡ lifetimeOf json c n
   unfolding lifetimeOf
   lifetime-some z = simp (ne-eqb (lifetimeWidth c) 0 (λ q. z (e ∙ q)))
 
@@ -69,17 +61,18 @@ module _ (w : ℕ) (s : List ℕ) (i : ℕ) where
 -- ---- a record, whose parts the code cuts from the sheet
 
 module _ (json : Bool) (c : Carrier) (s : List ℕ) (p : Spot) where
-  pub record-full : p .full ≡ true
-      → commonOf json c (p .priority) (p .lifetime) (take (p .name + p .nlen - p .name) (drop (p .name) s))
-      ++ listsOf json c (take (p .addresses + p .alen - p .addresses) (drop (p .addresses) s))
+  pub rest-full : p .full ≡ true
+      → listsOf json c (take (p .addresses + p .alen - p .addresses) (drop (p .addresses) s))
       (take (p .parameters + p .plen - p .parameters) (drop (p .parameters) s))
-      ≡ recordOf json c (fieldsAt s p)
-  unfolding recordOf
-  record-full e = simp (e, add-sub-cancel-left)
+      ≡ restOf json c (fieldsAt s p)
+  unfolding restOf
+  rest-full e = rw (e, add-sub-cancel-left, add-sub-cancel-left) refl
 
-  pub record-short : p .full ≡ false
-      → commonOf json c (p .priority) (p .lifetime) (take (p .name + p .nlen - p .name) (drop (p .name) s))
-      ++ cond json (ascii ",\"nameOnly\":true}") (ascii "\n    name only")
+  pub rest-short : p .full ≡ false → cond json (ascii ",\"nameOnly\":true}") (ascii "\n    name only") ≡ restOf json c (fieldsAt s p)
+  unfolding restOf
+  rest-short e = rw e refl
+
+  pub record-is : commonOf json c (p .priority) (p .lifetime) (take (p .name + p .nlen - p .name) (drop (p .name) s)) ++ restOf json c (fieldsAt s p)
       ≡ recordOf json c (fieldsAt s p)
   unfolding recordOf
-  record-short e = simp (e, add-sub-cancel-left)
+  record-is = simp add-sub-cancel-left

@@ -15,14 +15,15 @@ use Rattle.svcparams.specs.Key as key
 use Rattle.blocks.specs.Block.{Fields}
 use Rattle.taking.specs.Taking.{Taken, refuse, sheet, takeOf}
 use Rattle.chars.specs.Ascii.{ascii, decimalOf}
-use Rattle.values.specs.Values.{carrierOf, nameOf, spanOf, addressOf, listOf, quoted, labelOf, keysOf, valueOf, protocolsOf}
+use Rattle.values.specs.Values.{carrierOf, nameOf, spanOf, addressOf, listOf, quoted, bracketed, labelOf, keysOf, valueOf, protocolsOf}
+
+-- the end of the first line: how many records there are
+unfoldable pub countOf : ℕ → List ℕ
+countOf count = ascii "), " ++ (decimalOf count ++ cond (eqb count 1) (ascii " record") (ascii " records"))
 
 -- the first line
 unfoldable pub lineOf : Carrier → ℕ → List ℕ
-lineOf c count =
-    carrierOf c
-    ++ (ascii " (carrier "
-    ++ (decimalOf (numberOf c) ++ (ascii "), " ++ (decimalOf count ++ cond (eqb count 1) (ascii " record") (ascii " records")))))
+lineOf c count = carrierOf c ++ (ascii " (carrier " ++ (decimalOf (numberOf c) ++ countOf count))
 
 -- the object up to the records
 unfoldable pub objectOf : Carrier → List ℕ
@@ -39,7 +40,7 @@ headOf json c count = cond json (objectOf c) (lineOf c count)
 unfoldable pub lifetimeOf : Bool → Carrier → ℕ → List ℕ
 lifetimeOf json c lifetime =
     cond (eqb (lifetimeWidth c) 0) []
-    (cond json (ascii ",\"lifetime\":") (ascii "\n    lifetime        ") ++ cond json (decimalOf lifetime) (spanOf lifetime))
+    (cond json (ascii ",\"lifetime\":") (ascii "\n    lifetime        ") ++ spanOf json lifetime)
 
 -- what every record has; in text an empty line stands before it
 unfoldable pub commonOf : Bool → Carrier → ℕ → ℕ → List ℕ → List ℕ
@@ -57,10 +58,6 @@ unfoldable pub addressesOf : Bool → Carrier → List ℕ → List ℕ
 addressesOf json c s = listOf json (map (addressItem json) (addresses.listOf (addressWidth c) s))
 
 -- ---- parameters
-
--- in JSON a list
-abbrev pub bracketed : Bool → List ℕ → List ℕ
-bracketed json s = cond json (ascii "[") [] ++ (s ++ cond json (ascii "]") [])
 
 -- the value of a parameter; that of no-default-alpn is empty in a sheet that writing accepts
 unfoldable pub valueBy : Bool → ℕ → List ℕ → List ℕ
@@ -87,11 +84,14 @@ listsOf json c s p =
     cond json (ascii ",\"nameOnly\":false,\"addresses\":[") []
     ++ (addressesOf json c s ++ (cond json (ascii "],\"parameters\":[") [] ++ (parametersOf json p ++ cond json (ascii "]}") [])))
 
+-- what a record has by its mode
+unfoldable pub restOf : Bool → Carrier → Fields → List ℕ
+restOf json c r =
+    cond (r .full) (listsOf json c (r .addresses) (r .parameters)) (cond json (ascii ",\"nameOnly\":true}") (ascii "\n    name only"))
+
 -- a record
 unfoldable pub recordOf : Bool → Carrier → Fields → List ℕ
-recordOf json c r =
-    commonOf json c (r .priority) (r .lifetime) (r .name)
-    ++ cond (r .full) (listsOf json c (r .addresses) (r .parameters)) (cond json (ascii ",\"nameOnly\":true}") (ascii "\n    name only"))
+recordOf json c r = commonOf json c (r .priority) (r .lifetime) (r .name) ++ restOf json c r
 
 -- a sheet of a carrier and its records
 unfoldable pub sheetOf : Bool → Carrier → List Fields → List ℕ

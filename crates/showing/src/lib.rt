@@ -11,7 +11,7 @@ ghost use Rattle.taking.specs.Spot.{fieldsAt};
 ghost use Rattle.taking.specs.Standing.{Standing};
 ghost use Rattle.chars.specs.Puts.{Puts};
 ghost use Rattle.values.specs.Values.{beforeOf, listOf, longestName};
-ghost use Rattle.showing.specs.Showing.{valueBy, parameterOf, parametersOf, addressItem, addressesOf, lifetimeOf, commonOf, listsOf, recordOf, lineOf, objectOf, headOf, shownOf};
+ghost use Rattle.showing.specs.Showing.{valueBy, parameterOf, parametersOf, addressItem, addressesOf, lifetimeOf, commonOf, listsOf, restOf, recordOf, countOf, lineOf, objectOf, headOf, shownOf};
 use carriers::Carrier;
 use chars::least;
 use chars::put_all;
@@ -27,6 +27,7 @@ use values::put_either;
 use values::put_json;
 use values::put_keys;
 use values::put_label;
+use values::put_mark;
 use values::put_name;
 use values::put_protocols;
 use values::put_span;
@@ -39,14 +40,10 @@ fn put_of_key(out: &mut [u8], at: usize, json: bool, key: usize, v: &[u8]) -> us
     ensures { λ r. ⌜ Puts at (valueBy json key (now (v .entry))) (now (out .entry)) r (now (out .exit)) ⌝ }
 {
     if key == Key::MANDATORY {
-        let from = put_json(out, at, json, b"[");
-        let end = put_keys(out, from, json, v);
-        return put_json(out, end, json, b"]");
+        return put_keys(out, at, json, v);
     }
     if key == Key::ALPN {
-        let from = put_json(out, at, json, b"[");
-        let end = put_protocols(out, from, json, v);
-        return put_json(out, end, json, b"]");
+        return put_protocols(out, at, json, v);
     }
     if key == Key::NO_DEFAULT_ALPN {
         if json {
@@ -68,7 +65,7 @@ fn put_parameter(out: &mut [u8], at: usize, json: bool, first: bool, key: usize,
     let from = put_comma(out, at, json, first);
     let named = put_label(out, from, json, key, v.len());
     let end = put_of_key(out, named, json, key, v);
-    put_json(out, end, json, b"}")
+    put_mark(out, end, json, b'}')
 }
 
 // Writes the parameters.
@@ -98,7 +95,7 @@ fn put_address_item(out: &mut [u8], at: usize, json: bool, first: bool, a: &[u8]
     let opens = put_comma(out, at, json, first);
     let from = put_either(out, opens, json, b"\"", b"\n    address         ");
     let end = put_address(out, from, a);
-    put_json(out, end, json, b"\"")
+    put_mark(out, end, json, b'"')
 }
 
 // Writes the addresses of a carrier.
@@ -124,10 +121,7 @@ fn put_lifetime(out: &mut [u8], at: usize, json: bool, c: Carrier, lifetime: usi
         return least(at, out.len());
     }
     let from = put_either(out, at, json, b",\"lifetime\":", b"\n    lifetime        ");
-    if json {
-        return put_number(out, from, lifetime);
-    }
-    put_span(out, from, lifetime)
+    put_span(out, from, json, lifetime)
 }
 
 // Writes what mode 1 adds.
@@ -166,6 +160,29 @@ fn put_common(out: &mut [u8], at: usize, json: bool, c: Carrier, name: &[u8], p:
     put_lifetime(out, next, json, c, p.lifetime)
 }
 
+// Writes what a record has by its mode.
+fn put_rest(out: &mut [u8], at: usize, json: bool, c: Carrier, s: &[u8], p: Spot) -> usize
+    requires { ⌜ p .addresses + p .alen ≤ length (now s) ⌝ }
+    requires { ⌜ p .parameters + p .plen ≤ length (now s) ⌝ }
+    ensures { λ r. ⌜ Puts at (restOf json c (fieldsAt (now (s .entry)) p)) (now (out .entry)) r (now (out .exit)) ⌝ }
+{
+    if p.full {
+        let list = p.addresses;
+        let list_end = list + p.alen;
+        let parameters = p.parameters;
+        let parameters_end = parameters + p.plen;
+        return put_lists(
+            out,
+            at,
+            json,
+            c,
+            &s[list..list_end],
+            &s[parameters..parameters_end],
+        );
+    }
+    put_either(out, at, json, b",\"nameOnly\":true}", b"\n    name only")
+}
+
 // Writes a record: in JSON an object, in text lines after an empty one.
 fn put_record(
     out: &mut [u8],
@@ -183,26 +200,21 @@ fn put_record(
 {
     let name = p.name;
     let name_end = name + p.nlen;
-    let list = p.addresses;
-    let list_end = list + p.alen;
-    let parameters = p.parameters;
-    let parameters_end = parameters + p.plen;
     let from = put_comma(out, at, json, first);
     let next = put_common(out, from, json, c, &s[name..name_end], p);
-    if p.full {
-        return put_lists(
-            out,
-            next,
-            json,
-            c,
-            &s[list..list_end],
-            &s[parameters..parameters_end],
-        );
-    }
-    put_either(out, next, json, b",\"nameOnly\":true}", b"\n    name only")
+    put_rest(out, next, json, c, s, p)
 }
 
 // ---- the sheet
+
+// Writes the end of the first line.
+fn put_count(out: &mut [u8], at: usize, count: usize) -> usize
+    ensures { λ r. ⌜ Puts at (countOf count) (now (out .entry)) r (now (out .exit)) ⌝ }
+{
+    let from = put_all(out, at, b"), ");
+    let counted = put_number(out, from, count);
+    put_either(out, counted, count == 1, b" record", b" records")
+}
 
 // Writes the first line.
 fn put_line(out: &mut [u8], at: usize, c: Carrier, count: usize) -> usize
@@ -211,9 +223,7 @@ fn put_line(out: &mut [u8], at: usize, c: Carrier, count: usize) -> usize
     let named = put_carrier(out, at, c);
     let opened = put_all(out, named, b" (carrier ");
     let numbered = put_number(out, opened, octets::wide(c.number()));
-    let closed = put_all(out, numbered, b"), ");
-    let counted = put_number(out, closed, count);
-    put_either(out, counted, count == 1, b" record", b" records")
+    put_count(out, numbered, count)
 }
 
 // Writes the object up to the records.

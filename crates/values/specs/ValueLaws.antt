@@ -58,9 +58,9 @@ pub gap-some : (k : ℕ) {size n : ℕ} → (size ≡ 0 → ⊥) → n ≡ min (
 unfolding gapOf
 gap-some k {size} z e = simp (ne-eqb size 0 z, e)
 
-pub span-some : (n : ℕ) → (n ≡ forever → ⊥) → (n ≡ 0 → ⊥) → decimalOf n ++ ascii " s" ≡ spanOf n
+pub span-some : {json : Bool} (n : ℕ) → json ≡ false → (n ≡ forever → ⊥) → (n ≡ 0 → ⊥) → decimalOf n ++ ascii " s" ≡ spanOf json n
 unfolding spanOf
-span-some n f z = simp (ne-eqb n forever f, ne-eqb n 0 z)
+span-some n e f z = simp (e, ne-eqb n forever f, ne-eqb n 0 z)
 
 pub name-short : (wire : List ℕ) → length wire < 2 → [] ≡ nameOf wire
 unfolding nameOf

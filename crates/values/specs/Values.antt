@@ -36,11 +36,12 @@ nameOf wire = cond (ltb (length wire) 2) [] (textOf wire)
 abbrev pub forever : ℕ
 forever = 4294967295
 
--- a lifetime for a person; 0 withdraws the resolver (RFC 9463 §6.1)
-unfoldable pub spanOf : ℕ → List ℕ
-spanOf lifetime =
-    cond (eqb lifetime forever) (ascii "never expires")
-    (cond (eqb lifetime 0) (ascii "0 s, no longer to be used") (decimalOf lifetime ++ ascii " s"))
+-- a lifetime: in JSON the number, in text for a person; 0 withdraws the resolver (RFC 9463 §6.1)
+unfoldable pub spanOf : Bool → ℕ → List ℕ
+spanOf json lifetime =
+    cond json (decimalOf lifetime)
+    (cond (eqb lifetime forever) (ascii "never expires")
+    (cond (eqb lifetime 0) (ascii "0 s, no longer to be used") (decimalOf lifetime ++ ascii " s")))
 
 -- an address by its length (RFC 5952 §4, §5)
 unfoldable pub addressOf : List ℕ → List ℕ
@@ -63,6 +64,10 @@ beforeOf commas first = cond first [] (cond commas (comma ∷ []) [])
 -- in JSON a string
 unfoldable pub quoted : Bool → List ℕ → List ℕ
 quoted json s = cond json (ascii "\"") [] ++ (s ++ cond json (ascii "\"") [])
+
+-- in JSON a list
+abbrev pub bracketed : Bool → List ℕ → List ℕ
+bracketed json s = cond json (ascii "[") [] ++ (s ++ cond json (ascii "]") [])
 
 -- ---- keys
 
@@ -88,7 +93,8 @@ columns = 16
 unfoldable pub gapOf : ℕ → ℕ → List ℕ
 gapOf k size = cond (eqb size 0) [] (take (columns - min (length (keyOf k)) (columns - 1)) (ascii "                "))
 
--- what stands before the value of a parameter: its key by number and by name, or the begin of a line
+-- what stands before the value of a parameter: its key by number and by name, or, in text, the begin of a line, filled up to its
+-- column
 unfoldable pub labelOf : Bool → ℕ → ℕ → List ℕ
 labelOf json k size =
     cond json

@@ -2,11 +2,11 @@
 // (docs/COMMAND.md). Octets of values are escaped. A name is shown as its text stands: that of a record that writing accepts has letters,
 // digits, hyphens and dots alone. Nothing here judges a value.
 ghost use mathlib.Core.Bool.{true, cond};
-ghost use mathlib.Core.List.{[], _++_};
+ghost use mathlib.Core.List.{[], _∷_, _++_};
 ghost use Prim.Native.Nat.{_≤_};
 ghost use lib.ListN.{length};
 ghost use Rattle.chars.specs.Puts.{Puts};
-ghost use Rattle.values.specs.Values.{codeOf, escapedOf, valueOf, quoted, beforeOf, keyOf, gapOf, labelOf, keysOf, protocolsOf, carrierOf, longestName, nameOf, spanOf, addressOf};
+ghost use Rattle.values.specs.Values.{codeOf, escapedOf, valueOf, quoted, bracketed, beforeOf, keyOf, gapOf, labelOf, keysOf, protocolsOf, carrierOf, longestName, nameOf, spanOf, addressOf};
 use carriers::Carrier;
 use chars::least;
 use chars::put;
@@ -41,6 +41,16 @@ pub fn put_json(out: &mut [u8], at: usize, json: bool, a: &[u8]) -> usize
 {
     if json {
         return put_all(out, at, a);
+    }
+    least(at, out.len())
+}
+
+// Writes the octet `b` in JSON, and else nothing.
+pub fn put_mark(out: &mut [u8], at: usize, json: bool, b: u8) -> usize
+    ensures { λ r. ⌜ Puts at (cond json (b ∷ []) []) (now (out .entry)) r (now (out .exit)) ⌝ }
+{
+    if json {
+        return put(out, at, b);
     }
     least(at, out.len())
 }
@@ -96,9 +106,9 @@ fn put_value(out: &mut [u8], at: usize, json: bool, s: &[u8]) -> usize
 pub fn put_string(out: &mut [u8], at: usize, json: bool, s: &[u8]) -> usize
     ensures { λ r. ⌜ Puts at (quoted json (valueOf json (now (s .entry)))) (now (out .entry)) r (now (out .exit)) ⌝ }
 {
-    let from = put_json(out, at, json, b"\"");
+    let from = put_mark(out, at, json, b'"');
     let end = put_value(out, from, json, s);
-    put_json(out, end, json, b"\"")
+    put_mark(out, end, json, b'"')
 }
 
 // ---- lists
@@ -110,7 +120,7 @@ pub fn put_comma(out: &mut [u8], at: usize, commas: bool, first: bool) -> usize
     if first {
         return least(at, out.len());
     }
-    put_json(out, at, commas, b",")
+    put_mark(out, at, commas, b',')
 }
 
 // Writes a key by its name, or as keyN (RFC 9460 §2.1).
@@ -171,13 +181,13 @@ fn put_key_item(out: &mut [u8], at: usize, json: bool, first: bool, key: usize) 
     ensures { λ r. ⌜ Puts at (beforeOf true first ++ quoted json (keyOf key)) (now (out .entry)) r (now (out .exit)) ⌝ }
 {
     let opens = put_comma(out, at, true, first);
-    let from = put_json(out, opens, json, b"\"");
+    let from = put_mark(out, opens, json, b'"');
     let end = put_key(out, from, key);
-    put_json(out, end, json, b"\"")
+    put_mark(out, end, json, b'"')
 }
 
-// Writes the keys of a mandatory list.
-pub fn put_keys(out: &mut [u8], at: usize, json: bool, s: &[u8]) -> usize
+// Writes the keys of a mandatory list one after another.
+fn put_key_items(out: &mut [u8], at: usize, json: bool, s: &[u8]) -> usize
     ensures { λ r. ⌜ Puts at (keysOf json (now (s .entry))) (now (out .entry)) r (now (out .exit)) ⌝ }
 {
     let mut o = least(at, out.len());
@@ -189,6 +199,15 @@ pub fn put_keys(out: &mut [u8], at: usize, json: bool, s: &[u8]) -> usize
     o
 }
 
+// Writes the keys of a mandatory list, in JSON within brackets.
+pub fn put_keys(out: &mut [u8], at: usize, json: bool, s: &[u8]) -> usize
+    ensures { λ r. ⌜ Puts at (bracketed json (keysOf json (now (s .entry)))) (now (out .entry)) r (now (out .exit)) ⌝ }
+{
+    let from = put_mark(out, at, json, b'[');
+    let end = put_key_items(out, from, json, s);
+    put_mark(out, end, json, b']')
+}
+
 // Writes an item of a list of protocols.
 fn put_protocol(out: &mut [u8], at: usize, json: bool, first: bool, id: &[u8]) -> usize
     ensures { λ r. ⌜ Puts at (beforeOf true first ++ quoted json (valueOf json (now (id .entry)))) (now (out .entry)) r (now (out .exit)) ⌝ }
@@ -197,8 +216,8 @@ fn put_protocol(out: &mut [u8], at: usize, json: bool, first: bool, id: &[u8]) -
     put_string(out, from, json, id)
 }
 
-// Writes the protocols of an alpn list.
-pub fn put_protocols(out: &mut [u8], at: usize, json: bool, s: &[u8]) -> usize
+// Writes the protocols of an alpn list one after another.
+fn put_protocol_items(out: &mut [u8], at: usize, json: bool, s: &[u8]) -> usize
     ensures { λ r. ⌜ Puts at (protocolsOf json (now (s .entry))) (now (out .entry)) r (now (out .exit)) ⌝ }
 {
     let mut o = least(at, out.len());
@@ -214,6 +233,15 @@ pub fn put_protocols(out: &mut [u8], at: usize, json: bool, s: &[u8]) -> usize
         i = end;
     }
     o
+}
+
+// Writes the protocols of an alpn list, in JSON within brackets.
+pub fn put_protocols(out: &mut [u8], at: usize, json: bool, s: &[u8]) -> usize
+    ensures { λ r. ⌜ Puts at (bracketed json (protocolsOf json (now (s .entry)))) (now (out .entry)) r (now (out .exit)) ⌝ }
+{
+    let from = put_mark(out, at, json, b'[');
+    let end = put_protocol_items(out, from, json, s);
+    put_mark(out, end, json, b']')
 }
 
 // ---- carriers, names, lifetimes and addresses
@@ -244,10 +272,13 @@ pub fn put_name(out: &mut [u8], at: usize, wire: &[u8]) -> usize
     put_all(out, at, &text[..n])
 }
 
-// Writes a lifetime in seconds for a person.
-pub fn put_span(out: &mut [u8], at: usize, lifetime: usize) -> usize
-    ensures { λ r. ⌜ Puts at (spanOf lifetime) (now (out .entry)) r (now (out .exit)) ⌝ }
+// Writes a lifetime in seconds: in JSON the number, in text for a person.
+pub fn put_span(out: &mut [u8], at: usize, json: bool, lifetime: usize) -> usize
+    ensures { λ r. ⌜ Puts at (spanOf json lifetime) (now (out .entry)) r (now (out .exit)) ⌝ }
 {
+    if json {
+        return put_number(out, at, lifetime);
+    }
     if lifetime == FOREVER {
         return put_all(out, at, b"never expires");
     }

@@ -1,3 +1,4 @@
 pub mod Words
 pub mod Encoded
 pub mod EncodedLaws
+pub mod Examples

@@ -1,7 +1,7 @@
 -- `showing::put_lifetime` meets its contract: the lifetime where the carrier has one. Assumes nothing.
 use borrow.Author.Needs.{needs}
 use Rattle.chars.specs.PutsLaws.{puts-none, puts-then, puts-as}
-use Rattle.showing.specs.PartLaws.{when-true, when-false, lifetime-none, lifetime-some}
+use Rattle.showing.specs.PartLaws.{lifetime-none, lifetime-some}
 use Rattle.showing.proofs.put_lifetime.Statement.{statement}
 use Rattle.showing.proofs.put_lifetime.Tie as tie
 
@@ -11,20 +11,10 @@ returns c = puts-as (lifetime-none _ _ _ (c .before .before .lifetime-width .ens
 returns-2 : tie.Need-returns-2
 returns-2 c =
     let w = c .before .before in
-    let j = w .before .before in
-    let from = j .before .before .before in
+    let from = w .before .before .before .before in
     let e = from .before .before .before .before in
     puts-as (lifetime-some _ _ _ (e .before .lifetime-width .ensures) (e .if1 .left))
-    (puts-then (from .put-either .ensures) (puts-as (when-true _ _ (j .if2 .taken)) (w .put-number .ensures .1)))
-
-returns-3 : tie.Need-returns-3
-returns-3 c =
-    let w = c .before .before in
-    let j = w .before .before in
-    let from = j .before .before .before in
-    let e = from .before .before .before .before in
-    puts-as (lifetime-some _ _ _ (e .before .lifetime-width .ensures) (e .if1 .left))
-    (puts-then (from .put-either .ensures) (puts-as (when-false _ _ (j .if2 .left)) (w .put-span .ensures)))
+    (puts-then (from .put-either .ensures) (w .put-span .ensures))
 
 pub put-lifetime-spec : {M : Type 1} → statement M
 put-lifetime-spec =
@@ -38,7 +28,4 @@ put-lifetime-spec =
     (λ c κs. search needs)
     (λ c κs. search needs)
     (λ c. search needs)
-    returns-2
-    (λ c κs. search needs)
-    (λ c. search needs)
-    returns-3)
+    returns-2)

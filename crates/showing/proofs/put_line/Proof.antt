@@ -9,16 +9,12 @@ use Rattle.showing.proofs.put_line.Tie as tie
 returns : tie.Need-returns
 returns c =
     let end = c .before .before in
-    let count = end .before .before .before .before .before .before in
-    let closed = count .before .before .before .before in
-    let number = closed .before .before .before .before .before in
+    let number = end .before .before .before .before in
     let opened = number .before .before .before .before .before .before in
     puts-as
     (line-is _ (number .before .wide .ensures .0 ∙ number .before .before .number .ensures) _)
     (puts-then (opened .before .before .before .before .before .put-carrier .ensures)
-    (puts-then (opened .put-all .ensures .1)
-    (puts-then (number .put-number .ensures .1)
-    (puts-then (closed .put-all2 .ensures .1) (puts-then (count .put-number2 .ensures .1) (end .put-either .ensures))))))
+    (puts-then (opened .put-all .ensures .1) (puts-then (number .put-number .ensures .1) (end .put-count .ensures))))
 
 pub put-line-spec : {M : Type 1} → statement M
 put-line-spec =
@@ -30,11 +26,6 @@ put-line-spec =
     (λ c κs. search needs)
     (λ c κs. search needs)
     (λ c κs. search needs)
-    (λ c. search needs)
-    (λ c κs. search needs)
-    (λ c κs. search needs)
-    (λ c. search needs)
-    (λ c. search needs)
     (λ c κs. search needs)
     (λ c. search needs)
     returns)

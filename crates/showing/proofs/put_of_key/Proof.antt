@@ -2,7 +2,7 @@
 use borrow.Author.Needs.{needs}
 use mathlib.Core.Logic.{⊎-elim}
 use borrow.Author.Tests.{ne-eqb}
-use Rattle.chars.specs.PutsLaws.{puts-then, puts-as}
+use Rattle.chars.specs.PutsLaws.{puts-as}
 use Rattle.showing.specs.Showing.{valueBy}
 use Rattle.showing.specs.ParameterLaws.{value-port, value-string}
 use Rattle.showing.proofs.put_of_key.Statement.{statement}
@@ -10,19 +10,11 @@ use Rattle.showing.proofs.put_of_key.Tie as tie
 
 returns : tie.Need-returns
 unfolding valueBy
-returns c =
-    let end = c .before .before in
-    let keys = end .before .before .before .before .before in
-    let from = keys .before .before .before .before in
-    rw (from .before .before .before .if1 .taken) (puts-then (from .put-json .ensures) (puts-then (keys .put-keys .ensures) (end .put-json2 .ensures)))
+returns c = let w = c .before .before in rw (w .before .before .if1 .taken) (w .put-keys .ensures)
 
 returns-2 : tie.Need-returns-2
 unfolding valueBy
-returns-2 c =
-    let end = c .before .before in
-    let ids = end .before .before .before .before .before in
-    let from = ids .before .before .before .before in
-    rw (from .before .before .before .if2 .taken) (puts-then (from .put-json3 .ensures) (puts-then (ids .put-protocols .ensures) (end .put-json4 .ensures)))
+returns-2 c = let w = c .before .before in rw (w .before .before .if2 .taken) (w .put-protocols .ensures)
 
 returns-3 : tie.Need-returns-3
 unfolding valueBy
@@ -51,17 +43,9 @@ pub put-of-key-spec : {M : Type 1} → statement M
 put-of-key-spec =
     tie.close
     (tie.spec
-    (λ c. search needs)
-    (λ c κs. search needs)
-    (λ c κs. search needs)
-    (λ c. search needs)
     (λ c κs. search needs)
     (λ c. search needs)
     returns
-    (λ c. search needs)
-    (λ c κs. search needs)
-    (λ c κs. search needs)
-    (λ c. search needs)
     (λ c κs. search needs)
     (λ c. search needs)
     returns-2

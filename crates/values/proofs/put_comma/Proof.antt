@@ -8,7 +8,7 @@ returns : tie.Need-returns
 returns c = rw (c .before .if1 .taken) (puts-none _ _ (c .least .ensures))
 
 returns-2 : tie.Need-returns-2
-returns-2 c = let w = c .before .before in rw (w .before .before .before .if1 .left) (w .put-json .ensures)
+returns-2 c = let w = c .before .before in rw (w .before .before .if1 .left) (w .put-mark .ensures)
 
 pub put-comma-spec : {M : Type 1} → statement M
 put-comma-spec =
@@ -16,7 +16,6 @@ put-comma-spec =
     (tie.spec
     (λ c κs. search needs)
     returns
-    (λ c. search needs)
     (λ c κs. search needs)
     (λ c. search needs)
     returns-2)
