@@ -1,6 +1,6 @@
 # make            prove the crates that have changed and build what is built from them: target/staticlib/libdnr.a and the command build/dnr
 # make test       everything that the merge gate runs; ends in 'N passed, 0 failed'
-# make bench      the library against the reference implementation and memcpy, side by side in one run
+# make bench      the library against the reference implementation and memcpy, side by side, at four places of the library
 # make vectors    make the input and expected output of the programs vectors and boundaries anew from the reference implementation
 # make install    the library, its header, dnr.pc for pkg-config and the program dnr, below DESTDIR and PREFIX
 # make uninstall  remove what make install put there, with the same DESTDIR and PREFIX
@@ -36,7 +36,7 @@ build/dnr: target/staticlib/libtool.a host/tool/main.c
 	sh tools/build.sh
 
 bench: $(LIBRARY)
-	cargo run --quiet --offline --release --manifest-path host/Cargo.toml -p bench
+	python3 tools/bench.py
 
 test:
 	@sh tools/gate.sh

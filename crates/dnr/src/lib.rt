@@ -8,12 +8,19 @@ ghost use Rattle.writing.specs.Writes.{Writes};
 use reading::Reading;
 use writing::Writing;
 
-// Reads an area under a carrier number and writes its record sheet.
+// Reads an area under a carrier number and writes its record sheet. (Field by field: see docs/DESIGN.md, Speed.)
 #[no_mangle]
 pub extern "C" fn dnr_read(carrier: u8, area: &[u8], sheet: &mut [u8]) -> Reading
     ensures { λ r. ⌜ Reads (readOf carrier (now (area .entry)) (length (now (sheet .entry)))) (now (sheet .entry)) r (now (sheet .exit)) ⌝ }
 {
-    reading::read(octets::wide(carrier), area, sheet)
+    let done = reading::read(octets::wide(carrier), area, sheet);
+    Reading {
+        number: done.number,
+        length: done.length,
+        found: done.found,
+        discarded: done.discarded,
+        fault: done.fault,
+    }
 }
 
 // Writes the octets of a record sheet: its options, or its attributes.

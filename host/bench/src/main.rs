@@ -2,7 +2,8 @@
 //!
 //! The three are timed in turn within each of many short rounds, so that they meet the same machine. A time is the best round's; the ratio of
 //! library and reference is the median of the rounds' ratios, which other work on the machine moves least. The buffers are not cleared
-//! between calls. Growth is the library's time on input of twice the size, divided by its time here.
+//! between calls. Growth is the library's time on input of twice the size, divided by its time here. Given words, it times the rows that have one
+//! of them in their name.
 
 use std::hint::black_box;
 use std::time::{Duration, Instant};
@@ -73,16 +74,25 @@ fn print(what: &str, octets: usize, times: Times, doubled: Option<Times>) {
     let [library, reference, copy] = times.best;
     let growth = doubled.map_or("-".into(), |d| format!("{:.2}", d.best[0] / library));
     println!(
-        "| {what} | {octets} | {library:.0} | {reference:.0} | {:.2} | {:.0} | {:.1} | {growth} |",
+        "| {what} | {octets} | {library:.1} | {reference:.1} | {:.3} | {:.1} | {:.2} | {growth} |",
         times.ratio,
         octets as f64 / library * 1000.0,
         library / copy,
     );
 }
 
+/// Whether a row is to be timed.
+fn wanted(what: &str) -> bool {
+    let mut words = std::env::args().skip(1).peekable();
+    words.peek().is_none() || words.any(|w| what.contains(&w))
+}
+
 fn row(what: &str, carrier: u8, area: &[u8], doubled: Option<&[u8]>) {
-    let more = doubled.map(|d| timed_reading(carrier, d));
-    print(&format!("reading {what}"), area.len(), timed_reading(carrier, area), more);
+    let what = format!("reading {what}");
+    if wanted(&what) {
+        let more = doubled.map(|d| timed_reading(carrier, d));
+        print(&what, area.len(), timed_reading(carrier, area), more);
+    }
 }
 
 /// The sheet that an area is read to.
@@ -95,9 +105,12 @@ fn sheet(carrier: u8, area: &[u8]) -> Vec<u8> {
 }
 
 fn write_row(what: &str, carrier: u8, area: &[u8], doubled: Option<&[u8]>) {
-    let more = doubled.map(|d| timed_writing(&sheet(carrier, d)));
-    let s = sheet(carrier, area);
-    print(&format!("writing {what}"), s.len(), timed_writing(&s), more);
+    let what = format!("writing {what}");
+    if wanted(&what) {
+        let more = doubled.map(|d| timed_writing(&sheet(carrier, d)));
+        let s = sheet(carrier, area);
+        print(&what, s.len(), timed_writing(&s), more);
+    }
 }
 
 const NAME: &[u8] = b"\x04doh1\x07example\x03com\x00";
