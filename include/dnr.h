@@ -10,8 +10,8 @@
  * Input      Any octets of any length. The calls test what they need themselves, always return, read nothing outside the input and write
  *            nothing outside the output.
  * Output     Only the first length octets of it are written; past them it is unchanged. A call that refuses changes no octet of it.
- * State      There is none: no allocation, no global variable, no errno, no call but to memcpy and memset. Any number of threads may
- *            call at once, without locks, as long as nobody else writes to the buffers of a running call.
+ * State      There is none: no allocation, no global variable, no errno, no call but to memcpy, memmove and memset. Any number of threads
+ *            may call at once, without locks, as long as nobody else writes to the buffers of a running call.
  * Stack      dnr_read needs 43 KiB, of which 40 KiB are the buffer where several options 162 of a DHCPv4 area are joined; dnr_write needs
  *            1 KiB (measured on x86-64; have 48 KiB and 4 KiB).
  * Numbers    In areas, sheets and options all numbers stand most significant octet first.
@@ -76,11 +76,14 @@ enum {
     DNR_REFUSAL_LARGE = 44          /* carrier 3 record above 2,040 octets when rounded */
 };
 
-/* The record sheet. Its octets, with the width of each number:
+/* The record sheet. Its fields in order, with the octets of those that have a fixed number:
  *
- *   header     'R' 'S' 'V', version 2 (1), carrier 1, record count 1
- *   record     priority 2, lifetime 4, mode 1 (0 name only, 1 full), name length 1, name
- *              and in mode 1: address count 1, addresses, parameter length 2, parameters
+ *   octets  header                 octets  record                         octets  and in mode 1
+ *   3       the letters R S V      2       priority                       1       address count
+ *   2       version, which is 1    4       lifetime                               addresses
+ *   1       carrier                1       mode: 0 name only, 1 full      2       parameter length
+ *   1       record count           1       name length                            parameters
+ *                                          name
  *
  * Records stand by rising priority, equal ones in the order of arrival, and nothing follows the last. The lifetime, in seconds, is that
  * of a router advertisement, where all ones are for ever and a resolver with 0 must no longer be used (RFC 9463 section 6.1); for the

@@ -44,7 +44,7 @@ unfoldable pub keptOf : ℕ → List (List ℕ) → List (List ℕ)
 keptOf w [] = []
 keptOf w (a ∷ more) = cond (unusable w a) (keptOf w more) (a ∷ keptOf w more)
 
--- one of them is such that its being dropped is `wanted`
+-- some address is dropped (`wanted` true) or kept (`wanted` false)
 unfoldable pub hasOf : ℕ → Bool → List (List ℕ) → Bool
 hasOf w wanted [] = false
 hasOf w wanted (a ∷ more) = cond (Bool·beq (unusable w a) wanted) true (hasOf w wanted more)

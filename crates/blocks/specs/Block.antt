@@ -25,7 +25,7 @@ pub record Fields : Type 0 where
   pub addresses : List ℕ
   pub parameters : List ℕ
 
--- the fields of a head and of three parts
+-- a head of three numbers, and the fields of a head and three parts
 abbrev pub headWith : ℕ → ℕ → Bool → Head
 headWith p t full = record { priority = p; lifetime = t; full = full }
 
@@ -92,7 +92,7 @@ attribute c l =
     part short nameLength l (λ name parameters.
     fields (whole priority 0 name addresses parameters))))))
 
--- the fields of a body, or its fault; a field past the end goes before what is no padding
+-- the fields of a body, or its fault: 20 goes before 29, since the padding is what the fields before it left
 abbrev pub parseBy : Form → Carrier → List ℕ → Parsed
 parseBy Wire c l = opening c l (afterName c)
 parseBy Padded c l = opening c l afterNamePadded

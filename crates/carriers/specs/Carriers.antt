@@ -22,12 +22,13 @@ chosenOf n =
 
 -- ---- the table
 
--- number and code (RFC 9463 §9, RFC 9464 §8); of a header: octets of code and of length each, whether a bit of the code is reserved (RFC 7296 §3.15.1),
--- whether the length is in units of eight and counts the header (RFC 4861 §4.6); whether options are joined, between padding (RFC 3396, RFC 2132);
--- of a body: octets of an address and of a length, and its form
+-- number and code (RFC 9463 §9, RFC 9464 §8); of a header: octets of code and of length each, whether a bit of the code is reserved
+-- (RFC 7296 §3.15.1), whether the length is in units of eight and counts the header (RFC 4861 §4.6); whether options are joined, between
+-- padding (RFC 3396, RFC 2132); of a body: octets of an address and of a length, and its form
 abbrev row : ℕ → ℕ → ℕ → Bool → Bool → Bool → ℕ → ℕ → Form → Facts
 row n c w r e j a l k = record { number = n; code = c; width = w; reserved = r; eights = e; joined = j; address = a; length = l; form = k }
 
+-- each row: number, code, width; reserved, eights, joined; address, length, form
 abbrev pub factsOf : Carrier → Facts
 factsOf Dhcp4 = row 1 162 1 false false true 4 1 Wire
 factsOf Dhcp6 = row 2 144 2 false false false 16 2 Wire

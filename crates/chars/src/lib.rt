@@ -19,7 +19,7 @@ pub fn put(out: &mut [u8], at: usize, b: u8) -> usize
     out.len()
 }
 
-// The less of two: of an index and a buffer's length, where writing begins.
+// The smaller of two numbers: of an index and a buffer's length, where writing begins.
 pub fn least(a: usize, b: usize) -> usize
     ensures { λ r. ⌜ r ≡ min a b ⌝ }
 {

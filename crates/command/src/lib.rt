@@ -1,7 +1,7 @@
 // The command `dnr`: an area becomes a record sheet, a sheet becomes octets, and a sheet is shown as text or as JSON.
 // `execute` is the whole program: it takes the arguments, and its answer is the exit status (0 done, 1 refused by a number of document
-// 01, 2 anything else). A result is made whole in memory before any of it is written. What is read and what is
-// written, no contract can say; the work itself is that of `reading`, `writing` and `showing`.
+// 01, 2 anything else). A result is made whole in memory before any of it is written. What is read and what is written, no contract can say;
+// the work itself is that of `reading`, `writing` and `showing`.
 mod help;
 
 ghost use Rattle.io.specs.Counts.{Counts};
@@ -19,7 +19,7 @@ use numbers::Limit;
 use numbers::Refusal;
 use reading::Reading;
 
-// Octets that hold the text of any sheet: 16 for each of its own. A parameter without a value takes 4 octets of a sheet and 48 of JSON at most,
+// Octets that hold the text of any sheet: 16 for each octet of the sheet. A parameter without a value takes 4 octets of a sheet and 48 of JSON at most,
 // an octet of a value 5, a mandatory key 18 for its 2, an address of 16 a line of 60.
 const TEXT: usize = 16 * Limit::SHEET;
 
@@ -169,7 +169,7 @@ fn perform_on(a: Asked, name: &[u8], text: &[u8]) -> i32 {
     }
 }
 
-// Reads the input, and does what is asked with it.
+// Reads the input to `text`, and does what is asked with it.
 fn run_on(a: Asked, name: &[u8], text: &mut [u8]) -> i32 {
     let got = input::read(a.input, name, text);
     if got.failed {
@@ -182,14 +182,14 @@ fn run_on(a: Asked, name: &[u8], text: &mut [u8]) -> i32 {
     perform_on(a, name, &text[..n])
 }
 
-// The same with room for the input.
+// The same with the name that messages give the input.
 fn run_in(a: Asked, text: &mut [u8; input::ROOM]) -> i32 {
     let mut path = io::buffer();
     let n = input::name(a.input, &mut path);
     run_on(a, &path[..n], text)
 }
 
-// The same.
+// The same with room for the input.
 fn run(a: Asked) -> i32 {
     let mut text = [0u8; input::ROOM];
     run_in(a, &mut text)

@@ -23,7 +23,7 @@ abbrev pub NameAllowed : Bool → List ℕ → Type 0
 NameAllowed true name = IsText name
 NameAllowed false name = IsName name
 
--- addresses of w octets, 1 to 63 as carried, of which one stays; at most 1,024 octets of acceptable service parameters (RFC 9463 §3.1.8,
+-- addresses of w octets, 1 to 63 as carried, of which one at least stays; at most 1,024 octets of acceptable service parameters (RFC 9463 §3.1.8,
 -- RFC 9464 §3.1; 01, limits)
 pub record TailAllowed (w : ℕ) (addresses parameters : List ℕ) : Type 0 where
   pub some : 0 < length addresses

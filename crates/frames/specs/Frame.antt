@@ -51,7 +51,7 @@ onto own b fault = fault
 onto true b (framed bs) = framed (b ∷ bs)
 onto false b (framed bs) = framed bs
 
--- `s` begins with the header; `go k` frames what stands k octets past its first octet. What follows an end is ignored
+-- `s` begins with the header; `go k` frames what follows the first octet of `s` and k more. What follows an end is ignored
 abbrev pub after : Carrier → List ℕ → Head → (ℕ → Framed) → Framed
 after c s Bad go = fault
 after c s End go = framed []

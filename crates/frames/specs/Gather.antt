@@ -29,7 +29,7 @@ abbrev pub GatheredFrom : List ℕ → Gathered → Type 0
 GatheredFrom area r = Tells area (frame Dhcp4 area) r
 
 -- the bodies of a framed area, one after another, at the front of a buffer, and how many octets they are; or that it cannot be framed, and
--- then nothing is said of the buffer, which is its owner's to forget
+-- then nothing is said of the buffer, which the caller discards
 abbrev pub Joins : Framed → List ℕ → Joined → List ℕ → Type 0
 Joins fault out Joined.Broken out′ = Unit {0}
 Joins fault out (Joined.Whole n) out′ = ⊥

@@ -55,7 +55,7 @@ fn padded_size(full: bool, nlen: usize, alen: usize, plen: usize) -> usize
     size + padding_size(size)
 }
 
-// Octets of a record's body, with a name of `nlen` octets in wire form.
+// Octets of a record's body, with a name of `nlen` octets in wire form; as text it has two fewer, no first length octet and no root octet.
 fn body_size(c: Carrier, full: bool, nlen: usize, alen: usize, plen: usize) -> usize
     requires { ⌜ (2 ≤ nlen) × (nlen + alen + plen < 65536) ⌝ }
     ensures { λ r. ⌜ r ≡ bodyOctets c full nlen alen plen ⌝ }

@@ -71,7 +71,8 @@ walk st at (x ∷ xs) = on (step st at x) (Bad at) (ended (at + 1) xs) (λ st′
 unfoldable pub nameCheck : List ℕ → Name
 nameCheck s = walk (letter 0) 0 s
 
--- ---- the answer as one number, of at most 256 octets: the place, or a number past every place and past their end
+-- ---- the answer as one number, as the code hands it on: the place of the first bad octet; or `past`, which is no place and no length, since
+-- at most 256 octets are walked
 abbrev pub past : ℕ
 past = 257
 

@@ -6,7 +6,7 @@ use Prim.Native.Nat.{ℕ}
 abbrev pub field : ℕ
 field = 20
 
--- priority 0
+-- priority 0 (AliasMode, RFC 9460 §2.4.2)
 abbrev pub priority : ℕ
 priority = 21
 

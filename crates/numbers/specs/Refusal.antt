@@ -13,7 +13,7 @@ input = 2
 abbrev pub framing : ℕ
 framing = 3
 
--- more than 16 records
+-- more than 16 records kept, or a sheet's count above 16
 abbrev pub records : ℕ
 records = 4
 

@@ -1,5 +1,6 @@
-// The numbers given back (document 01, "Numbers given back"), each under a name. This is the one place where they stand as digits;
-// `specs/` has the same names for definitions and contracts.
+// The numbers given back (document 01, "Numbers given back"), each under a name. This is the one place where code has them as digits, but
+// for the table of `words`, which is proved to have the same. `specs/` has the same names for definitions and contracts (there `recordSize`
+// and `sheetSize` for RECORD and SHEET).
 
 // What a call answers instead of a result.
 pub struct Refusal();
@@ -14,7 +15,7 @@ impl Refusal {
     // Area framing: a header or body runs past the end, or carrier 3 length 0.
     pub const FRAMING: usize = 3;
 
-    // More than 16 records.
+    // More than 16 records kept, or a sheet's count above 16.
     pub const RECORDS: usize = 4;
 
     // The output is shorter than the result.

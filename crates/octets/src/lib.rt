@@ -133,7 +133,7 @@ fn copy_each(out: &mut [u8], at: usize, src: &[u8]) -> usize
     o
 }
 
-// The same, all octets read before one is written: of that the compiler makes one move from place to place, and nothing is held.
+// The same, all octets read before one is written: through a local array, so that LLVM may use one memmove; the array disappears.
 fn copy_held(out: &mut [u8], at: usize, src: &[u8]) -> usize
     requires { ⌜ (at + length (now src) ≤ length (now out)) × (length (now src) ≤ 1024) ⌝ }
     ensures { λ r. ⌜ Wrote at (now (src .entry)) (now (out .entry)) r (now (out .exit)) ⌝ }

@@ -41,7 +41,7 @@ ahead (faulty k) y = discarded k
 ahead (kept r) (discarded k) = discarded k
 ahead (kept r) (yields rs) = yields (r ∷ rs)
 
--- `l` begins with an instance: a 16-bit length, and as many octets; `go k` is what stands k octets past its first octet
+-- `l` begins with an instance: a 16-bit length, and as many octets; `go k` is what the octets yield that follow the first of `l` and k more
 abbrev pub instance : List ℕ → (ℕ → Yield) → Yield
 instance l go =
     cond (ltb (length l) 2) (discarded fault.field)

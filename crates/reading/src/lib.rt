@@ -1,6 +1,7 @@
 // Reading: an area under a carrier becomes a record sheet (document 01, "Reading", "Area walk", "Numbers given back").
-// The area is walked once; in carrier 1 with several options it is walked to the second of them, and then from the first on to join them. Each
-// body is examined as it is met, and the places of at most 16 kept bodies are remembered. Only when the answer is 0 are they ordered and written. The tests stand in the order 1, 2, 3, 4, 5.
+// The area is walked once. In carrier 1 with several options 162 it is walked to the second of them, where something stands before the first
+// once more from there to the second, and then from the first on to join them. Each body is examined as it is met, and the places of at most 16
+// kept bodies are remembered. Only when the answer is 0 are they ordered and written. The tests stand in the order 1, 2, 3, 4, 5.
 ghost use mathlib.Core.Path.{_≡_};
 ghost use mathlib.Core.Bool.{true};
 ghost use mathlib.Core.List.{[], _∷_};
@@ -45,7 +46,7 @@ pub struct Reading {
 
 // What is counted of the blocks met: the octets of a sheet of the kept records; how many blocks were found; whether every address of the
 // records is known to stay; how many blocks were discarded; whether more than 16 records were kept; the first discarded block's fault.
-// (Numbers that are neighbours in `Reading` are none here: LLVM would load them by one instruction, which waits for the separate stores.)
+// (Fields that are neighbours in `Reading` are kept apart here: LLVM would load two by one instruction, which waits for their separate stores.)
 struct Counts {
     size: usize,
     found: usize,

@@ -39,14 +39,14 @@ pub record Fits (kv : Param) : Type 0 where
   pub key : kv .key < 65536
   pub size : length (kv .value) < 65536
 
--- p is the parameters kvs, whose keys rise strictly and are below the invalid one
+-- p is the parameters kvs, whose keys rise strictly and are below the invalid one (01, Parameters; RFC 9460 §2.2, §14.3.2)
 pub record Ordered (p : List ℕ) (kvs : List Param) : Type 0 where
   pub laid : p ≡ fieldOf kvs
   pub fits : All Fits kvs
   pub rise : Ascending (keys kvs)
   pub valid : All (λ k. k < key.invalid) (keys kvs)
 
--- a parameter is an address hint
+-- a parameter is an address hint (RFC 9463 §3.1.8)
 abbrev pub Hinted : List Param → Type 0
 Hinted kvs = In key.ipv4hint (keys kvs) ⊎ In key.ipv6hint (keys kvs)
 
@@ -77,7 +77,7 @@ pub record Alpn (v : List ℕ) (ss : List (List ℕ)) : Type 0 where
   pub some : 0 < length ss
   pub sizes : All (λ s. (0 < length s) × (length s < 256)) ss
 
--- the value is one that its key allows among the keys ks
+-- the value is one that its key allows among the keys ks (01, Parameters; of no-default-alpn RFC 9460 §7.1, of port §7.2)
 pub record Allowed (ks : List ℕ) (kv : Param) : Type 0 where
   pub mandatory : kv .key ≡ key.mandatory → (ws : List ℕ) × Mandatory ks (kv .value) ws
   pub alpn : kv .key ≡ key.alpn → (ss : List (List ℕ)) × Alpn (kv .value) ss
@@ -86,6 +86,7 @@ pub record Allowed (ks : List ℕ) (kv : Param) : Type 0 where
 
 -- ---- the whole field
 
+-- parameters that are in order, with no address hint and with values that their keys allow
 pub record Accepted (p : List ℕ) : Type 0 where
   pub params : List Param
   pub ordered : Ordered p params

@@ -4,7 +4,7 @@ use Prim.Native.Nat.{ℕ, zero, suc}
 use mathlib.Core.List.{List, [], _∷_}
 use Rattle.svcparams.specs.Params.{Param, sizeOf, first, keys}
 
--- `s` begins with a parameter of so many octets; `go k` reads what stands k octets past its first
+-- `s` begins with a parameter of so many octets; `go k` reads what follows the first octet of `s` and k more
 abbrev pub afterEntry : List ℕ → ℕ → (ℕ → List Param) → List Param
 afterEntry s zero go = []
 afterEntry s (suc k) go = first s ∷ go k

@@ -93,8 +93,8 @@ columns = 16
 unfoldable pub gapOf : ℕ → ℕ → List ℕ
 gapOf k size = cond (eqb size 0) [] (take (columns - min (length (keyOf k)) (columns - 1)) (ascii "                "))
 
--- what stands before the value of a parameter: its key by number and by name, or, in text, the begin of a line, filled up to its
--- column
+-- what stands before the value of a parameter: its key by number and by name, or, in text, the beginning of a line, filled up to
+-- its column
 unfoldable pub labelOf : Bool → ℕ → ℕ → List ℕ
 labelOf json k size =
     cond json

@@ -146,7 +146,8 @@ pub fn put_key(out: &mut [u8], at: usize, key: usize) -> usize
     put_number(out, next, key)
 }
 
-// Fills up the label of a key to its columns, with one blank at least; where no value follows, not.
+// Fills up the label of a key to its columns, with one blank at least; where no value follows, not. (How long the label is, is found in a buffer
+// of its own, since `out` may have had no room for it.)
 fn put_gap(out: &mut [u8], at: usize, key: usize, size: usize) -> usize
     ensures { λ r. ⌜ Puts at (gapOf key size) (now (out .entry)) r (now (out .exit)) ⌝ }
 {
@@ -160,7 +161,7 @@ fn put_gap(out: &mut [u8], at: usize, key: usize, size: usize) -> usize
     put_all(out, at, &blanks[..left])
 }
 
-// Writes what stands before the value of a parameter: in JSON its key by number and by name, in text the begin of a line up to its column.
+// Writes what stands before the value of a parameter: in JSON its key by number and by name, in text the beginning of a line up to its column.
 pub fn put_label(out: &mut [u8], at: usize, json: bool, key: usize, size: usize) -> usize
     ensures { λ r. ⌜ Puts at (labelOf json key size) (now (out .entry)) r (now (out .exit)) ⌝ }
 {
