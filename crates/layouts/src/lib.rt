@@ -43,7 +43,7 @@ fn padding_size(size: usize) -> usize
     ensures { λ r. ⌜ (r ≡ paddingAfter size) × (r < 8) ⌝ }
 {
     let n = Carrier::Router.header_size() + size;
-    (8 - n % 8) % 8
+    (Carrier::UNIT - n % Carrier::UNIT) % Carrier::UNIT
 }
 
 // Octets of a carrier 3 body, its padding counted.
@@ -110,7 +110,7 @@ fn put_zeros(out: &mut [u8], at: usize, n: usize) -> usize
     requires { ⌜ (at + n ≤ length (now out)) × (n < 8) ⌝ }
     ensures { λ r. ⌜ Wrote at (zeros n) (now (out .entry)) r (now (out .exit)) ⌝ }
 {
-    let padding = [0u8; 8];
+    let padding = [0u8; Carrier::UNIT];
     octets::copy(out, at, &padding[..n])
 }
 
