@@ -18,6 +18,7 @@ use libc::STDOUT_FILENO;
 use numbers::Limit;
 use numbers::Refusal;
 use reading::Reading;
+use vetting::Vetted;
 
 // Octets that hold the text of any sheet: 16 for each octet of the sheet. A parameter without a value takes 4 octets of a sheet and 48 of JSON at most,
 // an octet of a value 5, a mandatory key 18 for its 2, an address of 16 a line of 60.
@@ -116,14 +117,17 @@ fn print_sheet(sheet: &[u8], json: bool, text: &mut [u8]) -> i32 {
     output::print(&text[..n])
 }
 
-// Shows a sheet that writing accepts.
+// Shows a sheet that writing accepts: one that passes, and of which no record is large (44).
 fn show(a: Asked, name: &[u8], sheet: &[u8], text: &mut [u8]) -> i32 {
-    let mut octets = [0u8; OCTETS];
-    let w = writing::write(sheet, &mut octets);
-    if w.number != 0 {
-        return messages::refused(name, w.number);
+    match vetting::vet(sheet) {
+        Vetted::Refused(k) => messages::refused(name, k),
+        Vetted::Sheet { large, .. } => {
+            if large {
+                return messages::refused(name, Refusal::LARGE);
+            }
+            print_sheet(sheet, a.json, text)
+        }
     }
-    print_sheet(sheet, a.json, text)
 }
 
 // ---- the command

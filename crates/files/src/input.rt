@@ -93,19 +93,11 @@ pub fn read(i: usize, name: &[u8], buf: &mut [u8]) -> Got
     read_file(name, buf)
 }
 
-// Whether x may stand between the pairs of digits of hexadecimal text.
-fn is_separator(x: u8) -> bool {
-    match x {
-        b' ' | b'\t' | b'\n' | b'\r' | b':' => true,
-        _ => false,
-    }
-}
-
 // Whether text has nothing in it but what may stand between pairs of digits: hexadecimal text of no octets.
 pub fn is_blank(text: &[u8]) -> bool {
     let mut i = 0;
     while i < text.len() {
-        if !is_separator(text[i]) {
+        if !hexes::is_separator(text[i]) {
             return false;
         }
         i += 1;

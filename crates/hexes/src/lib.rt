@@ -59,7 +59,7 @@ fn value(x: u8) -> u8
 }
 
 // Whether x may stand before, between and after pairs.
-fn is_separator(x: u8) -> bool
+pub fn is_separator(x: u8) -> bool
     ensures { λ r. ⌜ r ≡ hexes.separator x ⌝ }
 {
     if x == b' ' {
