@@ -1,11 +1,10 @@
--- A table of words as octets: the form in which the code holds it. Assumes nothing: these are definitions.
-use Prim.Native.Nat.{ℕ, suc}
-use mathlib.Core.Path.{_≡_}
+-- A table of words as octets, the form in which the code holds it, and the lookup of a number in it. Assumes nothing: these are definitions.
+use Prim.Native.Nat.{ℕ, zero, suc}
 use mathlib.Core.Bool.{Bool, true, false, cond}
 use mathlib.Core.List.{List, [], _∷_, _++_}
 use lib.Dec.{eqb}
-use Rattle.chars.specs.Puts.{Puts}
-use Rattle.words.specs.Words.{Worded, wordsIn}
+use lib.ListN.{take}
+use Rattle.words.specs.Words.{Worded, unknown}
 
 -- each entry is its number, its words and a line break
 unfoldable pub encoded : List Worded → List ℕ
@@ -17,6 +16,16 @@ unfoldable pub breakAt : List ℕ → ℕ
 breakAt [] = 0
 breakAt (x ∷ xs) = cond (eqb x 10) 0 (suc (breakAt xs))
 
+-- the words of the first entry with the number k, up to its line break or the end, with the first j octets still to be skipped
+unfoldable pub wordsFrom : ℕ → ℕ → List ℕ → List ℕ
+wordsFrom k j [] = unknown
+wordsFrom k zero (x ∷ t) = cond (eqb x k) (take (breakAt t) t) (wordsFrom k (suc (breakAt t)) t)
+wordsFrom k (suc j) (x ∷ t) = wordsFrom k j t
+
+-- the words of the number k in octets, whether they are a table or not
+abbrev pub wordsAt : ℕ → List ℕ → List ℕ
+wordsAt k t = wordsFrom k 0 t
+
 -- no line break stands in a text
 unfoldable pub plain : List ℕ → Bool
 plain [] = true
@@ -26,7 +35,3 @@ plain (x ∷ xs) = cond (eqb x 10) false (plain xs)
 unfoldable pub unbroken : List Worded → Bool
 unbroken [] = true
 unbroken (w ∷ ws) = cond (plain (w .words)) (unbroken ws) false
-
--- the words of the number k are written, in every table whose octets t are
-abbrev pub Found : ℕ → ℕ → List ℕ → List ℕ → ℕ → List ℕ → Type 0
-Found at k t l r l′ = (ws : List Worded) → t ≡ encoded ws → unbroken ws ≡ true → Puts at (wordsIn ws k) l r l′

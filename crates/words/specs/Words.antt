@@ -41,9 +41,13 @@ table =
     ∷ worded refusal.large (ascii "router advertisement record above 2,040 octets")
     ∷ []
 
+-- what is said of a number that has no words
+abbrev pub unknown : List ℕ
+unknown = ascii "unknown number"
+
 -- the words of a number in a table; of any other, that it is unknown
 unfoldable pub wordsIn : List Worded → ℕ → List ℕ
-wordsIn [] k = ascii "unknown number"
+wordsIn [] k = unknown
 wordsIn (w ∷ ws) k = cond (eqb (w .number) k) (w .words) (wordsIn ws k)
 
 abbrev pub wordsOf : ℕ → List ℕ

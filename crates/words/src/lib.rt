@@ -4,7 +4,7 @@ ghost use Prim.Native.Nat.{_+_, _≤_};
 ghost use lib.ListN.{length, drop};
 ghost use Rattle.chars.specs.Puts.{Puts};
 ghost use Rattle.words.specs.Words.{wordsOf};
-ghost use Rattle.words.specs.Encoded.{Found, breakAt};
+ghost use Rattle.words.specs.Encoded.{wordsAt, breakAt};
 use chars::put_all;
 use octets::wide;
 
@@ -43,7 +43,7 @@ pub fn put_words(out: &mut [u8], at: usize, number: usize) -> usize
 
 // Writes the words of a number in a table, or that it is unknown.
 pub fn put_found(out: &mut [u8], at: usize, number: usize, table: &[u8]) -> usize
-    ensures { λ r. ⌜ Found at number (now (table .entry)) (now (out .entry)) r (now (out .exit)) ⌝ }
+    ensures { λ r. ⌜ Puts at (wordsAt number (now (table .entry))) (now (out .entry)) r (now (out .exit)) ⌝ }
 {
     let mut i = 0;
     while i < table.len() {

@@ -1,53 +1,46 @@
--- `words::put_found` meets its contract. The loop's invariant: of a table, the entries from i on have the number's words. Assumes nothing.
+-- `words::put_found` meets its contract. The loop's invariant: the octets from i on have the number's words. Assumes nothing.
 use borrow.Author.Needs.{needs}
-use mathlib.Core.Path.{_≡_, refl}
-use mathlib.Core.Bool.{true}
-use mathlib.Core.List.{List}
+use mathlib.Core.Path.{_≡_, refl, _∙_}
 use Prim.Native.Nat.{_-_}
 use native.Mathlib.Omega.{arith}
 use lib.ListN.{length, drop}
 use Rattle.chars.specs.PutsLaws.{puts-as}
-use Rattle.words.specs.Words.{Worded}
-use Rattle.words.specs.Encoded.{encoded, unbroken}
-use Rattle.words.specs.EncodedLaws.{Left, whole, found, passed, missing}
+use Rattle.words.specs.Encoded.{wordsAt}
+use Rattle.words.specs.EncodedLaws.{found, passed, missing}
 use Rattle.words.proofs.put_found.Statement.{statement}
 use Rattle.words.proofs.put_found.Tie as tie
 
 abbrev Inv-loop : tie.InvT-loop
-Inv-loop out₀ at number table i₀ t8 out i = (out ≡ out₀) × (length out ≡ length out₀) × ((ws : List Worded) → table ≡ encoded ws → unbroken ws ≡ true → Left ws number (drop i table))
+Inv-loop out₀ at number table i₀ t8 out i = (out ≡ out₀) × (length out ≡ length out₀) × (wordsAt number (drop i table) ≡ wordsAt number table)
 
 abbrev μ-loop : tie.MeasureT-loop
 μ-loop out₀ at number table i₀ t8 out i = length table - i
 
 loop-holds : tie.Need-loop-holds Inv-loop μ-loop
-loop-holds c = (refl, refl, λ ws. whole ws (c .before .before .args .number))
+loop-holds c = (refl, refl, refl)
 
 returns : tie.Need-returns Inv-loop μ-loop
-returns c ws e f =
+returns c =
     let p = c .before .before .put-all in
     let w = c .before .before .before .before .before .before in
     let l = w .before .before .before .before in
     let a = l .before .before .before .args in
-    let words = found ws (a .number) (a .table .now) (l .loop .i) (w .before .before .line-end .result) (omega arith) (omega arith) (omega arith)
-    (l .loop .inv .2 ws e f) in
-    rw (l .loop .inv .0) at (puts-as words (p .ensures .1))
+    let words = found (a .number) (a .table .now) (l .loop .i) (w .before .before .line-end .result) (omega arith) (omega arith) (omega arith) in
+    rw (l .loop .inv .0) at (puts-as (words ∙ l .loop .inv .2) (p .ensures .1))
 
 loop-again : tie.Need-loop-again Inv-loop μ-loop
 loop-again c =
     let l = c .before .before .before .before .before in
-    let a = l .before .before .before .args in (
-      l .loop .inv .0,
-      l .loop .inv .1,
-      λ ws e f. passed ws (a .number) (a .table .now) (l .loop .i) (c .before .before .before .line-end .result) (omega arith) (omega arith) (omega arith)
-          (l .loop .inv .2 ws e f),
-    )
+    let a = l .before .before .before .args in
+    let words = passed (a .number) (a .table .now) (l .loop .i) (c .before .before .before .line-end .result) (omega arith) (omega arith) (omega arith) in
+    (l .loop .inv .0, l .loop .inv .1, words ∙ l .loop .inv .2)
 
 returns-2 : tie.Need-returns-2 Inv-loop μ-loop
-returns-2 c ws e f =
+returns-2 c =
     let p = c .before .before .put-all2 in
     let l = c .before .before .before .before .before .before in
     let a = l .before .before .before .args in
-    rw (l .loop .inv .0) at (puts-as (missing ws (a .number) (a .table .now) (l .loop .i) (omega arith) (l .loop .inv .2 ws e f)) (p .ensures .1))
+    rw (l .loop .inv .0) at (puts-as (missing (a .number) (a .table .now) (l .loop .i) (omega arith) ∙ l .loop .inv .2) (p .ensures .1))
 
 pub put-found-spec : {M : Type 1} → statement M
 put-found-spec =
