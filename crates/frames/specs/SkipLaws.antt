@@ -12,9 +12,9 @@ use Rattle.carriers.specs.declared.Carrier.{Carrier}
 use Rattle.carriers.specs.Carriers.{codeOf, headerOf, bareCode, octets}
 use Rattle.frames.specs.declared.Head.{Head}
 use Rattle.frames.specs.declared.Step.{Step}
-use Rattle.frames.specs.Frame.{codeIn, sizeIn, headIn, orMark, firstOf}
+use Rattle.frames.specs.Frame.{codeIn, sizeIn, headIn, orMark, firstOf, frame}
 use Rattle.frames.specs.Step.{headAt, stepAt}
-use Rattle.frames.specs.Skip.{Wide, Skips, Passes}
+use Rattle.frames.specs.Skip.{Wide, Skips, none, more, Passes}
 use Rattle.frames.specs.HeadLaws.{head-option}
 use Rattle.frames.specs.Laws.{step-first, step-skipped, option-fits}
 
@@ -50,19 +50,34 @@ module _ {code : ℕ} {reserved : Bool} {area : List ℕ} {at n : ℕ} (f : Fore
 
 -- ---- a run of options
 
+module _ {c : Carrier} {area : List ℕ} {from : ℕ} where
+  pub skips-forward : {to : ℕ} → Skips c area from to → from ≤ to
+  skips-forward (none h) = omega arith
+  skips-forward (more {at} s e) = omega (arith, skips-forward s, step-skipped c area at e .0)
+
+  pub skips-within : {to : ℕ} → Skips c area from to → to ≤ length area
+  skips-within (none h) = h
+  skips-within (more {at} s e) = step-skipped c area at e .1
+
+  -- the area is framed alike from both indices
+  pub skips-alike : {to : ℕ} → Skips c area from to → frame c (drop from area) ≡ frame c (drop to area)
+  skips-alike (none h) = refl
+  skips-alike (more {at} s e) = skips-alike s ∙ step-skipped c area at e .2
+
+  pub skips-then : {at to : ℕ} → Skips c area from at → Skips c area at to → Skips c area from to
+  skips-then s (none h) = s
+  skips-then s (more t e) = more (skips-then s t) e
+
 -- a step over an option that is not the carrier's own
 pub skips-step : (c : Carrier) (area : List ℕ) (at : ℕ) {end : ℕ} → stepAt c area at ≡ Step.Skipped end → Skips c area at end
-skips-step c area at e = let m = step-skipped c area at e in record { forward = omega (arith, m .0); within = m .1; alike = m .2 }
-
-pub skips-then : {c : Carrier} {area : List ℕ} {from at to : ℕ} → Skips c area from at → Skips c area at to → Skips c area from to
-skips-then s t = record { forward = omega (arith, s .forward, t .forward); within = t .within; alike = s .alike ∙ t .alike }
+skips-step c area at e = let m = step-skipped c area at e in more (none (omega (arith, m .0, m .1))) e
 
 module _ {code : ℕ} {reserved : Bool} {area : List ℕ} {from : ℕ} where
   pub passes-none : from ≤ length area → Passes code reserved area from from
-  passes-none h = record { within = h; skips = λ w. record { forward = omega arith; within = h; alike = refl } }
+  passes-none h = record { within = h; skips = λ w. none h }
 
   pub passes-more : {at n : ℕ} → Passes code reserved area from at → Foreign code reserved area at n → Passes code reserved area from (at + 4 + n)
   passes-more {at} {n} g f = record {
     within = omega (arith, f .header, f .whole);
-    skips = λ {c} w. skips-then (g .skips w) (skips-step c area at (foreign-step f w));
+    skips = λ w. more (g .skips w) (foreign-step f w);
   }

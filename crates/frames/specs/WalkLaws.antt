@@ -13,7 +13,7 @@ use Rattle.frames.specs.Step.{part, stepAt}
 use Rattle.frames.specs.Skip.{Skips}
 use Rattle.frames.specs.Walk.{prepend, Walked, Apart}
 use Rattle.frames.specs.Laws.{step-end, step-fault, step-block}
-use Rattle.frames.specs.SkipLaws.{skips-step}
+use Rattle.frames.specs.SkipLaws.{skips-within, skips-alike, skips-step}
 
 -- carriers 2 to 5
 pub apart-false : (j : Bool) → Apart j → j ≡ false
@@ -43,7 +43,7 @@ module _ (c : Carrier) (area : List ℕ) where
         record { within = m .2; frames = w .frames ∙ ap (prepend bs) (m .3) ∙ prepend-onto bs (part start end area) (frame c (drop end area)) }
 
     pub walked-skips : {to : ℕ} → Skips c area at to → Walked c area to bs
-    walked-skips s = record { within = s .within; frames = w .frames ∙ ap (prepend bs) (s .alike) }
+    walked-skips s = record { within = skips-within s; frames = w .frames ∙ ap (prepend bs) (skips-alike s) }
 
     pub walked-skipped : {end : ℕ} → stepAt c area at ≡ Step.Skipped end → Walked c area end bs
     walked-skipped e = walked-skips (skips-step c area at e)

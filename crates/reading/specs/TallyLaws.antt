@@ -15,6 +15,7 @@ use Rattle.carriers.specs.declared.Carrier.the-variants.{Dhcp4}
 use Rattle.frames.specs.declared.Step.{Step}
 use Rattle.frames.specs.Step.{part, stepAt}
 use Rattle.frames.specs.Skip.{Skips}
+use Rattle.frames.specs.SkipLaws.{skips-forward}
 use Rattle.frames.specs.WalkLaws.{walked-start, walked-block, walked-skips}
 use Rattle.frames.specs.Laws.{step-block}
 use Rattle.blocks.specs.Block.{Fields}
@@ -182,7 +183,7 @@ module _ (c : Carrier) (area : List ℕ) where
 
     pub tallying-skips : {to : ℕ} → Skips c area at to → Tallying c area to t
     tallying-skips s =
-        record { bodies = g .bodies; walked = walked-skips c area (g .walked) s; shows = g .shows; behind = omega (arith, g .behind, s .forward) }
+        record { bodies = g .bodies; walked = walked-skips c area (g .walked) s; shows = g .shows; behind = omega (arith, g .behind, skips-forward s) }
 
     module _ {start end : ℕ} (p : stepAt c area at ≡ Step.Block start end) where
       -- one more block, with what it yields

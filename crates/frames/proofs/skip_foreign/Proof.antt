@@ -2,6 +2,7 @@
 use mathlib.Core.Path.{sym, ap, _∙_}
 use borrow.Author.Needs.{needs}
 use Rattle.carriers.specs.declared.Facts.{Facts}
+use Rattle.frames.specs.Skip.{none}
 use Rattle.frames.proofs.skip_foreign.Statement.{statement}
 use Rattle.frames.proofs.skip_foreign.Tie as tie
 
@@ -24,8 +25,8 @@ skip-foreign-spec =
     tie.close
     (tie.spec
     (λ c κs. search needs)
-    (λ c. search needs)
-    (λ c. search needs)
+    (λ c. search (needs, none))
+    (λ c. search (needs, none))
     (λ c κs. search needs)
     returns-3
-    (λ c. search needs))
+    (λ c. search (needs, none)))

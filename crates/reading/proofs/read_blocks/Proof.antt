@@ -10,7 +10,7 @@ use Rattle.frames.specs.declared.Step.{Step}
 use Rattle.frames.specs.Frame.{frame}
 use Rattle.frames.specs.Step.{stepAt}
 use Rattle.frames.specs.Laws.{step-block, step-skipped}
-use Rattle.frames.specs.SkipLaws.{skips-step, skips-then}
+use Rattle.frames.specs.SkipLaws.{skips-forward, skips-step, skips-then}
 use Rattle.numbers.specs.Limit as limit
 use Rattle.order.specs.declared.Slot.{Slot}
 use Rattle.order.specs.Listed.{listed}
@@ -163,7 +163,7 @@ skip-foreign-requires : tie.Need-skip-foreign-requires Inv-loop μ-loop
 skip-foreign-requires c κs = step-skipped _ _ _ (skipped (c .before)) .1
 
 loop-less-4 : tie.Need-loop-less-4 Inv-loop μ-loop
-loop-less-4 c = let m = step-skipped _ _ _ (skipped (c .before .before)) in omega (arith, c .skip-foreign .ensures .forward)
+loop-less-4 c = let m = step-skipped _ _ _ (skipped (c .before .before)) in omega (arith, skips-forward (c .skip-foreign .ensures))
 
 loop-again-4 : tie.Need-loop-again-4 Inv-loop μ-loop
 loop-again-4 c =
