@@ -1,7 +1,7 @@
 -- The octets that a sheet's records take, and what the pass over them finds: the first fault, 21 to 28, whether a record is large (44), and how
 -- many octets they are one after another. Assumes nothing: these are definitions.
 use mathlib.Core.Path.{_≡_}
-use mathlib.Core.Bool.{Bool, cond, _||_}
+use mathlib.Core.Bool.{Bool, false, cond, _||_}
 use mathlib.Core.List.{List, []}
 use Prim.Native.Nat.{ℕ, _+_, _-_, _*_, _≤_}
 use lib.ListN.{length, take, drop}
@@ -74,11 +74,16 @@ pub record Light (n a p : ℕ) : Type 0 where
 abbrev pub most : ℕ
 most = 4 + mostBody
 
+-- with a fault nothing else is found
+abbrev pub faultAlone : ℕ → Weighed
+faultAlone k = record { fault = k; large = false; size = 0 }
+
 -- of one record: its fault; or 0, whether it is large, and its octets
 pub record WeighsOne (c : Carrier) (r : Fields) (w : Weighed) : Type 0 where
   pub first : w .fault ≡ faultOf Writing c r
   pub large-is : w .fault ≡ 0 → w .large ≡ large c r
   pub size-is : w .fault ≡ 0 → w .size ≡ length (shareOf c r)
+  pub alone : (w .fault ≡ 0 → ⊥) → w ≡ faultAlone (w .fault)
   pub small : w .size ≤ most
 
 -- of all records
@@ -86,6 +91,7 @@ pub record Weighs (c : Carrier) (rs : List Fields) (w : Weighed) : Type 0 where
   pub first : w .fault ≡ firstFault c rs
   pub large-is : w .fault ≡ 0 → w .large ≡ anyLarge c rs
   pub size-is : w .fault ≡ 0 → w .size ≡ length (streamOf c rs)
+  pub alone : (w .fault ≡ 0 → ⊥) → w ≡ faultAlone (w .fault)
 
 -- of the records rs those before an index have no fault; `large` and `size` are what is found of them
 pub record Weighing (c : Carrier) (s : List ℕ) (rs : List Fields) (at : ℕ) (large : Bool) (size : ℕ) : Type 0 where

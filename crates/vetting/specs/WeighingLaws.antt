@@ -36,7 +36,7 @@ use Rattle.taking.specs.StandingLaws.{standing-none, standing-step, taken-stand
 use Rattle.taking.specs.Exactly.{taken-sheet}
 use Rattle.vetting.specs.declared.Weighed.{Weighed}
 use Rattle.vetting.specs.Vetting.{streamOf, firstFault, large, anyLarge, largeBy}
-use Rattle.vetting.specs.Weighing.{recordsOf, TakenAs, cutAt, judgedBy, shareOf, shareOctets, weightOf, Light, most, WeighsOne, Weighs, Weighing}
+use Rattle.vetting.specs.Weighing.{recordsOf, TakenAs, cutAt, judgedBy, shareOf, shareOctets, weightOf, Light, most, faultAlone, WeighsOne, Weighs, Weighing}
 
 -- ---- octets
 
@@ -174,13 +174,16 @@ module _ (c : Carrier) (s : List ℕ) (p : Spot) {j : Judged} (judged : j ≡ ju
   pub judged-at : j .fault ≡ faultOf Writing c (fieldsAt s p)
   judged-at = ap (λ (j : Judged). j .fault) judged ∙ ap (faultOf Writing c) (fields-cut s p)
 
-  pub weighs-faulty : {w : Weighed} → (j .fault ≡ 0 → ⊥) → w .fault ≡ j .fault → w .size ≡ 0 → WeighsOne c (fieldsAt s p) w
-  weighs-faulty n e z = record {
-    first = e ∙ judged-at;
-    large-is = λ o. absurd (n (sym e ∙ o));
-    size-is = λ o. absurd (n (sym e ∙ o));
-    small = omega arith;
-  }
+  pub weighs-faulty : {w : Weighed} → (j .fault ≡ 0 → ⊥) → w ≡ faultAlone (j .fault) → WeighsOne c (fieldsAt s p) w
+  weighs-faulty n e =
+      let k = ap (λ (x : Weighed). x .fault) e in
+      record {
+        first = k ∙ judged-at;
+        large-is = λ o. absurd (n (sym k ∙ o));
+        size-is = λ o. absurd (n (sym k ∙ o));
+        alone = λ _. e ∙ ap faultAlone (sym k);
+        small = omega (arith, ap (λ (x : Weighed). x .size) e);
+      }
 
   pub weighs-passed : {w : Weighed} → Inside (length s) 0 p → FitsRecord c (fieldsAt s p) → j .fault ≡ 0 → w .fault ≡ 0
       → w .large ≡ largeBy c (w .size) → w .size ≡ shareOctets c (p .full) (p .nlen) (p .alen) (p .plen) → WeighsOne c (fieldsAt s p) w
@@ -192,6 +195,7 @@ module _ (c : Carrier) (s : List ℕ) (p : Spot) {j : Judged} (judged : j ≡ ju
         first = e ∙ sym n;
         large-is = λ _. l ∙ ap (largeBy c) m ∙ large-by c (fieldsAt s p);
         size-is = λ _. m ∙ sym (share-length c (fieldsAt s p));
+        alone = λ o. absurd (o e);
         small = omega (arith, k, share-small c (p .full) (p .nlen) (p .alen) (p .plen), h);
       }
 
@@ -267,14 +271,16 @@ module _ {c : Carrier} {s : List ℕ} {rs : List Fields} {at size : ℕ} {big : 
     first-is : one .fault ≡ faultOf Writing c (weighing-step .first)
     first-is = o .first ∙ ap (faultOf Writing c) (step-fields weighing-step)
 
-    pub weighing-faulty : {r : Weighed} → (one .fault ≡ 0 → ⊥) → r .fault ≡ one .fault → Weighs c rs r
-    weighing-faulty n k =
+    pub weighing-faulty : {r : Weighed} → (one .fault ≡ 0 → ⊥) → r ≡ faultAlone (one .fault) → Weighs c rs r
+    weighing-faulty n e =
+        let k = ap (λ (x : Weighed). x .fault) e in
         let t = weighing-step in
         let f = first-faulty c (t .first) (t .rest) (λ q. n (first-is ∙ q)) in
         record {
           first = k ∙ first-is ∙ sym f ∙ ap (firstFault c) (sym (t .are)) ∙ sym (w .faults);
           large-is = λ q. absurd (n (sym k ∙ q));
           size-is = λ q. absurd (n (sym k ∙ q));
+          alone = λ _. e ∙ ap faultAlone (sym k);
         }
 
     pub weighing-next : {l : Bool} → one .fault ≡ 0 → l ≡ (big || one .large) → Weighing c s rs (p .next) l (size + one .size)
@@ -315,4 +321,5 @@ weighing-end {c} {s} {rs} {at} {size} {big} w h e l k =
           ∙ ap (λ (x : List Fields). big || anyLarge c x) (sym z)
           ∙ sym (w .larges);
       size-is = λ _. omega (arith, k, w .sizes, ap (λ (x : List Fields). length (streamOf c x)) z, ap length (stream-none c));
+      alone = λ q. absurd (q e);
     }

@@ -8,7 +8,7 @@ ghost use lib.ListN.{length};
 ghost use Rattle.taking.specs.Sheet.{FitsRecord};
 ghost use Rattle.taking.specs.Spot.{fieldsAt, Inside};
 ghost use Rattle.vetting.specs.Vetting.{vetRecords, vetOf, told, largeBy};
-ghost use Rattle.vetting.specs.Weighing.{recordsOf, TakenAs, shareOctets, WeighsOne, Weighs};
+ghost use Rattle.vetting.specs.Weighing.{recordsOf, TakenAs, shareOctets, faultAlone, WeighsOne, Weighs};
 use carriers::Carrier;
 use judge::Side;
 use numbers::Limit;
@@ -36,7 +36,7 @@ struct Weighed {
 }
 
 fn faulty(fault: usize) -> Weighed
-    ensures { λ r. ⌜ (r .fault ≡ fault) × (r .size ≡ 0) ⌝ }
+    ensures { λ r. ⌜ r ≡ faultAlone fault ⌝ }
 {
     Weighed {
         fault,

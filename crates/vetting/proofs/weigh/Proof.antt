@@ -38,7 +38,7 @@ returns c =
     let w = c .before .before in
     let p = w .before in
     weighing-faulty (p .before .before .loop .inv) (p .record-at .ensures .0) (p .before .loop-test .taken) (w .weigh-record .ensures) (c .before .if1 .taken)
-    (c .faulty .ensures .0)
+    (c .faulty .ensures)
 
 add-size : tie.Need-add-size Inv-loop μ-loop
 add-size c =

@@ -13,7 +13,7 @@ returns : tie.Need-returns
 returns c =
     let j = c .before .before in
     let a = start j .args in
-    weighs-faulty (a .c) (a .s .now) (a .p) (j .judge-fields .ensures) (c .before .if1 .taken) (c .faulty .ensures .0) (c .faulty .ensures .1)
+    weighs-faulty (a .c) (a .s .now) (a .p) (j .judge-fields .ensures) (c .before .if1 .taken) (c .faulty .ensures)
 
 share-size-requires : tie.Need-share-size-requires
 share-size-requires c κs =
