@@ -1,7 +1,7 @@
 -- The laws of the count of the kept addresses: an IPv6 address whose first octet is plain is kept, the count of a list is that of its
 -- first addresses and of the rest, and what a loop that counts does in one turn. Assumes nothing.
 use mathlib.Core.Path.{_≡_, refl, sym, ap, _∙_}
-use mathlib.Core.Bool.{Bool, true, false, cond, not, _&&_, false≢true}
+use mathlib.Core.Bool.{Bool, true, false, cond, not, _&&_, false≢true, and-eq-true-iff}
 use mathlib.Core.List.{List, [], _∷_, _++_}
 use Prim.Native.Nat.{ℕ, zero, suc, _+_, _-_, _*_, _≤_, _<_}
 use native.Mathlib.Nat.{add-zero, add-sub-cancel-left}
@@ -120,19 +120,14 @@ count-plain s at next e h p =
     let kept = kept-keep 16 s at sixteen (omega arith) (sym (plain16-usable address (rw first p))) refl in
     rw e (ap length kept)
 
--- both tests hold where they hold together
-both : (p q : Bool) → p && q ≡ true → (p ≡ true) × (q ≡ true)
-both true q e = (refl, e)
-both false q e = absurd (false≢true e)
-
 -- four such addresses, by tests that are joined
 pub count-four : {s : List ℕ} {n at : ℕ} {a b c d : Bool} → Counting 16 s n at → 64 ≤ length s - at
     → a ≡ plain16 (getD s at 0) → b ≡ plain16 (getD s (at + 16) 0) → c ≡ plain16 (getD s (at + 32) 0) → d ≡ plain16 (getD s (at + 48) 0)
     → a && b && c && d ≡ true → Counting 16 s (n + 4) (at + 64)
 count-four {s} {n} {at} {a} {b} {c} {d} i h p q r t e =
-    let last = both (a && b && c) d e in
-    let third = both (a && b) c (last .0) in
-    let first = both a b (third .0) in
+    let last = and-eq-true-iff (a && b && c) d .0 e in
+    let third = and-eq-true-iff (a && b) c .0 (last .0) in
+    let first = and-eq-true-iff a b .0 (third .0) in
     record {
       within = omega arith;
       few = omega arith;

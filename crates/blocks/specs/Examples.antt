@@ -9,18 +9,18 @@ use Rattle.carriers.specs.declared.Carrier.the-variants.{Dhcp4, Dhcp6, Router, 
 use Rattle.blocks.specs.Block.{bad, fields, nameOnly, whole, short, isPadding, parse, layout}
 
 -- doh1.example.com in wire form, and as text
-abbrev N : List ℕ
+abbrev pub N : List ℕ
 N = 4 ∷ 100 ∷ 111 ∷ 104 ∷ 49 ∷ 7 ∷ 101 ∷ 120 ∷ 97 ∷ 109 ∷ 112 ∷ 108 ∷ 101 ∷ 3 ∷ 99 ∷ 111 ∷ 109 ∷ 0 ∷ []
 
-abbrev T : List ℕ
+abbrev pub T : List ℕ
 T = 100 ∷ 111 ∷ 104 ∷ 49 ∷ 46 ∷ 101 ∷ 120 ∷ 97 ∷ 109 ∷ 112 ∷ 108 ∷ 101 ∷ 46 ∷ 99 ∷ 111 ∷ 109 ∷ []
 
 -- alpn "dot"
-abbrev P : List ℕ
+abbrev pub P : List ℕ
 P = 0 ∷ 1 ∷ 0 ∷ 4 ∷ 3 ∷ 100 ∷ 111 ∷ 116 ∷ []
 
 -- 2001:db8:122:300::1
-abbrev A : List ℕ
+abbrev pub A : List ℕ
 A = 32 ∷ 1 ∷ 13 ∷ 184 ∷ 1 ∷ 34 ∷ 3 ∷ 0 ∷ 0 ∷ 0 ∷ 0 ∷ 0 ∷ 0 ∷ 0 ∷ 0 ∷ 1 ∷ []
 
 -- ---- K1 to K5

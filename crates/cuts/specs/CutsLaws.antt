@@ -10,6 +10,7 @@ use borrow.Author.Tests.{ltb-true, ltb-false}
 use lib.Dec.{ltb}
 use lib.ListN.{length, take, drop, length-take, take-append-drop}
 use lib.Seq.{take-all, take-length, length-take-le}
+use Rattle.octets.specs.ListsLaws.{all-take}
 use Rattle.numbers.specs.Refusal as refusal
 use Rattle.numbers.specs.Limit as limit
 use Rattle.carriers.specs.declared.Carrier.{Carrier}
@@ -29,7 +30,7 @@ use Rattle.roundtrip.specs.Returns.{bodyOf, bodiesOf, answerKept}
 use Rattle.roundtrip.specs.RecordReturns.{kept-room, kept-no-room, blocks-answer}
 use Rattle.roundtrip.specs.OctetsLaws.{octets-few, plain-octets, bodies-emit}
 use Rattle.cuts.specs.Cuts.{FirstRead, Cut, after-options, elsewhere}
-use Rattle.cuts.specs.ListLaws.{all-take, map-take, rising-take, search}
+use Rattle.cuts.specs.ListLaws.{map-take, rising-take, search}
 
 module _ (c : Carrier) (plain : Plain c) (s : List ℕ) (rs : List Fields) (accepted : Accepted s c rs) where
   -- the part before a cut is short enough to be framed

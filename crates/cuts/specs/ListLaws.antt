@@ -1,4 +1,4 @@
--- The first elements of a list: what holds of each, of their order and of what they are mapped to; and a search among the first numbers.
+-- The first elements of a list: of their order and of what they are mapped to; and a search among the first numbers.
 -- Assumes nothing.
 use mathlib.Core.Path.{_≡_, refl, ap, _∙_}
 use mathlib.Core.Logic.{_⊎_, inl, inr}
@@ -9,16 +9,10 @@ use native.Mathlib.Omega.{arith}
 use borrow.Author.Tests.{eqb-true, eqb-false}
 use lib.Dec.{eqb}
 use lib.ListN.{take}
-use Rattle.octets.specs.Lists.{All}
 use Rattle.blocks.specs.Block.{Fields}
 use Rattle.taking.specs.Sheet.{NoneFalls}
 
 module _ {A : Type 0} where
-  pub all-take : (P : A → Type 0) (k : ℕ) (l : List A) → All P l → All P (take k l)
-  all-take P zero l h = tt
-  all-take P (suc k) [] h = tt
-  all-take P (suc k) (x ∷ l) h = (h .0, all-take P k l (h .1))
-
   pub map-take : {B : Type 0} (f : A → B) (k : ℕ) (l : List A) → map f (take k l) ≡ take k (map f l)
   map-take f zero l = refl
   map-take f (suc k) [] = refl

@@ -8,8 +8,8 @@ use native.Mathlib.Omega.{arith}
 use borrow.Author.Tests.{ne-eqb}
 use lib.Dec.{eqb}
 use lib.ListN.{length}
-use Rattle.octets.specs.NumbersLaws.{bytes-left, bytes-right}
-use Rattle.octets.specs.Numbers.{be, Bytes}
+use Rattle.octets.specs.ListsLaws.{all-left, all-right}
+use Rattle.octets.specs.Numbers.{be, Octet, Bytes}
 use Rattle.octets.specs.Fields.{putCounted}
 use Rattle.carriers.specs.declared.Carrier.{Carrier}
 use Rattle.carriers.specs.declared.Carrier.the-variants.{Router}
@@ -32,16 +32,16 @@ use Rattle.exactly.specs.Allowed.{NameAllowed, TailAllowed, Allowed}
 -- ---- octets of a part
 
 counted-left : (w : ℕ) (x l : List ℕ) → Bytes (putCounted w x l) → Bytes x
-counted-left w x l h = bytes-left x l (bytes-right (be w (length x)) (x ++ l) h)
+counted-left w x l h = all-left Octet x l (all-right Octet (be w (length x)) (x ++ l) h)
 
 counted-right : (w : ℕ) (x l : List ℕ) → Bytes (putCounted w x l) → Bytes l
-counted-right w x l h = bytes-right x l (bytes-right (be w (length x)) (x ++ l) h)
+counted-right w x l h = all-right Octet x l (all-right Octet (be w (length x)) (x ++ l) h)
 
 opening-right : (c : Carrier) (f : Fields) (l : List ℕ) → Bytes (putOpening c f l) → Bytes l
 opening-right c f l h =
     let named : List ℕ = putCounted (lengthWidth c) (f .name) l in
     let timed : List ℕ = be (lifetimeWidth c) (f .lifetime) ++ named in
-    counted-right (lengthWidth c) (f .name) l (bytes-right (be (lifetimeWidth c) (f .lifetime)) named (bytes-right (be 2 (f .priority)) timed h))
+    counted-right (lengthWidth c) (f .name) l (all-right Octet (be (lifetimeWidth c) (f .lifetime)) named (all-right Octet (be 2 (f .priority)) timed h))
 
 named-parameters : (c : Carrier) (f : Fields) → f .full ≡ true → Bytes (putOpening c f (putAfterName c f)) → Bytes (f .parameters)
 named-parameters c f e h = counted-right (lengthWidth c) (f .addresses) (f .parameters) (rw e at (opening-right c f (putAfterName c f) h))
@@ -62,10 +62,10 @@ attribute-parameters c f h =
     let addressed : List ℕ = f .addresses ++ named in
     let sized : List ℕ = be (lengthWidth c) (length (f .name)) ++ addressed in
     let numbered : List ℕ = be 1 (length (f .addresses) / addressWidth c) ++ sized in
-    let a : Bytes numbered = bytes-right (be 2 (f .priority)) numbered h in
-    let b : Bytes sized = bytes-right (be 1 (length (f .addresses) / addressWidth c)) sized a in
-    let d : Bytes addressed = bytes-right (be (lengthWidth c) (length (f .name))) addressed b in
-    bytes-right (f .name) (f .parameters) (bytes-right (f .addresses) named d)
+    let a : Bytes numbered = all-right Octet (be 2 (f .priority)) numbered h in
+    let b : Bytes sized = all-right Octet (be 1 (length (f .addresses) / addressWidth c)) sized a in
+    let d : Bytes addressed = all-right Octet (be (lengthWidth c) (length (f .name))) addressed b in
+    all-right Octet (f .name) (f .parameters) (all-right Octet (f .addresses) named d)
 
 -- the parameters of a layout of octets are octets
 pub parameters-bytes : (c : Carrier) (f : Fields) → f .full ≡ true → Bytes (layout c f) → Bytes (f .parameters)

@@ -10,10 +10,9 @@ use borrow.Author.Tests.{ltb-true, ltb-false}
 use lib.Dec.{ltb}
 use lib.ListN.{length, take, drop, length-append, take-append-drop}
 use lib.Seq.{length-take-le}
-use Rattle.octets.specs.Numbers.{Bytes}
-use Rattle.octets.specs.NumbersLaws.{bytes-append, bytes-left, bytes-right}
+use Rattle.octets.specs.Numbers.{Octet, Bytes}
 use Rattle.octets.specs.Lists.{All, flat}
-use Rattle.octets.specs.ListsLaws.{all-map}
+use Rattle.octets.specs.ListsLaws.{all-append, all-left, all-right, all-map}
 use Rattle.octets.specs.Fields.{putCounted}
 use Rattle.carriers.specs.declared.Carrier.{Carrier}
 use Rattle.carriers.specs.declared.Carrier.the-variants.{Dhcp4}
@@ -158,8 +157,8 @@ yields-first (a ∷ b ∷ m) rs ih h e =
     let first : ahead (outcomeOf Dhcp4 x) (instancesFrom 0 l) ≡ yields rs =
     sym (instance-ahead x l (i .small)) ∙ ap (instancesFrom 0) (sym (i .are)) ∙ e in
     let k = ahead-yields (outcomeOf Dhcp4 x) (instancesFrom 0 l) rs first in
-    let y = body-exactly Dhcp4 x (k .0) (bytes-left x l (octets .1 .1)) tt .0 (k .1) in
-    let later = ih l (k .2 .0) (omega arith) (bytes-right x l (octets .1 .1)) (k .2 .1) in
+    let y = body-exactly Dhcp4 x (k .0) (all-left Octet x l (octets .1 .1)) tt .0 (k .1) in
+    let later = ih l (k .2 .0) (omega arith) (all-right Octet x l (octets .1 .1)) (k .2 .1) in
     first-instance (a ∷ b ∷ m) x l rs (k .2 .0) (k .0) (i .are) (k .2 .2) (i .small) y later
 
 -- of fewer than n octets
@@ -175,9 +174,9 @@ instances-yield (f ∷ fs) h fits allowed =
     let x : List ℕ = layout Dhcp4 f in
     let l : List ℕ = joinedOf fs in
     let octets : Bytes (putCounted 2 x l) = subst Bytes (counted-ahead x l) h in
-    let first = body-exactly Dhcp4 x (keepOf Dhcp4 f) (bytes-left x l (octets .1 .1)) tt .1
+    let first = body-exactly Dhcp4 x (keepOf Dhcp4 f) (all-left Octet x l (octets .1 .1)) tt .1
     record { fields = f; laid = refl; fits = fits .0 .0; allowed = allowed .0; kept = refl } in
-    let later = instances-yield fs (bytes-right x l (octets .1 .1)) (fits .1) (allowed .1) in
+    let later = instances-yield fs (all-right Octet x l (octets .1 .1)) (fits .1) (allowed .1) in
     ap (instancesFrom 0) (counted-ahead x l) ∙ instance-ahead x l (fits .0 .1) ∙ ap₂ ahead first later
 
 -- octets yield records exactly if they are instances of allowed fields, one after another
@@ -229,7 +228,7 @@ Block c b = Bytes b × Possible c b
 
 flat-bytes : (bs : List (List ℕ)) → All Bytes bs → Bytes (flat bs)
 flat-bytes [] h = tt
-flat-bytes (b ∷ bs) h = bytes-append b (flat bs) (h .0) (flat-bytes bs (h .1))
+flat-bytes (b ∷ bs) h = all-append Octet b (flat bs) (h .0) (flat-bytes bs (h .1))
 
 joined-block : (bs : List (List ℕ)) → All Bytes bs → All (Block Dhcp4) (joined bs)
 joined-block [] h = tt

@@ -2,13 +2,13 @@
 use mathlib.Core.Path.{_≡_, refl, subst}
 use mathlib.Core.Bool.{Bool, true, false, cond}
 use mathlib.Core.List.{List, [], _∷_, map}
-use Prim.Native.Nat.{ℕ, zero, suc, _+_, _*_, _-_, _≤_, _<_}
+use Prim.Native.Nat.{ℕ, zero, suc, _+_, _-_, _≤_, _<_}
 use native.Mathlib.Omega.{arith}
 use borrow.Author.Tests.{ltb-true, ltb-false}
 use lib.Dec.{ltb, eqb}
-use lib.ListN.{length, take, drop, length-append}
+use lib.ListN.{length, take, drop}
 use Rattle.octets.specs.Lists.{All}
-use Rattle.octets.specs.ListsLaws.{all-append}
+use Rattle.octets.specs.ListsLaws.{all-append, flat-few}
 use Rattle.octets.specs.Numbers.{at16}
 use Rattle.numbers.specs.Refusal as refusal
 use Rattle.numbers.specs.Fault as fault
@@ -24,7 +24,7 @@ use Rattle.frames.specs.Frame as area
 use Rattle.blocks.specs.Block.{Fields}
 use Rattle.records.specs.Records.{Outcome, faulty, kept, outcomeOf, recordOf}
 use Rattle.records.specs.RecordsLaws.{record-small}
-use Rattle.sheets.specs.Sheets.{recordsOf, sheetOf}
+use Rattle.sheets.specs.Sheets.{sheetOf}
 use Rattle.sheets.specs.SheetsLaws.{length-sheet}
 use Rattle.reading.specs.Reading.{Yield, discarded, yields, single, ahead, instance, instancesFrom, joinedYield, yieldOf, recordsIn, arrivals, discardedIn, firstFault, inOrder, Done, Answer, refuse, done, settle, readYields, readFramed, readChosen, readOf}
 use Rattle.reading.specs.ListLaws.{sort-laid}
@@ -81,14 +81,10 @@ arrivals-small c (b ∷ bs) = all-append (Small c) (recordsIn (yieldOf c b)) (ar
 
 -- ---- a sheet of such records
 
-records-few : (c : Carrier) (rs : List Fields) → All (Small c) rs → length (recordsOf c rs) ≤ length rs * limit.recordSize
-records-few c [] h = omega arith
-records-few c (r ∷ rs) h = omega (arith, length-append (recordOf c r) (recordsOf c rs), h .0, records-few c rs (h .1))
-
 -- 16 records at most, in order
 ordered-few : (c : Carrier) (rs : List Fields) → All (Small c) rs → length rs ≤ limit.records → length (sheetOf c (inOrder rs)) ≤ limit.sheetSize
 ordered-few c rs h few =
-    omega (arith, length-sheet c (inOrder rs), sort-laid (recordOf c) (λ (r : Fields). r .priority) rs, records-few c rs h)
+    omega (arith, length-sheet c (inOrder rs), sort-laid (recordOf c) (λ (r : Fields). r .priority) rs, flat-few (recordOf c) (Small c) limit.recordSize rs (λ r small. small) h)
 
 -- ---- the answer
 

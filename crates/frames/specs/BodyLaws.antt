@@ -9,14 +9,14 @@ use lib.ListN.{length, take, drop, length-drop}
 use lib.Seq.{length-take-le}
 use lib.Dec.{ltb}
 use borrow.Author.Tests.{ltb-true, ltb-false}
-use Rattle.octets.specs.Numbers.{Bytes}
-use Rattle.octets.specs.NumbersLaws.{bytes-take, bytes-drop}
+use Rattle.octets.specs.Numbers.{Octet, Bytes}
 use Rattle.carriers.specs.declared.Carrier.{Carrier}
 use Rattle.carriers.specs.declared.Carrier.the-variants.{Router}
 use Rattle.carriers.specs.Carriers.{headerOf, isJoined, octets}
 use Rattle.frames.specs.declared.Head.{Head}
 use Rattle.frames.specs.Frame.{firstOf, Framed, fault, framed, onto, after, frameFrom, frame, blocksOf}
 use Rattle.octets.specs.Lists.{All}
+use Rattle.octets.specs.ListsLaws.{all-take, all-drop}
 use Rattle.frames.specs.Walk.{Plain}
 use Rattle.frames.specs.HeadLaws.{first-own}
 use Rattle.frames.specs.Laws.{past}
@@ -70,7 +70,7 @@ pub bodies-bytes : (c : Carrier) (area : List ℕ) (bs : List (List ℕ)) → By
 bodies-bytes c area bs h e =
     each-body c Bytes Bytes
     (λ x xs h. h .1)
-    (λ s n h e le. bytes-drop (headerOf c) (take n s) (bytes-take n s h))
+    (λ s n h e le. all-drop Octet (headerOf c) (take n s) (all-take Octet n s h))
     area bs h e
 
 -- in carrier 3 a body and the two octets of its header are whole units of eight

@@ -14,12 +14,13 @@ use Rattle.carriers.specs.Carriers.{headerOf, isJoined, octets}
 use Rattle.frames.specs.declared.Head.{Head}
 use Rattle.frames.specs.Frame.{headIn, firstOf, Framed, fault, framed, onto, after, frameFrom, frame}
 use Rattle.octets.specs.Lists.{All}
+use Rattle.octets.specs.ListsLaws.{flat-map-append}
 use Rattle.frames.specs.Walk.{prepend, Plain}
 use Rattle.frames.specs.Emit.{optionOf, Fits, optionsOf}
 use Rattle.frames.specs.HeadLaws.{head-end, mark-apart, first-local, first-append, first-cut}
 use Rattle.frames.specs.Laws.{fault-framed, frame-bad, frame-over}
 use Rattle.frames.specs.WalkLaws.{prepend-none}
-use Rattle.frames.specs.EmitLaws.{option-first, frame-own, frame-options, options-append}
+use Rattle.frames.specs.EmitLaws.{option-first, frame-own, frame-options}
 
 -- ---- putting areas together
 
@@ -78,7 +79,7 @@ frame-append c p a b bs e = append-from c p zero a b bs e
 -- at an option's end
 pub cut-at-end : (c : Carrier) (bs cs : List (List ℕ)) → All (Fits c) bs → frame c (take (length (optionsOf c bs)) (optionsOf c (bs ++ cs))) ≡ framed bs
 cut-at-end c bs cs f =
-    ap (λ (l : List ℕ). frame c (take (length (optionsOf c bs)) l)) (options-append c bs cs)
+    ap (λ (l : List ℕ). frame c (take (length (optionsOf c bs)) l)) (flat-map-append (optionOf c) bs cs)
     ∙ ap (frame c) (take-at (optionsOf c bs) (optionsOf c cs) (length (optionsOf c bs)) refl)
     ∙ frame-options c bs f
 

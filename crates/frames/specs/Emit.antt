@@ -1,9 +1,10 @@
 -- Own options as octets (01, Area walk; the reserved bit of carriers 4 and 5 is written as 0). Assumes nothing: these are definitions.
 use mathlib.Core.Path.{_≡_}
 use mathlib.Core.Bool.{Bool, true, false, cond}
-use mathlib.Core.List.{List, [], _∷_, _++_}
+use mathlib.Core.List.{List, _++_, map}
 use Prim.Native.Nat.{ℕ, _+_, _*_, _/_, _%_, _^_, _<_}
 use lib.ListN.{length}
+use Rattle.octets.specs.Lists.{flat}
 use Rattle.octets.specs.Numbers.{be}
 use Rattle.carriers.specs.declared.Carrier.{Carrier}
 use Rattle.carriers.specs.Carriers.{codeOf, headWidth, headerOf, inEights}
@@ -32,5 +33,4 @@ Fits c body = CanSay (inEights c) (headerOf c) (headWidth c) (length body)
 
 -- an option for each body, one after another
 abbrev pub optionsOf : Carrier → List (List ℕ) → List ℕ
-optionsOf c [] = []
-optionsOf c (b ∷ bs) = optionOf c b ++ optionsOf c bs
+optionsOf c bs = flat (map (optionOf c) bs)

@@ -130,11 +130,6 @@ pub frame-options : (c : Carrier) (bs : List (List ℕ)) → All (Fits c) bs →
 frame-options c [] f = frame-none c
 frame-options c (b ∷ bs) f = frame-own c b (optionsOf c bs) (f .0) ∙ ap (onto true b) (frame-options c bs (f .1))
 
-pub options-append : (c : Carrier) (bs cs : List (List ℕ)) → optionsOf c (bs ++ cs) ≡ optionsOf c bs ++ optionsOf c cs
-options-append c [] cs = refl
-options-append c (b ∷ bs) cs =
-    ap (λ (l : List ℕ). optionOf c b ++ l) (options-append c bs cs) ∙ sym (append-assoc (optionOf c b) (optionsOf c bs) (optionsOf c cs))
-
 -- ---- carrier 1: padding in front changes nothing, and what follows an end is ignored
 
 pub frame-pad : (rest : List ℕ) → frame Dhcp4 (0 ∷ rest) ≡ frame Dhcp4 rest

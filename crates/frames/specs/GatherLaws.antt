@@ -1,6 +1,6 @@
 -- The walks of `gather` and `join` over an area of carrier 1, as they begin, go on and end. Assumes nothing.
 use mathlib.Core.Path.{_≡_, refl, sym, ap, _∙_, subst, subst⁻¹}
-use mathlib.Core.List.{List, [], _∷_, _++_, append-assoc, append-nil}
+use mathlib.Core.List.{List, [], _∷_, _++_, append-nil}
 use Prim.Native.Nat.{ℕ, _+_, _-_, _≤_}
 use native.Mathlib.Omega.{arith}
 use lib.ListN.{length, drop, length-append, length-drop}
@@ -13,6 +13,7 @@ use Rattle.frames.specs.declared.Gathered.{Gathered}
 use Rattle.frames.specs.declared.Gathered.the-variants.{Broken, Absent, One, Many}
 use Rattle.frames.specs.declared.Joined.{Joined}
 use Rattle.octets.specs.Lists.{flat}
+use Rattle.octets.specs.ListsLaws.{flat-append}
 use Rattle.frames.specs.Frame.{Framed, fault, framed, frame}
 use Rattle.frames.specs.Step.{part, stepAt}
 use Rattle.frames.specs.Walk.{prepend, Walked}
@@ -33,26 +34,6 @@ found-one area bs Broken more t = absurd (fault-framed (sym t))
 found-one area bs Absent more t = absurd (more refl)
 found-one area bs (One a z) more t = let one : bs ≡ part a z area ∷ [] = cc in omega (arith, ap length one)
 found-one area bs (Many from) more t = omega (arith, t .2)
-
--- and the other way: of an area that can be framed, what the frame is decides what is told
-module _ (area : List ℕ) {f : Framed} where
-  pub tells-absent : (r : Gathered) → Tells area f r → f ≡ framed [] → r ≡ Absent
-  tells-absent Broken t e = absurd (fault-framed (sym t ∙ e))
-  tells-absent Absent t e = refl
-  tells-absent (One start end) t e = let q : part start end area ∷ [] ≡ [] = cc in absurd (omega (arith, ap length q))
-  tells-absent (Many from) t e = let k : 2 ≤ 0 = subst Several e (t .2) in absurd (omega arith)
-
-  pub tells-one : (r : Gathered) {b : List ℕ} → Tells area f r → f ≡ framed (b ∷ []) → (start : ℕ) × (end : ℕ) × (r ≡ One start end)
-  tells-one Broken t e = absurd (fault-framed (sym t ∙ e))
-  tells-one Absent {b} t e = let q : b ∷ [] ≡ [] = cc in absurd (omega (arith, ap length q))
-  tells-one (One start end) t e = (start, end, refl)
-  tells-one (Many from) {b} t e = let k : 2 ≤ 1 = subst Several e (t .2) in absurd (omega arith)
-
-  pub tells-many : (r : Gathered) {bs : List (List ℕ)} → Tells area f r → f ≡ framed bs → 2 ≤ length bs → (from : ℕ) × (r ≡ Many from)
-  tells-many Broken t e h = absurd (fault-framed (sym t ∙ e))
-  tells-many Absent {bs} t e h = let q : bs ≡ [] = cc in absurd (omega (arith, ap length q))
-  tells-many (One start end) {bs} t e h = let q : bs ≡ part start end area ∷ [] = cc in absurd (omega (arith, ap length q))
-  tells-many (Many from) t e h = (from, refl)
 
 -- the bodies met before an index, at most one, and what was found of them; where something was found, none before `from`
 pub record Gathering (area : List ℕ) (at from : ℕ) (found : Gathered) : Type 0 where
@@ -101,8 +82,7 @@ module _ {area : List ℕ} {at from : ℕ} {found : Gathered} (g : Gathering are
 -- ---- the bodies one after another
 
 pub flat-snoc : (bs : List (List ℕ)) (b : List ℕ) → flat (bs ++ (b ∷ [])) ≡ flat bs ++ b
-flat-snoc [] b = append-nil b
-flat-snoc (c ∷ bs) b = ap (λ (l : List ℕ). c ++ l) (flat-snoc bs b) ∙ sym (append-assoc c (flat bs) b)
+flat-snoc bs b = flat-append bs (b ∷ []) ∙ ap (λ (l : List ℕ). flat bs ++ l) (append-nil b)
 
 pub part-length : (start end : ℕ) (s : List ℕ) → end ≤ length s → length (part start end s) ≡ end - start
 part-length start end s h = length-take-le (end - start) (drop start s) (simp length-drop (omega arith))

@@ -3,13 +3,13 @@ use mathlib.Core.Path.{_≡_, refl, sym, ap, ap₂, _∙_, subst, subst⁻¹}
 use mathlib.Core.Bool.{Bool, true, false, cond}
 use mathlib.Core.List.{List, [], _∷_}
 use Prim.Native.Nat.{ℕ, zero, suc, _+_, _-_, _%_, _≤_, _<_}
-use native.Mathlib.Nat.{le-of-suc-le-suc, not-suc-le-zero, zero-add, suc-add}
+use native.Mathlib.Nat.{le-of-suc-le-suc, not-suc-le-zero}
 use native.Mathlib.Omega.{arith}
 use lib.ListN.{length, take, drop, length-drop}
-use lib.Seq.{drop-length, take-nil, drop-drop}
+use lib.Seq.{drop-length, drop-drop}
 use lib.Dec.{ltb, leb}
 use borrow.Author.Tests.{lt-ltb, le-ltb, le-leb, lt-leb, eq-eqb, ne-eqb, ltb-true, ltb-false, leb-true, leb-false}
-use Rattle.octets.specs.ListsLaws.{take-rest}
+use Rattle.octets.specs.ListsLaws.{take-rest, drop-take}
 use Rattle.carriers.specs.declared.Carrier.{Carrier}
 use Rattle.carriers.specs.declared.Carrier.the-variants.{Router}
 use Rattle.carriers.specs.Carriers.{headerOf, octets}
@@ -112,18 +112,11 @@ own-room c s at h e = omega (arith, first-own c (take (length s - at) (drop at s
 
 -- ---- what a step says of the walk from there
 
-drop-take : (m n : ℕ) (l : List ℕ) → drop m (take (m + n) l) ≡ take n (drop m l)
-drop-take zero n l = ap (λ (k : ℕ). take k l) (zero-add n)
-drop-take (suc m) n [] = ap (λ (k : ℕ). drop (suc m) (take k [])) (suc-add m n) ∙ sym (take-nil n)
-drop-take (suc m) n (x ∷ xs) = ap (λ (k : ℕ). drop (suc m) (take k (x ∷ xs))) (suc-add m n) ∙ drop-take m n xs
-
 -- the body, as a part of the whole area
 body-part : (s : List ℕ) (at h n : ℕ) → h ≤ n → drop h (take n (drop at s)) ≡ part (at + h) (at + n) s
 body-part s at h n le =
-    let split : n ≡ h + (n - h) = omega arith in
     let size : n - h ≡ at + n - (at + h) = omega arith in
-    ap (λ (k : ℕ). drop h (take k (drop at s))) split
-    ∙ drop-take h (n - h) (drop at s)
+    drop-take h n (drop at s)
     ∙ ap (take (n - h)) (drop-drop h at s)
     ∙ ap (λ (k : ℕ). take k (drop (at + h) s)) size
 
@@ -138,11 +131,8 @@ Moves c s at Step.End = (at ≤ length s) × (frame c (drop at s) ≡ framed [])
 Moves c s at Step.Fault = at ≤ length s → frame c (drop at s) ≡ fault
 
 module _ (c : Carrier) (s : List ℕ) (at : ℕ) (inside : at < length s) where
-  left-len : length (drop at s) ≡ length s - at
-  left-len = length-drop at s
-
   some-left : 0 < length (drop at s)
-  some-left = omega (arith, left-len)
+  some-left = omega (arith, length-drop at s)
 
   moves-fits : (own : Bool) (n : ℕ) → firstOf c (drop at s) ≡ Head.Option own (octets n) → n ≤ length s - at → Moves c s at (optionAt c at own n)
   moves-fits true n e h =
@@ -150,7 +140,7 @@ module _ (c : Carrier) (s : List ℕ) (at : ℕ) (inside : at < length s) where
         refl,
         omega arith,
         omega arith,
-        frame-option c (drop at s) some-left e (omega (arith, left-len))
+        frame-option c (drop at s) some-left e (omega (arith, length-drop at s))
             ∙ ap₂ (λ (b t : List ℕ). onto true b (frame c t)) (body-part s at (headerOf c) n (r .body)) (drop-drop n at s),
         e ∙ ap (λ (k : ℕ). Head.Option true (octets k)) (omega arith),
       )
@@ -158,7 +148,7 @@ module _ (c : Carrier) (s : List ℕ) (at : ℕ) (inside : at < length s) where
       let p = first-pos c (drop at s) e in (
         omega arith,
         omega arith,
-        frame-option c (drop at s) some-left e (omega (arith, left-len))
+        frame-option c (drop at s) some-left e (omega (arith, length-drop at s))
             ∙ onto-skipped (drop (headerOf c) (take n (drop at s))) (frame c (drop n (drop at s)))
             ∙ ap (frame c) (drop-drop n at s),
       )
@@ -168,7 +158,7 @@ module _ (c : Carrier) (s : List ℕ) (at : ℕ) (inside : at < length s) where
   moves-option own n true t e = moves-fits own n e (leb-true _ _ t)
   moves-option own n false t e = λ _.
       let lt : length s - at < n = leb-false _ _ t in
-      frame-over c (drop at s) some-left e (omega (arith, left-len))
+      frame-over c (drop at s) some-left e (omega (arith, length-drop at s))
 
   moves-head : (z : Head) → firstOf c (drop at s) ≡ z → Moves c s at (headAt c (length s - at) at z)
   moves-head Head.Bad e = λ _. frame-bad c (drop at s) some-left e

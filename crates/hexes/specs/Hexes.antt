@@ -3,13 +3,10 @@
 use mathlib.Core.Bool.{Bool, cond, _&&_, _||_}
 use mathlib.Core.List.{List, [], _∷_, _++_}
 use Prim.Native.Nat.{ℕ, _+_, _-_, _*_, _/_, _%_}
-use lib.Dec.{leb, ltb, eqb}
+use lib.Dec.{ltb, eqb}
+use Rattle.octets.specs.Numbers.{range}
 
 -- ---- characters
-
--- x is from lo to hi
-abbrev pub range : ℕ → ℕ → ℕ → Bool
-range lo hi x = leb lo x && leb x hi
 
 -- x is one of 0 to 9, A to F and a to f
 unfoldable pub digit : ℕ → Bool

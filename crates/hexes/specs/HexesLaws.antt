@@ -9,8 +9,8 @@ use borrow.Author.Tests.{leb-true, leb-false, le-leb, lt-leb, lt-ltb, le-ltb, ne
 use lib.Dec.{leb, eqb}
 use lib.ListN.{length, getD, take}
 use lib.Seq.{take-suc}
-use Rattle.octets.specs.Numbers.{Bytes}
-use Rattle.hexes.specs.Hexes.{range, digit, value, separator, octet, Read, octets, other, onto, pairs, some, readHex, digitOf, two, hexOf}
+use Rattle.octets.specs.Numbers.{range, Bytes}
+use Rattle.hexes.specs.Hexes.{digit, value, separator, octet, Read, octets, other, onto, pairs, some, readHex, digitOf, two, hexOf}
 
 -- ---- characters
 

@@ -6,9 +6,12 @@ use Prim.Native.Nat.{ℕ, _+_, _≤_, _<_}
 use lib.ListN.{length, getD}
 use Rattle.octets.specs.Lists.{All}
 
--- each is a number of 16 bits
+-- a number of 16 bits, and a list of them
+abbrev pub Field : ℕ → Type 0
+Field f = f < 65536
+
 abbrev pub Fields : List ℕ → Type 0
-Fields fs = All (λ f. f < 65536) fs
+Fields fs = All Field fs
 
 -- the n fields from index s on are there, and are zero
 pub record Zeros (fs : List ℕ) (s n : ℕ) : Type 0 where

@@ -5,8 +5,8 @@ use mathlib.Core.List.{List, [], _∷_, _++_, map}
 use Prim.Native.Nat.{ℕ}
 use Prim.Native.Char.{code}
 use Prim.Native.String.{String, [] as []ˢ, _∷_ as _∷ˢ_}
-use Rattle.octets.specs.Numbers.{be, allZero}
-use Rattle.ips.specs.Ips.{digit, numeral, text4, fieldsOf, zerosAhead, longestFrom, runOf, colons, around, shortened, mapped, mixed, text6}
+use Rattle.octets.specs.Numbers.{be, words, allZero}
+use Rattle.ips.specs.Ips.{digit, numeral, text4, zerosAhead, longestFrom, runOf, colons, around, shortened, mapped, mixed, text6}
 
 -- the codes of a text's characters
 codes : String → List ℕ
@@ -55,5 +55,5 @@ module _ where
   texts-of-fours = refl
 
   texts-of-sixes : map (λ t. text6 (t .0)) sixes ≡ map (λ t. codes (t .1)) sixes
-  unfolding codes address text6 mapped allZero mixed text4 shortened around colons runOf longestFrom zerosAhead fieldsOf numeral digit
+  unfolding codes address text6 mapped allZero mixed text4 shortened around colons runOf longestFrom zerosAhead words numeral digit
   texts-of-sixes = refl

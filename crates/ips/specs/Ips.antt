@@ -2,10 +2,10 @@
 -- characters, where `0` is 48, `a` is 97, the dot is 46 and the colon is 58. Assumes nothing: these are definitions.
 use mathlib.Core.Bool.{Bool, cond, _&&_}
 use mathlib.Core.List.{List, [], _∷_, _++_, map}
-use Prim.Native.Nat.{ℕ, zero, suc, _+_, _-_, _*_, _/_, _%_}
+use Prim.Native.Nat.{ℕ, zero, suc, _+_, _-_, _/_, _%_}
 use lib.Dec.{eqb, ltb}
 use lib.ListN.{take, drop}
-use Rattle.octets.specs.Numbers.{at16, allZero}
+use Rattle.octets.specs.Numbers.{at16, words, allZero}
 use Rattle.ips.specs.declared.Run.{Run}
 
 -- ---- numbers
@@ -44,12 +44,6 @@ unfoldable pub text4 : List ℕ → List ℕ
 text4 a = joined 46 (map decimal a)
 
 -- ---- IPv6
-
--- octets as fields of 16 bits, two octets each
-unfoldable pub fieldsOf : List ℕ → List ℕ
-fieldsOf [] = []
-fieldsOf (x ∷ []) = []
-fieldsOf (x ∷ y ∷ a) = (x * 256 + y) ∷ fieldsOf a
 
 -- how many zero fields stand at the front
 unfoldable pub zerosAhead : List ℕ → ℕ
@@ -99,4 +93,4 @@ mixed a = 58 ∷ 58 ∷ 102 ∷ 102 ∷ 102 ∷ 102 ∷ 58 ∷ text4 (drop 12 a)
 
 -- sixteen octets as text
 unfoldable pub text6 : List ℕ → List ℕ
-text6 a = cond (mapped a) (mixed a) (shortened (runOf (fieldsOf a)) (fieldsOf a))
+text6 a = cond (mapped a) (mixed a) (shortened (runOf (words a)) (words a))

@@ -4,19 +4,19 @@ use mathlib.Core.Path.{_≡_, refl, _∙_}
 use mathlib.Core.Bool.{Bool, true, false, cond}
 use mathlib.Core.Logic.{inl, inr}
 use mathlib.Core.List.{List, [], _∷_, map}
-use Prim.Native.Nat.{ℕ, zero, suc, _+_, _-_, _*_, _/_, _≤_, _<_}
+use Prim.Native.Nat.{ℕ, suc, _+_, _-_, _*_, _≤_, _<_}
 use native.Mathlib.Nat.{mul-suc}
 use native.Mathlib.Omega.{arith}
 use borrow.Author.Tests.{eqb-true, eqb-false}
 use lib.Dec.{eqb}
 use lib.ListN.{length, take, drop, length-append, length-take, length-drop}
-use Rattle.octets.specs.Numbers.{Bytes}
-use Rattle.octets.specs.NumbersLaws.{bytes-drop}
+use Rattle.octets.specs.Numbers.{Octet, Bytes, words}
+use Rattle.octets.specs.NumbersLaws.{words-length, words-small}
 use Rattle.octets.specs.Lists.{All}
-use Rattle.octets.specs.ListsLaws.{all-append, all-map}
+use Rattle.octets.specs.ListsLaws.{all-append, all-take, all-drop, all-map}
 use Rattle.ips.specs.declared.Run.{Run}
-use Rattle.ips.specs.Ips.{decimal, hex, led, joined, text4, fieldsOf, runOf, colons, around, shortened, mapped, mixed, text6}
-use Rattle.ips.specs.Claims.{Fields, Digit, Sign}
+use Rattle.ips.specs.Ips.{decimal, hex, led, joined, text4, runOf, colons, around, shortened, mapped, mixed, text6}
+use Rattle.ips.specs.Claims.{Field, Fields, Digit, Sign}
 use Rattle.ips.specs.NumeralLaws.{numeral-length, numeral-digits}
 use Rattle.ips.specs.RunLaws.{run-inside}
 
@@ -30,27 +30,13 @@ by-run P r fs none some = go (eqb (r .count) 0) refl
     go true t = none (eqb-true _ _ t)
     go false t = some (eqb-false _ _ t)
 
-pub by-mapped : (P : List ℕ → Type 0) (a : List ℕ) → (mapped a ≡ true → P (mixed a)) → (mapped a ≡ false → P (shortened (runOf (fieldsOf a)) (fieldsOf a))) → P (text6 a)
+pub by-mapped : (P : List ℕ → Type 0) (a : List ℕ) → (mapped a ≡ true → P (mixed a)) → (mapped a ≡ false → P (shortened (runOf (words a)) (words a))) → P (text6 a)
 unfolding text6
 by-mapped P a is isnt = go (mapped a) refl
   where
-    go : (b : Bool) → mapped a ≡ b → P (cond b (mixed a) (shortened (runOf (fieldsOf a)) (fieldsOf a)))
+    go : (b : Bool) → mapped a ≡ b → P (cond b (mixed a) (shortened (runOf (words a)) (words a)))
     go true t = is t
     go false t = isnt t
-
--- ---- fields
-
-pub fields-length : (a : List ℕ) → length (fieldsOf a) ≡ length a / 2
-unfolding fieldsOf
-fields-length [] = refl
-fields-length (x ∷ []) = refl
-fields-length (x ∷ y ∷ a) = omega (arith, fields-length a)
-
-pub fields-small : (a : List ℕ) → Bytes a → Fields (fieldsOf a)
-unfolding fieldsOf
-fields-small [] h = tt
-fields-small (x ∷ []) h = tt
-fields-small (x ∷ y ∷ a) h = (omega (arith, h .0, h .1 .0), fields-small a (h .1 .1))
 
 -- ---- lengths
 
@@ -83,26 +69,12 @@ unfolding mixed
 text6-length a e = by-mapped (λ l. length l ≤ 39) a
     (λ t. omega (arith, text4-length (drop 12 a) (length-drop 12 a ∙ omega arith)))
     (λ t.
-    let eight : length (fieldsOf a) ≡ 8 = fields-length a ∙ omega arith in
-    by-run (λ l. length l ≤ 39) (runOf (fieldsOf a)) (fieldsOf a)
-    (λ n. omega (arith, colons-length (fieldsOf a)))
-    (λ n. omega (arith, around-length (runOf (fieldsOf a)) (fieldsOf a) eight (rw eight at (run-inside (fieldsOf a))))))
+    let eight : length (words a) ≡ 8 = words-length a ∙ omega arith in
+    by-run (λ l. length l ≤ 39) (runOf (words a)) (words a)
+    (λ n. omega (arith, colons-length (words a)))
+    (λ n. omega (arith, around-length (runOf (words a)) (words a) eight (rw eight at (run-inside (words a))))))
 
 -- ---- characters
-
-pub fields-take : (n : ℕ) (fs : List ℕ) → Fields fs → Fields (take n fs)
-fields-take zero fs h = tt
-fields-take (suc n) [] h = tt
-fields-take (suc n) (f ∷ fs) h = (h .0, fields-take n fs (h .1))
-
-pub fields-drop : (n : ℕ) (fs : List ℕ) → Fields fs → Fields (drop n fs)
-fields-drop zero fs h = h
-fields-drop (suc n) [] h = tt
-fields-drop (suc n) (f ∷ fs) h = fields-drop n fs (h .1)
-
-pub bytes-all : (a : List ℕ) → Bytes a → All (λ x. x < 256) a
-bytes-all [] h = tt
-bytes-all (x ∷ a) h = (h .0, bytes-all a (h .1))
 
 pub decimal-digits : (x : ℕ) → x < 256 → All Digit (decimal x)
 decimal-digits x h = numeral-digits 10 (omega arith) (omega arith) 2 x (omega arith)
@@ -122,19 +94,19 @@ module _ (P Q : ℕ → Type 0) (c : ℕ) (f : ℕ → List ℕ) (digits : (x : 
 
 pub text4-all : (P : ℕ → Type 0) → ((x : ℕ) → Digit x → P x) → P 46 → (a : List ℕ) → Bytes a → All P (text4 a)
 unfolding text4
-text4-all P digits dot a h = joined-all P (λ x. x < 256) 46 decimal digits dot decimal-digits a (bytes-all a h)
+text4-all P digits dot a h = joined-all P Octet 46 decimal digits dot decimal-digits a h
 
 pub colons-all : (P : ℕ → Type 0) → ((x : ℕ) → Digit x → P x) → P 58 → (fs : List ℕ) → Fields fs → All P (colons fs)
 unfolding colons
-colons-all P digits colon fs h = joined-all P (λ x. x < 65536) 58 hex digits colon hex-digits fs h
+colons-all P digits colon fs h = joined-all P Field 58 hex digits colon hex-digits fs h
 
 pub shortened-all : (P : ℕ → Type 0) → ((x : ℕ) → Digit x → P x) → P 58 → (r : Run) (fs : List ℕ) → Fields fs → All P (shortened r fs)
 unfolding around
 shortened-all P digits colon r fs h = by-run (All P) r fs
     (λ n. colons-all P digits colon fs h)
     (λ n. all-append P (colons (take (r .start) fs)) (58 ∷ 58 ∷ colons (drop (r .start + r .count) fs))
-    (colons-all P digits colon (take (r .start) fs) (fields-take (r .start) fs h))
-    (colon, (colon, colons-all P digits colon (drop (r .start + r .count) fs) (fields-drop (r .start + r .count) fs h))))
+    (colons-all P digits colon (take (r .start) fs) (all-take Field (r .start) fs h))
+    (colon, (colon, colons-all P digits colon (drop (r .start + r .count) fs) (all-drop Field (r .start + r .count) fs h))))
 
 pub text4-signs : (a : List ℕ) → Bytes a → All Sign (text4 a)
 text4-signs a h = text4-all Sign (λ x d. inl d) (inr (inl refl)) a h
@@ -142,8 +114,8 @@ text4-signs a h = text4-all Sign (λ x d. inl d) (inr (inl refl)) a h
 pub text6-signs : (a : List ℕ) → Bytes a → All Sign (text6 a)
 unfolding mixed
 text6-signs a h = by-mapped (All Sign) a
-    (λ t. (colon, (colon, (letter, (letter, (letter, (letter, (colon, text4-signs (drop 12 a) (bytes-drop 12 a h)))))))))
-    (λ t. shortened-all Sign (λ x d. inl d) colon (runOf (fieldsOf a)) (fieldsOf a) (fields-small a h))
+    (λ t. (colon, (colon, (letter, (letter, (letter, (letter, (colon, text4-signs (drop 12 a) (all-drop Octet 12 a h)))))))))
+    (λ t. shortened-all Sign (λ x d. inl d) colon (runOf (words a)) (words a) (words-small a h))
   where
     colon : Sign 58
     colon = inr (inr refl)

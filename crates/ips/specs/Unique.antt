@@ -1,23 +1,23 @@
 -- A text is of one address: two addresses with the same text are the same, in IPv4 and in IPv6. Assumes nothing.
 use mathlib.Core.Path.{_≡_, refl, sym, ap, _∙_}
-use mathlib.Core.Bool.{Bool, true, false, _&&_, false≢true}
+use mathlib.Core.Bool.{Bool, true, false, and-eq-true-iff}
 use mathlib.Core.Logic.{_⊎_, inl, inr}
 use mathlib.Core.List.{List, [], _∷_, _++_, map, append-nil, append-assoc}
-use Prim.Native.Nat.{ℕ, zero, _+_, _-_, _*_, _/_, _%_, _≤_, _<_}
+use Prim.Native.Nat.{ℕ, zero, _+_, _-_, _/_, _≤_, _<_}
 use native.Mathlib.Omega.{arith}
 use borrow.Author.Tests.{eqb-true, ltb-true, ltb-false}
 use lib.Dec.{eqb, ltb}
 use lib.ListN.{length, getD, take, drop, length-append, length-drop, take-append-drop}
 use lib.Seq.{length-take-le, getD-take, getD-drop, drop-cons, ext-getD}
-use Rattle.octets.specs.Numbers.{Bytes, at16, zeros, allZero}
-use Rattle.octets.specs.NumbersLaws.{bytes-drop, bytes-getD, zero-zeros}
+use Rattle.octets.specs.Numbers.{Octet, Bytes, at16, words, numbersOf, zeros, allZero}
+use Rattle.octets.specs.NumbersLaws.{bytes-getD, words-length, words-small, numbers-words, zero-zeros}
 use Rattle.octets.specs.Lists.{All}
-use Rattle.octets.specs.ListsLaws.{all-map}
-use Rattle.ips.specs.Ips.{decimal, hex, led, joined, text4, fieldsOf, runOf, colons, around, shortened, mapped, mixed, text6}
-use Rattle.ips.specs.Claims.{Fields, Zeros, Digit}
+use Rattle.octets.specs.ListsLaws.{all-take, all-drop, all-map}
+use Rattle.ips.specs.Ips.{decimal, hex, led, joined, text4, runOf, colons, around, shortened, mapped, mixed, text6}
+use Rattle.ips.specs.Claims.{Field, Fields, Zeros, Digit}
 use Rattle.ips.specs.NumeralLaws.{numeral-some, numeral-same}
 use Rattle.ips.specs.RunLaws.{run-longest, run-inside}
-use Rattle.ips.specs.IpsLaws.{by-run, by-mapped, fields-length, fields-small, fields-take, fields-drop, bytes-all, decimal-digits, hex-digits, shortened-all}
+use Rattle.ips.specs.IpsLaws.{by-run, by-mapped, decimal-digits, hex-digits, shortened-all}
 
 -- ---- parts and separators
 
@@ -119,7 +119,7 @@ unfolding text4
 text4-same a b ha hb e = joined-same (λ x. x < 256) 46 decimal (numeral-some 10 2)
     (λ x h. all-map Digit (λ x. x ≡ 46 → ⊥) (decimal x) (digit-not 46 (inl refl)) (decimal-digits x h))
     (λ x y h k q. numeral-same 10 (omega arith) (omega arith) 2 x y (omega arith) (omega arith) q)
-    a b [] [] (bytes-all a ha) (bytes-all b hb) tt tt (append-nil (text4 a) ∙ e ∙ sym (append-nil (text4 b))) .0
+    a b [] [] ha hb tt tt (append-nil (text4 a) ∙ e ∙ sym (append-nil (text4 b))) .0
 
 -- ---- IPv6: fields
 
@@ -156,9 +156,9 @@ around-same fs gs hf hg e nf ng q =
     let n : ℕ = runOf fs .count in
     let t : ℕ = runOf gs .start in
     let m : ℕ = runOf gs .count in
-    let parts = colons-same (take s fs) (take t gs) (58 ∷ 58 ∷ colons (drop (s + n) fs)) (58 ∷ 58 ∷ colons (drop (t + m) gs)) (fields-take s fs hf) (fields-take t gs hg) (refl, refl) (refl, refl) q in
+    let parts = colons-same (take s fs) (take t gs) (58 ∷ 58 ∷ colons (drop (s + n) fs)) (58 ∷ 58 ∷ colons (drop (t + m) gs)) (all-take Field s fs hf) (all-take Field t gs hg) (refl, refl) (refl, refl) q in
     let texts : colons (drop (s + n) fs) ++ [] ≡ colons (drop (t + m) gs) ++ [] = simp append-nil (ap (λ (l : List ℕ). drop 2 l) (parts .1)) in
-    let after : drop (s + n) fs ≡ drop (t + m) gs = colons-same (drop (s + n) fs) (drop (t + m) gs) [] [] (fields-drop (s + n) fs hf) (fields-drop (t + m) gs hg) tt tt texts .0 in
+    let after : drop (s + n) fs ≡ drop (t + m) gs = colons-same (drop (s + n) fs) (drop (t + m) gs) [] [] (all-drop Field (s + n) fs hf) (all-drop Field (t + m) gs hg) tt tt texts .0 in
     let inf = run-inside fs in
     let ing = run-inside gs in
     let starts : s ≡ t = sym (length-take-le s fs (omega arith)) ∙ ap length (parts .0) ∙ length-take-le t gs (omega arith) in
@@ -172,7 +172,7 @@ unfolding around
 whole-not-around fs gs hf hg e =
     let s : ℕ = runOf gs .start in
     let rest : List ℕ = 58 ∷ 58 ∷ colons (drop (s + runOf gs .count) gs) in
-    let q = colons-same fs (take s gs) [] rest hf (fields-take s gs hg) tt (refl, refl) (append-nil (colons fs) ∙ e) .1 in
+    let q = colons-same fs (take s gs) [] rest hf (all-take Field s gs hg) tt (refl, refl) (append-nil (colons fs) ∙ e) .1 in
     let z : _≡_ {A = ℕ} 0 1 = cc in
     omega arith
 
@@ -187,34 +187,16 @@ shortened-same fs gs hf hg e = by-run (λ l. l ≡ shortened (runOf gs) gs → f
 
 -- ---- IPv6: octets
 
--- fields as octets
-octetsOf : List ℕ → List ℕ
-octetsOf [] = []
-octetsOf (f ∷ fs) = f / 256 ∷ f % 256 ∷ octetsOf fs
-
-octets-fields : (a : List ℕ) → Bytes a → length a % 2 ≡ 0 → octetsOf (fieldsOf a) ≡ a
-unfolding octetsOf fieldsOf
-octets-fields [] h e = refl
-octets-fields (x ∷ []) h e = absurd (omega arith)
-octets-fields (x ∷ y ∷ a) h e =
-    let q : (x * 256 + y) / 256 ≡ x = omega (arith, h .1 .0) in
-    let r : (x * 256 + y) % 256 ≡ y = omega (arith, h .1 .0) in
-    rw (q, r, octets-fields a (h .1 .1) (omega arith))
-
-pub fields-same : (a b : List ℕ) → Bytes a → Bytes b → length a ≡ 16 → length b ≡ 16 → fieldsOf a ≡ fieldsOf b → a ≡ b
-fields-same a b ha hb la lb e = sym (octets-fields a ha (omega arith)) ∙ ap octetsOf e ∙ octets-fields b hb (omega arith)
+pub fields-same : (a b : List ℕ) → Bytes a → Bytes b → length a ≡ 16 → length b ≡ 16 → words a ≡ words b → a ≡ b
+fields-same a b ha hb la lb e = sym (numbers-words a ha (omega arith)) ∙ ap numbersOf e ∙ numbers-words b hb (omega arith)
 
 -- ---- IPv6: mapped addresses
-
-and-true : (p q : Bool) → p && q ≡ true → (p ≡ true) × (q ≡ true)
-and-true true q e = (refl, e)
-and-true false q e = absurd (false≢true e)
 
 -- an IPv4-mapped address is ten zeros, two octets of ones, and the IPv4 address (RFC 4291 §2.5.5.2)
 pub mapped-octets : (a : List ℕ) → Bytes a → length a ≡ 16 → mapped a ≡ true → a ≡ zeros 10 ++ (255 ∷ 255 ∷ drop 12 a)
 unfolding mapped
 mapped-octets a h l e =
-    let both = and-true (allZero (take 10 a)) (eqb (at16 a 10) 65535) e in
+    let both = and-eq-true-iff (allZero (take 10 a)) (eqb (at16 a 10) 65535) .0 e in
     let ten : length (take 10 a) ≡ 10 = length-take-le 10 a (omega arith) in
     let front : take 10 a ≡ zeros 10 = zero-zeros (take 10 a) (both .0) ∙ ap zeros ten in
     let ones : at16 a 10 ≡ 65535 = eqb-true _ _ (both .1) in
@@ -236,10 +218,10 @@ has-dot [] l h = omega arith
 has-dot (x ∷ []) l h = omega arith
 has-dot (x ∷ y ∷ a) l h = middle (λ x. x ≡ 46 → ⊥) (decimal x) (decimal y ++ led 46 (map decimal a)) 46 h refl
 
-mixed-not-fields : (a b : List ℕ) → Bytes b → length a ≡ 16 → mixed a ≡ shortened (runOf (fieldsOf b)) (fieldsOf b) → ⊥
+mixed-not-fields : (a b : List ℕ) → Bytes b → length a ≡ 16 → mixed a ≡ shortened (runOf (words b)) (words b) → ⊥
 unfolding mixed
 mixed-not-fields a b hb l e =
-    let all = shortened-all (λ x. x ≡ 46 → ⊥) (digit-not 46 (inl refl)) (λ q. omega arith) (runOf (fieldsOf b)) (fieldsOf b) (fields-small b hb) in
+    let all = shortened-all (λ x. x ≡ 46 → ⊥) (digit-not 46 (inl refl)) (λ q. omega arith) (runOf (words b)) (words b) (words-small b hb) in
     let four : length (drop 12 a) ≡ 4 = length-drop 12 a ∙ omega arith in
     let here : Without 46 (mixed a) = rw (← e) at all in
     has-dot (drop 12 a) four (here .1 .1 .1 .1 .1 .1 .1)
@@ -249,11 +231,11 @@ unfolding mixed
 text6-same a b ha hb la lb = by-mapped (λ l. l ≡ text6 b → a ≡ b) a
     (λ t. by-mapped (λ l. mixed a ≡ l → a ≡ b) b
     (λ u q.
-    let last : drop 12 a ≡ drop 12 b = text4-same (drop 12 a) (drop 12 b) (bytes-drop 12 a ha) (bytes-drop 12 b hb) (ap (λ (l : List ℕ). drop 7 l) q) in
+    let last : drop 12 a ≡ drop 12 b = text4-same (drop 12 a) (drop 12 b) (all-drop Octet 12 a ha) (all-drop Octet 12 b hb) (ap (λ (l : List ℕ). drop 7 l) q) in
     mapped-octets a ha la t ∙ rw last (sym (mapped-octets b hb lb u)))
     (λ u q. absurd (mixed-not-fields a b hb la q)))
-    (λ t. by-mapped (λ l. shortened (runOf (fieldsOf a)) (fieldsOf a) ≡ l → a ≡ b) b
+    (λ t. by-mapped (λ l. shortened (runOf (words a)) (words a) ≡ l → a ≡ b) b
     (λ u q. absurd (mixed-not-fields b a ha lb (sym q)))
     (λ u q.
-    let long : length (fieldsOf a) ≡ length (fieldsOf b) = fields-length a ∙ ap (λ (n : ℕ). n / 2) (la ∙ sym lb) ∙ sym (fields-length b) in
-    fields-same a b ha hb la lb (shortened-same (fieldsOf a) (fieldsOf b) (fields-small a ha) (fields-small b hb) long q)))
+    let long : length (words a) ≡ length (words b) = words-length a ∙ ap (λ (n : ℕ). n / 2) (la ∙ sym lb) ∙ sym (words-length b) in
+    fields-same a b ha hb la lb (shortened-same (words a) (words b) (words-small a ha) (words-small b hb) long q)))

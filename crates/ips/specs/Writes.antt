@@ -9,14 +9,14 @@ use borrow.Author.Tests.{lt-ltb, le-ltb, eq-eqb, ne-eqb}
 use lib.Dec.{eqb}
 use lib.ListN.{length, getD, take, drop, length-append, take-append-drop, drop-of-length-le}
 use lib.Seq.{drop-cons, take-suc, take-all}
-use Rattle.octets.specs.Numbers.{at16, allZero}
+use Rattle.octets.specs.Numbers.{at16, words, allZero}
 use Rattle.octets.specs.Over.{Wrote}
 use Rattle.octets.specs.OverLaws.{then}
 use Rattle.ips.specs.declared.Run.{Run}
-use Rattle.ips.specs.Ips.{digit, numeral, decimal, hex, led, text4, fieldsOf, zerosAhead, run, longer, longestFrom, shortening, runOf, colons, around, shortened, mapped, mixed, text6}
+use Rattle.ips.specs.Ips.{digit, numeral, decimal, hex, led, text4, zerosAhead, run, longer, longestFrom, shortening, runOf, colons, around, shortened, mapped, mixed, text6}
 use Rattle.ips.specs.NumeralLaws.{fewer, one-digit}
 use Rattle.ips.specs.RunLaws.{run-inside}
-use Rattle.ips.specs.IpsLaws.{fields-length}
+use Rattle.octets.specs.NumbersLaws.{words-length}
 
 -- ---- numbers
 
@@ -78,8 +78,8 @@ pub no-zero : (f n : ℕ) → (f ≡ 0 → ⊥) → 0 ≡ cond (eqb f 0) (n + 1)
 no-zero f n h = rw (ne-eqb f 0 h)
 
 -- the field at an index is the number of its two octets
-pub field-at : (a : List ℕ) (i : ℕ) → 2 * i + 1 < length a → getD (fieldsOf a) i 0 ≡ at16 a (2 * i)
-unfolding fieldsOf
+pub field-at : (a : List ℕ) (i : ℕ) → 2 * i + 1 < length a → getD (words a) i 0 ≡ at16 a (2 * i)
+unfolding words
 field-at [] i h = absurd (omega arith)
 field-at (x ∷ []) i h = absurd (omega arith)
 field-at (x ∷ y ∷ a) zero h = refl
@@ -89,12 +89,12 @@ field-at (x ∷ y ∷ a) (suc i) h =
     rw (e, f) (field-at a i (omega arith))
 
 -- one field more, from the last back
-pub zeros-turn : (a : List ℕ) (i z g : ℕ) → 2 * i + 1 < length a → g ≡ at16 a (2 * i) → z ≡ zerosAhead (drop (i + 1) (fieldsOf a))
-    → cond (eqb g 0) (z + 1) 0 ≡ zerosAhead (drop i (fieldsOf a))
+pub zeros-turn : (a : List ℕ) (i z g : ℕ) → 2 * i + 1 < length a → g ≡ at16 a (2 * i) → z ≡ zerosAhead (drop (i + 1) (words a))
+    → cond (eqb g 0) (z + 1) 0 ≡ zerosAhead (drop i (words a))
 unfolding zerosAhead
 zeros-turn a i z g h e q =
-    let k : i < length (fieldsOf a) = omega (arith, fields-length a) in
-    rw (q, e, ← (field-at a i h), add-one i, drop-cons (fieldsOf a) i 0 k)
+    let k : i < length (words a) = omega (arith, words-length a) in
+    rw (q, e, ← (field-at a i h), add-one i, drop-cons (words a) i 0 k)
 
 longest-step : (i z f : ℕ) (best : Run) (l m : List ℕ) → l ≡ f ∷ m → z ≡ zerosAhead l → best ≡ longestFrom (i + 1) m → longer (run i z) best ≡ longestFrom i l
 unfolding longestFrom
@@ -105,20 +105,20 @@ pub longest-turn : (fs : List ℕ) (i z : ℕ) (best : Run) → i < length fs �
 longest-turn fs i z best h e q = longest-step i z (getD fs i 0) best (drop i fs) (drop (i + 1) fs) (rw (add-one i) (drop-cons fs i 0 h)) e q
 
 -- where that walk starts no field is left
-pub no-fields : (a : List ℕ) → length a ≡ 16 → drop 8 (fieldsOf a) ≡ []
-no-fields a e = drop-of-length-le (fieldsOf a) {i = 8} (omega (arith, fields-length a))
+pub no-fields : (a : List ℕ) → length a ≡ 16 → drop 8 (words a) ≡ []
+no-fields a e = drop-of-length-le (words a) {i = 8} (omega (arith, words-length a))
 
 -- ---- fields
 
-pub fields-of-take : (k : ℕ) (a : List ℕ) → fieldsOf (take (2 * k) a) ≡ take k (fieldsOf a)
-unfolding fieldsOf
+pub fields-of-take : (k : ℕ) (a : List ℕ) → words (take (2 * k) a) ≡ take k (words a)
+unfolding words
 fields-of-take zero a = refl
 fields-of-take (suc k) [] = let e : 2 * suc k ≡ suc (suc (2 * k)) = omega arith in rw e
 fields-of-take (suc k) (x ∷ []) = let e : 2 * suc k ≡ suc (suc (2 * k)) = omega arith in rw e
 fields-of-take (suc k) (x ∷ y ∷ a) = let e : 2 * suc k ≡ suc (suc (2 * k)) = omega arith in rw (e, fields-of-take k a)
 
-pub fields-of-drop : (k : ℕ) (a : List ℕ) → fieldsOf (drop (2 * k) a) ≡ drop k (fieldsOf a)
-unfolding fieldsOf
+pub fields-of-drop : (k : ℕ) (a : List ℕ) → words (drop (2 * k) a) ≡ drop k (words a)
+unfolding words
 fields-of-drop zero a = refl
 fields-of-drop (suc k) [] = let e : 2 * suc k ≡ suc (suc (2 * k)) = omega arith in rw e
 fields-of-drop (suc k) (x ∷ []) = let e : 2 * suc k ≡ suc (suc (2 * k)) = omega arith in rw e
@@ -130,61 +130,61 @@ led-append (x ∷ xs) ys = ap (λ (l : List ℕ). 58 ∷ (hex x ++ l)) (led-appe
 
 -- fields that are written with a colon before each: there is room for the next, and it goes after those before it
 module _ (a : List ℕ) (k : ℕ) (h : 2 * k + 1 < length a) where
-  inside : k < length (fieldsOf a)
-  inside = omega (arith, fields-length a)
+  inside : k < length (words a)
+  inside = omega (arith, words-length a)
 
-  pub led-room : (g : ℕ) → g ≡ at16 a (2 * k) → length (led 58 (map hex (take k (fieldsOf a)))) + 1 + length (hex g) ≤ length (led 58 (map hex (fieldsOf a)))
+  pub led-room : (g : ℕ) → g ≡ at16 a (2 * k) → length (led 58 (map hex (take k (words a)))) + 1 + length (hex g) ≤ length (led 58 (map hex (words a)))
   led-room g e =
-      let fs : List ℕ = fieldsOf a in
+      let fs : List ℕ = words a in
       let f : getD fs k 0 ≡ g = field-at a k h ∙ sym e in
       let parts : led 58 (map hex fs) ≡ led 58 (map hex (take k fs)) ++ led 58 (map hex (drop k fs)) = ap (λ (l : List ℕ). led 58 (map hex l)) (sym (take-append-drop k fs)) ∙ led-append (take k fs) (drop k fs) in
       let next : led 58 (map hex (drop k fs)) ≡ 58 ∷ (hex g ++ led 58 (map hex (drop (suc k) fs))) = ap (λ (l : List ℕ). led 58 (map hex l)) (drop-cons fs k 0 inside) ∙ rw f in
       omega (arith, simp length-append at (ap length parts), simp length-append at (ap length next))
 
-  pub wrote-next : {at n r g : ℕ} {l l′ l″ : List ℕ} → g ≡ at16 a (2 * k) → Wrote at (led 58 (map hex (take k (fieldsOf a)))) l n l′ → Wrote n (58 ∷ hex g) l′ r l″
-      → Wrote at (led 58 (map hex (take (k + 1) (fieldsOf a)))) l r l″
+  pub wrote-next : {at n r g : ℕ} {l l′ l″ : List ℕ} → g ≡ at16 a (2 * k) → Wrote at (led 58 (map hex (take k (words a)))) l n l′ → Wrote n (58 ∷ hex g) l′ r l″
+      → Wrote at (led 58 (map hex (take (k + 1) (words a)))) l r l″
   wrote-next {at} {n} {r} {g} e w v =
-      let fs : List ℕ = fieldsOf a in
+      let fs : List ℕ = words a in
       let f : getD fs k 0 ≡ g = field-at a k h ∙ sym e in
       let more : led 58 (map hex (take (k + 1) fs)) ≡ led 58 (map hex (take k fs)) ++ (58 ∷ (hex g ++ [])) = rw (add-one k, take-suc fs k 0 inside, f) (led-append (take k fs) (g ∷ [])) in
       rw (more, append-nil (hex g)) (then w v)
 
 -- all of them are written
-pub all-fields : (a : List ℕ) (k : ℕ) → length a / 2 ≤ k → take k (fieldsOf a) ≡ fieldsOf a
-all-fields a k h = take-all k (fieldsOf a) (omega (arith, fields-length a))
+pub all-fields : (a : List ℕ) (k : ℕ) → length a / 2 ≤ k → take k (words a) ≡ words a
+all-fields a k h = take-all k (words a) (omega (arith, words-length a))
 
-pub no-colons : (a : List ℕ) → length a < 2 → colons (fieldsOf a) ≡ []
-unfolding colons fieldsOf
+pub no-colons : (a : List ℕ) → length a < 2 → colons (words a) ≡ []
+unfolding colons words
 no-colons [] h = refl
 no-colons (x ∷ []) h = refl
 no-colons (x ∷ y ∷ a) h = absurd (omega arith)
 
 -- the first field and those after it
-pub some-colons : (a : List ℕ) → 2 ≤ length a → colons (fieldsOf a) ≡ hex (at16 a 0) ++ led 58 (map hex (fieldsOf (drop 2 a)))
-unfolding colons fieldsOf
+pub some-colons : (a : List ℕ) → 2 ≤ length a → colons (words a) ≡ hex (at16 a 0) ++ led 58 (map hex (words (drop 2 a)))
+unfolding colons words
 some-colons [] h = absurd (omega arith)
 some-colons (x ∷ []) h = absurd (omega arith)
 some-colons (x ∷ y ∷ a) h = refl
 
-pub some-length : (a : List ℕ) (g : ℕ) → 2 ≤ length a → g ≡ at16 a 0 → length (colons (fieldsOf a)) ≡ length (hex g) + length (led 58 (map hex (fieldsOf (drop 2 a))))
-some-length a g h e = rw (e, some-colons a h) (length-append (hex (at16 a 0)) (led 58 (map hex (fieldsOf (drop 2 a)))))
+pub some-length : (a : List ℕ) (g : ℕ) → 2 ≤ length a → g ≡ at16 a 0 → length (colons (words a)) ≡ length (hex g) + length (led 58 (map hex (words (drop 2 a))))
+some-length a g h e = rw (e, some-colons a h) (length-append (hex (at16 a 0)) (led 58 (map hex (words (drop 2 a)))))
 
 pub wrote-colons : (a : List ℕ) {at m r g : ℕ} {l l′ l″ : List ℕ} → 2 ≤ length a → g ≡ at16 a 0 → Wrote at (hex g) l m l′
-    → Wrote m (led 58 (map hex (fieldsOf (drop 2 a)))) l′ r l″ → Wrote at (colons (fieldsOf a)) l r l″
+    → Wrote m (led 58 (map hex (words (drop 2 a)))) l′ r l″ → Wrote at (colons (words a)) l r l″
 wrote-colons a h e w v = rw (some-colons a h, ← e) (then w v)
 
 -- ---- the run's place in the octets
 
-around-octets : (a : List ℕ) (s n : ℕ) → around (run s n) (fieldsOf a) ≡ colons (fieldsOf (take (2 * s) a)) ++ (58 ∷ 58 ∷ colons (fieldsOf (drop (2 * (s + n)) a)))
+around-octets : (a : List ℕ) (s n : ℕ) → around (run s n) (words a) ≡ colons (words (take (2 * s) a)) ++ (58 ∷ 58 ∷ colons (words (drop (2 * (s + n)) a)))
 unfolding around
 around-octets a s n = rw (fields-of-take s a, fields-of-drop (s + n) a)
 
 pub around-length : (a : List ℕ) (s n : ℕ)
-    → length (around (run s n) (fieldsOf a)) ≡ length (colons (fieldsOf (take (2 * s) a))) + 2 + length (colons (fieldsOf (drop (2 * (s + n)) a)))
+    → length (around (run s n) (words a)) ≡ length (colons (words (take (2 * s) a))) + 2 + length (colons (words (drop (2 * (s + n)) a)))
 around-length a s n = ap length (around-octets a s n) ∙ simp length-append (omega arith)
 
-pub wrote-around : (a : List ℕ) (s n : ℕ) {at i j k r : ℕ} {l l₁ l₂ l₃ l₄ : List ℕ} → Wrote at (colons (fieldsOf (take (2 * s) a))) l i l₁ → Wrote i (58 ∷ []) l₁ j l₂
-    → Wrote j (58 ∷ []) l₂ k l₃ → Wrote k (colons (fieldsOf (drop (2 * (s + n)) a))) l₃ r l₄ → Wrote at (around (run s n) (fieldsOf a)) l r l₄
+pub wrote-around : (a : List ℕ) (s n : ℕ) {at i j k r : ℕ} {l l₁ l₂ l₃ l₄ : List ℕ} → Wrote at (colons (words (take (2 * s) a))) l i l₁ → Wrote i (58 ∷ []) l₁ j l₂
+    → Wrote j (58 ∷ []) l₂ k l₃ → Wrote k (colons (words (drop (2 * (s + n)) a))) l₃ r l₄ → Wrote at (around (run s n) (words a)) l r l₄
 wrote-around a s n before one two after = rw (around-octets a s n) (then before (then one (then two after)))
 
 -- where r is the run that is shortened
@@ -239,6 +239,6 @@ pub text6-mixed : (a : List ℕ) (b : Bool) → b ≡ mapped a → b ≡ true �
 unfolding text6
 text6-mixed a b e t = rw (← e, t)
 
-pub text6-fields : (a : List ℕ) (b : Bool) → b ≡ mapped a → b ≡ false → text6 a ≡ shortened (runOf (fieldsOf a)) (fieldsOf a)
+pub text6-fields : (a : List ℕ) (b : Bool) → b ≡ mapped a → b ≡ false → text6 a ≡ shortened (runOf (words a)) (words a)
 unfolding text6
 text6-fields a b e t = rw (← e, t)

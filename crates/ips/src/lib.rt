@@ -7,8 +7,9 @@ ghost use mathlib.Core.List.{[], _∷_, map};
 ghost use Prim.Native.Nat.{_+_, _*_, _^_, _≤_, _<_};
 ghost use lib.Dec.{eqb};
 ghost use lib.ListN.{length};
+ghost use Rattle.octets.specs.Numbers.{words};
 ghost use Rattle.octets.specs.Over.{Wrote};
-ghost use Rattle.ips.specs.Ips.{digit, numeral, decimal, hex, led, text4, fieldsOf, run, longer, shortening, runOf, colons, around, shortened, mapped, mixed, text6};
+ghost use Rattle.ips.specs.Ips.{digit, numeral, decimal, hex, led, text4, run, longer, shortening, runOf, colons, around, shortened, mapped, mixed, text6};
 
 // ---- numbers
 
@@ -123,7 +124,7 @@ fn shortening_of(r: Run) -> Run
 // The run of an address that is shortened, found from the last field back to the first: n zeros stand from the field with index i on.
 fn run_in(a: &[u8]) -> Run
     requires { ⌜ length (now a) ≡ 16 ⌝ }
-    ensures { λ r. ⌜ r ≡ runOf (fieldsOf (now (a .entry))) ⌝ }
+    ensures { λ r. ⌜ r ≡ runOf (words (now (a .entry))) ⌝ }
 {
     let mut i: usize = 8;
     let mut n: usize = 0;
@@ -150,8 +151,8 @@ fn put_next(out: &mut [u8], at: usize, field: usize) -> usize
 
 // Writes the fields of some octets, with a colon before each.
 fn put_led(out: &mut [u8], at: usize, s: &[u8]) -> usize
-    requires { ⌜ at + length (led 58 (map hex (fieldsOf (now s)))) ≤ length (now out) ⌝ }
-    ensures { λ r. ⌜ Wrote at (led 58 (map hex (fieldsOf (now (s .entry))))) (now (out .entry)) r (now (out .exit)) ⌝ }
+    requires { ⌜ at + length (led 58 (map hex (words (now s)))) ≤ length (now out) ⌝ }
+    ensures { λ r. ⌜ Wrote at (led 58 (map hex (words (now (s .entry))))) (now (out .entry)) r (now (out .exit)) ⌝ }
 {
     let mut k: usize = 0;
     let mut next = at;
@@ -164,8 +165,8 @@ fn put_led(out: &mut [u8], at: usize, s: &[u8]) -> usize
 
 // Writes the fields of some octets, with colons between them.
 fn put_fields(out: &mut [u8], at: usize, s: &[u8]) -> usize
-    requires { ⌜ at + length (colons (fieldsOf (now s))) ≤ length (now out) ⌝ }
-    ensures { λ r. ⌜ Wrote at (colons (fieldsOf (now (s .entry)))) (now (out .entry)) r (now (out .exit)) ⌝ }
+    requires { ⌜ at + length (colons (words (now s))) ≤ length (now out) ⌝ }
+    ensures { λ r. ⌜ Wrote at (colons (words (now (s .entry)))) (now (out .entry)) r (now (out .exit)) ⌝ }
 {
     if s.len() < 2 {
         return at;
@@ -177,8 +178,8 @@ fn put_fields(out: &mut [u8], at: usize, s: &[u8]) -> usize
 // Writes an address with two colons for the run of `count` fields from the one with index `start` on.
 fn put_around(out: &mut [u8], at: usize, a: &[u8], start: usize, count: usize) -> usize
     requires { ⌜ (length (now a) ≡ 16) × (start + count ≤ 8) ⌝ }
-    requires { ⌜ at + length (around (run start count) (fieldsOf (now a))) ≤ length (now out) ⌝ }
-    ensures { λ r. ⌜ Wrote at (around (run start count) (fieldsOf (now (a .entry)))) (now (out .entry)) r (now (out .exit)) ⌝ }
+    requires { ⌜ at + length (around (run start count) (words (now a))) ≤ length (now out) ⌝ }
+    ensures { λ r. ⌜ Wrote at (around (run start count) (words (now (a .entry)))) (now (out .entry)) r (now (out .exit)) ⌝ }
 {
     let before = 2 * start;
     let after = 2 * (start + count);
@@ -191,8 +192,8 @@ fn put_around(out: &mut [u8], at: usize, a: &[u8], start: usize, count: usize) -
 // Writes an address in fields, with the run that is to be shortened.
 fn put_shortened(out: &mut [u8], at: usize, a: &[u8]) -> usize
     requires { ⌜ length (now a) ≡ 16 ⌝ }
-    requires { ⌜ at + length (shortened (runOf (fieldsOf (now a))) (fieldsOf (now a))) ≤ length (now out) ⌝ }
-    ensures { λ r. ⌜ Wrote at (shortened (runOf (fieldsOf (now (a .entry)))) (fieldsOf (now (a .entry)))) (now (out .entry)) r (now (out .exit)) ⌝ }
+    requires { ⌜ at + length (shortened (runOf (words (now a))) (words (now a))) ≤ length (now out) ⌝ }
+    ensures { λ r. ⌜ Wrote at (shortened (runOf (words (now (a .entry)))) (words (now (a .entry)))) (now (out .entry)) r (now (out .exit)) ⌝ }
 {
     let r = run_in(a);
     if r.count == 0 {

@@ -9,23 +9,9 @@ use Rattle.octets.specs.Numbers.{be, zeros}
 use Rattle.carriers.specs.declared.Carrier.the-variants.{Dhcp6, Router, Ike6}
 use Rattle.texts.specs.Texts.{dotsFrom, textOf}
 use Rattle.blocks.specs.Block.{Fields, headWith, fieldsOf, layout}
+use Rattle.blocks.specs.Examples.{N, T, P, A}
 use Rattle.layouts.specs.Layouts.{ownOption, joinedOf}
 use Rattle.layouts.specs.LayoutsLaws.{joined-length}
-
--- doh1.example.com in wire form, and as text
-abbrev N : List ℕ
-N = 4 ∷ 100 ∷ 111 ∷ 104 ∷ 49 ∷ 7 ∷ 101 ∷ 120 ∷ 97 ∷ 109 ∷ 112 ∷ 108 ∷ 101 ∷ 3 ∷ 99 ∷ 111 ∷ 109 ∷ 0 ∷ []
-
-abbrev T : List ℕ
-T = 100 ∷ 111 ∷ 104 ∷ 49 ∷ 46 ∷ 101 ∷ 120 ∷ 97 ∷ 109 ∷ 112 ∷ 108 ∷ 101 ∷ 46 ∷ 99 ∷ 111 ∷ 109 ∷ []
-
--- alpn "dot"
-abbrev P : List ℕ
-P = 0 ∷ 1 ∷ 0 ∷ 4 ∷ 3 ∷ 100 ∷ 111 ∷ 116 ∷ []
-
--- 2001:db8:122:300::1
-abbrev A : List ℕ
-A = 32 ∷ 1 ∷ 13 ∷ 184 ∷ 1 ∷ 34 ∷ 3 ∷ 0 ∷ 0 ∷ 0 ∷ 0 ∷ 0 ∷ 0 ∷ 0 ∷ 0 ∷ 1 ∷ []
 
 -- ---- K1, K3, K4 and K5
 

@@ -1,15 +1,12 @@
 -- To show something of what a step gives, show it of each outcome, with what the tests on the way there say. Assumes nothing.
-use mathlib.Core.Path.{_≡_, refl}
+use mathlib.Core.Path.{_≡_}
 use mathlib.Core.Bool.{Bool, true, false, cond, _&&_}
 use Prim.Native.Nat.{ℕ, _+_, _-_, _≤_, _<_}
 use lib.Dec.{leb, ltb, eqb}
 use borrow.Author.Tests.{eqb-true, eqb-false, leb-true, ltb-true}
+use Rattle.octets.specs.Cases.{by-test}
 use Rattle.names.specs.Names.{alnum}
 use Rattle.names.specs.Wire.{letter, hyphen, first, Move, stop, root, go, step, inside, lengthOctet}
-
-pub by-test : (b : Bool) (P : Bool → Type 0) → (b ≡ true → P true) → (b ≡ false → P false) → P b
-by-test true P f g = f refl
-by-test false P f g = g refl
 
 -- two tests, both of which hold or one of which fails
 pub by-both : (a b : Bool) (P : Bool → Type 0) → (a ≡ true → b ≡ true → P true) → P false → P (a && b)

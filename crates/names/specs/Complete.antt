@@ -25,7 +25,8 @@ pub hyphen-not-alnum : (x : ℕ) → x ≡ 45 → alnum x ≡ false
 unfolding alnum
 hyphen-not-alnum x e = rw e
 
-both : {X : Type 0} (x : ℕ) → alnum x ≡ true → x ≡ 45 → X
+-- an octet is not both a letter or a digit and a hyphen
+pub both : {X : Type 0} (x : ℕ) → alnum x ≡ true → x ≡ 45 → X
 both x a q =
     let n = hyphen-not-alnum x q in
     let z : _≡_ {A = ℕ} 0 1 = cc in

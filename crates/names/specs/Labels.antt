@@ -1,19 +1,12 @@
 -- A wire form has one list of labels. Assumes nothing.
-use mathlib.Core.Path.{_≡_, refl, sym, ap, _∙_}
+use mathlib.Core.Path.{_≡_, refl, sym}
 use mathlib.Core.List.{List, [], _∷_, _++_}
 use Prim.Native.Nat.{ℕ}
 use native.Mathlib.Omega.{arith}
-use lib.ListN.{length, take, drop}
-use lib.Seq.{take-at, drop-at}
+use lib.ListN.{length}
 use Rattle.octets.specs.Lists.{All}
+use Rattle.octets.specs.ListsLaws.{part-apart}
 use Rattle.names.specs.Names.{Label, wire}
-
--- lists of one length before what follows them are found again
-same-front : (l m x y : List ℕ) → length l ≡ length m → l ++ x ≡ m ++ y → l ≡ m
-same-front l m x y h e = sym (take-at l x (length l) refl) ∙ ap (λ (k : List ℕ). take (length l) k) e ∙ take-at m y (length l) (sym h)
-
-same-back : (l m x y : List ℕ) → length l ≡ length m → l ++ x ≡ m ++ y → x ≡ y
-same-back l m x y h e = sym (drop-at l x (length l) refl) ∙ ap (λ (k : List ℕ). drop (length l) k) e ∙ drop-at m y (length l) (sym h)
 
 -- a length octet is not the root octet
 not-root : {X : Type 0} (l x y : List ℕ) → Label l → length l ∷ x ≡ 0 ∷ y → X
@@ -29,6 +22,7 @@ labels-unique (l ∷ ls) [] o p e = not-root l (l ++ wire ls) [] (o .0) e
 labels-unique (l ∷ ls) (m ∷ ms) o p e =
     let h : length l ≡ length m = cc in
     let t : l ++ wire ls ≡ m ++ wire ms = cc in
-    let f : l ≡ m = same-front l m (wire ls) (wire ms) h t in
-    let r : ls ≡ ms = labels-unique ls ms (o .1) (p .1) (same-back l m (wire ls) (wire ms) h t) in
+    let both = part-apart l m (wire ls) (wire ms) h t in
+    let f : l ≡ m = both .0 in
+    let r : ls ≡ ms = labels-unique ls ms (o .1) (p .1) (both .1) in
     cc

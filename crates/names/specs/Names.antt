@@ -2,16 +2,12 @@
 -- the first octet at which no acceptable name can continue (02, g). Assumes nothing: these are definitions.
 use mathlib.Core.Path.{_≡_}
 use mathlib.Core.Logic.{_⊎_}
-use mathlib.Core.Bool.{Bool, true, _&&_, _||_}
+use mathlib.Core.Bool.{Bool, true, _||_}
 use mathlib.Core.List.{List, [], _∷_, _++_}
 use Prim.Native.Nat.{ℕ, _+_, _≤_, _<_}
-use lib.Dec.{leb}
 use lib.ListN.{length, take}
 use Rattle.octets.specs.Lists.{All}
-
--- x is from lo to hi
-abbrev pub range : ℕ → ℕ → ℕ → Bool
-range lo hi x = leb lo x && leb x hi
+use Rattle.octets.specs.Numbers.{range}
 
 -- x is a letter or a digit
 unfoldable pub alnum : ℕ → Bool

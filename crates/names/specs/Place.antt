@@ -13,12 +13,13 @@ use Rattle.names.specs.declared.Name.the-variants.{Good, Bad}
 use Rattle.names.specs.Wire.{State, letter, hyphen, first, Move, stop, root, go, step, on, ended, walk, nameCheck, inside}
 use Rattle.names.specs.Laws.{first-letter, at-length, length-root}
 use Rattle.octets.specs.Lists.{All}
+use Rattle.octets.specs.Cases.{by-test}
 use Rattle.names.specs.Names.{alnum, last, Ldh, Label, IsName, FirstBad}
-use Rattle.names.specs.Cases.{by-test, by-inside, by-length, by-letter, by-first}
+use Rattle.names.specs.Cases.{by-inside, by-length, by-letter, by-first}
 use Rattle.names.specs.Sound.{Valid, not-good, good-sound}
 use Rattle.names.specs.Complete.{goes, roots, rest-letter, rest-hyphen, wire-good, good-complete}
 
-a-alnum : alnum 97 ≡ true
+pub a-alnum : alnum 97 ≡ true
 unfolding alnum
 a-alnum = refl
 

@@ -6,7 +6,8 @@ use octets::wide;
 ghost use mathlib.Core.Path.{_≡_};
 ghost use Prim.Native.Nat.{_-_, _≤_, _<_};
 ghost use lib.ListN.{length};
-ghost use Rattle.names.specs.Names.{alnum, range};
+ghost use Rattle.octets.specs.Numbers.{range};
+ghost use Rattle.names.specs.Names.{alnum};
 ghost use Rattle.names.specs.Right.{Right};
 ghost use Rattle.names.specs.Wire.{nameCheck, answerIn, letter, hyphen, labelFits, hyphenFits, named, Lesser};
 

@@ -8,8 +8,9 @@ use borrow.Author.Tests.{le-leb, leb-true}
 use lib.Dec.{leb}
 use lib.ListN.{length, take, drop, length-append, take-append-drop}
 use lib.Seq.{take-at, drop-at, length-take-le}
-use Rattle.octets.specs.Numbers.{be, val, Bytes}
-use Rattle.octets.specs.NumbersLaws.{length-be, val-be, be-val, bytes-take, bytes-drop, val-small}
+use Rattle.octets.specs.ListsLaws.{all-take, all-drop}
+use Rattle.octets.specs.Numbers.{be, val, Octet, Bytes}
+use Rattle.octets.specs.NumbersLaws.{length-be, val-be, be-val, val-small}
 use Rattle.octets.specs.Fields.{part, number, counted, putCounted}
 
 module _ {R : Type 0} (stop : R) where
@@ -38,7 +39,7 @@ module _ {R : Type 0} (stop : R) where
     where
       go : (b : Bool) → leb n (length l) ≡ b → S l (cond b (next (take n l) (drop n l)) stop)
       go false t = s
-      go true t = rw take-append-drop at (k (take n l) (drop n l) (length-take-le n l (leb-true _ _ t)) (bytes-take n l h) (bytes-drop n l h))
+      go true t = rw take-append-drop at (k (take n l) (drop n l) (length-take-le n l (leb-true _ _ t)) (all-take Octet n l h) (all-drop Octet n l h))
 
   pub number-says : (w : ℕ) (S : List ℕ → R → Type 0) (l : List ℕ) (next : ℕ → List ℕ → R) → Bytes l → S l stop
       → ((v : ℕ) (r : List ℕ) → v < 256 ^ w → Bytes r → S (be w v ++ r) (next v r)) → S l (number stop w l next)

@@ -1,10 +1,11 @@
--- The laws of `All` and `flat`, and of the rest of a list. Assumes nothing.
+-- The laws of `All` and `flat`, and of parts of a list. Assumes nothing.
 use mathlib.Core.Path.{_≡_, refl, sym, ap, _∙_}
-use mathlib.Core.List.{List, [], _∷_, _++_, append-assoc}
-use Prim.Native.Nat.{ℕ, zero, suc, _-_, _<_}
+use mathlib.Core.List.{List, [], _∷_, _++_, map, map-append, append-assoc}
+use Prim.Native.Nat.{ℕ, zero, suc, _*_, _-_, _≤_, _<_}
+use native.Mathlib.Numerals.{unary-clauses}
 use native.Mathlib.Omega.{arith}
-use lib.ListN.{length, getD, take, drop, length-drop}
-use lib.Seq.{take-all}
+use lib.ListN.{length, getD, take, drop, length-append, length-drop}
+use lib.Seq.{take-all, take-nil, take-at, drop-at}
 use Rattle.octets.specs.Lists.{All, flat}
 
 module _ {A : Type 0} where
@@ -12,13 +13,48 @@ module _ {A : Type 0} where
   pub take-rest : (k : ℕ) (l : List A) → take (length l - k) (drop k l) ≡ drop k l
   take-rest k l = take-all (length l - k) (drop k l) (rw length-drop (omega arith))
 
+  -- what is left of n elements after i
+  pub drop-take : (i n : ℕ) (l : List A) → drop i (take n l) ≡ take (n - i) (drop i l)
+  drop-take zero n l = simp unary-clauses
+  drop-take (suc i) zero l = let none : 0 - suc i ≡ 0 = omega arith in rw none
+  drop-take (suc i) (suc n) [] = simp take-nil
+  drop-take (suc i) (suc n) (x ∷ xs) = simp unary-clauses (drop-take i n xs)
+
+  -- lists of one length before what follows them are found again
+  pub part-apart : (a b x y : List A) → length a ≡ length b → a ++ x ≡ b ++ y → (a ≡ b) × (x ≡ y)
+  part-apart a b x y e q = (
+    sym (take-at a x (length a) refl) ∙ ap (take (length a)) q ∙ take-at b y (length a) (sym e),
+    sym (drop-at a x (length a) refl) ∙ ap (drop (length a)) q ∙ drop-at b y (length a) (sym e),
+  )
+
   pub flat-append : (ls ms : List (List A)) → flat (ls ++ ms) ≡ flat ls ++ flat ms
   flat-append [] ms = refl
   flat-append (l ∷ ls) ms = ap (λ (m : List A). l ++ m) (flat-append ls ms) ∙ sym (append-assoc l (flat ls) (flat ms))
 
+  pub flat-map-append : {B : Type 0} (f : B → List A) (l m : List B) → flat (map f (l ++ m)) ≡ flat (map f l) ++ flat (map f m)
+  flat-map-append f l m = ap flat (map-append f l m) ∙ flat-append (map f l) (map f m)
+
   pub all-append : (P : A → Type 0) (l m : List A) → All P l → All P m → All P (l ++ m)
   all-append P [] m h k = k
   all-append P (x ∷ xs) m h k = (h .0, all-append P xs m (h .1) k)
+
+  pub all-left : (P : A → Type 0) (l m : List A) → All P (l ++ m) → All P l
+  all-left P [] m h = tt
+  all-left P (x ∷ xs) m h = (h .0, all-left P xs m (h .1))
+
+  pub all-right : (P : A → Type 0) (l m : List A) → All P (l ++ m) → All P m
+  all-right P [] m h = h
+  all-right P (x ∷ xs) m h = all-right P xs m (h .1)
+
+  pub all-take : (P : A → Type 0) (k : ℕ) (l : List A) → All P l → All P (take k l)
+  all-take P zero l h = tt
+  all-take P (suc k) [] h = tt
+  all-take P (suc k) (x ∷ xs) h = (h .0, all-take P k xs (h .1))
+
+  pub all-drop : (P : A → Type 0) (k : ℕ) (l : List A) → All P l → All P (drop k l)
+  all-drop P zero l h = h
+  all-drop P (suc k) [] h = tt
+  all-drop P (suc k) (x ∷ xs) h = all-drop P k xs (h .1)
 
   pub all-map : (P Q : A → Type 0) (l : List A) → ((x : A) → P x → Q x) → All P l → All Q l
   all-map P Q [] f h = tt
@@ -29,3 +65,9 @@ module _ {A : Type 0} where
   all-at P d [] h i k = absurd (omega arith)
   all-at P d (x ∷ xs) h zero k = h .0
   all-at P d (x ∷ xs) h (suc i) k = all-at P d xs (h .1) i (omega arith)
+
+  -- lists of at most m elements each, one after another
+  pub flat-few : {B : Type 0} (f : A → List B) (P : A → Type 0) (m : ℕ) (l : List A) → ((x : A) → P x → length (f x) ≤ m) → All P l
+      → length (flat (map f l)) ≤ length l * m
+  flat-few f P m [] each h = omega arith
+  flat-few f P m (x ∷ l) each h = omega (arith, length-append (f x) (flat (map f l)), each x (h .0), flat-few f P m l each (h .1))

@@ -1,10 +1,15 @@
 -- Numbers as octets, the most significant first (01, "All numbers are most significant octet first"), over the width in octets.
 -- Assumes nothing: these are definitions.
 use mathlib.Core.Bool.{Bool, true, _&&_}
-use mathlib.Core.List.{List, [], _∷_, _++_}
+use mathlib.Core.List.{List, [], _∷_, _++_, map}
 use Prim.Native.Nat.{ℕ, zero, suc, _+_, _*_, _/_, _%_, _<_}
-use lib.Dec.{eqb}
+use lib.Dec.{eqb, leb}
 use lib.ListN.{getD, take, drop, replicate}
+use Rattle.octets.specs.Lists.{All, flat}
+
+-- x is from lo to hi
+abbrev pub range : ℕ → ℕ → ℕ → Bool
+range lo hi x = leb lo x && leb x hi
 
 -- v in w octets
 abbrev pub be : ℕ → ℕ → List ℕ
@@ -31,10 +36,21 @@ at32 s i = at16 s i * 65536 + at16 s (i + 2)
 unfoldable pub numberAt : ℕ → ℕ → List ℕ → ℕ
 numberAt w i s = val (take w (drop i s))
 
--- every element is an octet
+-- an octet, and octets
+abbrev pub Octet : ℕ → Type 0
+Octet x = x < 256
+
 abbrev pub Bytes : List ℕ → Type 0
-Bytes [] = Unit
-Bytes (x ∷ xs) = (x < 256) × Bytes xs
+Bytes l = All Octet l
+
+-- octets as numbers of two octets each, where an odd last octet makes none; and such numbers one after another
+unfoldable pub words : List ℕ → List ℕ
+words [] = []
+words (a ∷ []) = []
+words (a ∷ b ∷ s) = (a * 256 + b) ∷ words s
+
+abbrev pub numbersOf : List ℕ → List ℕ
+numbersOf ws = flat (map (be 2) ws)
 
 -- n zeros, and whether octets are all zero
 abbrev pub zeros : ℕ → List ℕ

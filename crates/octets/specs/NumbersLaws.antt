@@ -10,7 +10,9 @@ use borrow.Author.Tests.{eqb-true, ne-eqb}
 use lib.Dec.{eqb}
 use lib.ListN.{length, getD, take, drop, length-append, length-drop, drop-of-length-le}
 use lib.Seq.{append-snoc, drop-cons, take-append-le, drop-append-le, take-at, drop-at}
-use Rattle.octets.specs.Numbers.{be, val, valFrom, at16, at32, numberAt, Bytes, zeros, allZero}
+use Rattle.octets.specs.Lists.{All}
+use Rattle.octets.specs.ListsLaws.{all-append}
+use Rattle.octets.specs.Numbers.{be, val, valFrom, at16, at32, numberAt, Octet, Bytes, words, numbersOf, zeros, allZero}
 
 pub bytes-at : (l : List ℕ) → ((i : ℕ) → getD l i 0 < 256) → Bytes l
 bytes-at [] h = tt
@@ -20,21 +22,9 @@ pub length-be : (w v : ℕ) → length (be w v) ≡ w
 length-be zero v = refl
 length-be (suc w) v = length-append (be w (v / 256)) (v % 256 ∷ []) ∙ ap (λ (n : ℕ). n + 1) (length-be w (v / 256)) ∙ add-one w
 
-pub bytes-append : (a b : List ℕ) → Bytes a → Bytes b → Bytes (a ++ b)
-bytes-append [] b h k = k
-bytes-append (x ∷ xs) b h k = (h .0, bytes-append xs b (h .1) k)
-
-pub bytes-left : (a b : List ℕ) → Bytes (a ++ b) → Bytes a
-bytes-left [] b h = tt
-bytes-left (x ∷ xs) b h = (h .0, bytes-left xs b (h .1))
-
-pub bytes-right : (a b : List ℕ) → Bytes (a ++ b) → Bytes b
-bytes-right [] b h = h
-bytes-right (x ∷ xs) b h = bytes-right xs b (h .1)
-
 pub bytes-be : (w v : ℕ) → Bytes (be w v)
 bytes-be zero v = tt
-bytes-be (suc w) v = bytes-append (be w (v / 256)) (v % 256 ∷ []) (bytes-be w (v / 256)) (omega arith, tt)
+bytes-be (suc w) v = all-append Octet (be w (v / 256)) (v % 256 ∷ []) (bytes-be w (v / 256)) (omega arith, tt)
 
 val-snoc : (a x : ℕ) (l : List ℕ) → valFrom a (l ++ (x ∷ [])) ≡ valFrom a l * 256 + x
 val-snoc a x [] = refl
@@ -75,18 +65,6 @@ halves v =
     let d : v / 256 % 256 ≡ v % 65536 / 256 % 256 = omega arith in
     let e : v % 256 ≡ v % 65536 % 256 = omega arith in
     cc
-
--- ---- octets of a part
-
-pub bytes-take : (n : ℕ) (l : List ℕ) → Bytes l → Bytes (take n l)
-bytes-take zero l h = tt
-bytes-take (suc n) [] h = tt
-bytes-take (suc n) (x ∷ xs) h = (h .0, bytes-take n xs (h .1))
-
-pub bytes-drop : (n : ℕ) (l : List ℕ) → Bytes l → Bytes (drop n l)
-bytes-drop zero l h = h
-bytes-drop (suc n) [] h = tt
-bytes-drop (suc n) (x ∷ xs) h = bytes-drop n xs (h .1)
 
 pub bytes-getD : (l : List ℕ) (i : ℕ) → Bytes l → getD l i 0 < 256
 bytes-getD [] i h = omega arith
@@ -158,6 +136,30 @@ number-laid w i v a b h e =
     ap (λ (l : List ℕ). val (take w l)) (drop-at a (be w v ++ b) i e)
     ∙ ap val (take-at (be w v) b w (length-be w v))
     ∙ val-be w v h
+
+-- ---- numbers of two octets, one after another
+
+pub words-length : (v : List ℕ) → length (words v) ≡ length v / 2
+unfolding words
+words-length [] = refl
+words-length (a ∷ []) = refl
+words-length (a ∷ b ∷ v) = omega (arith, words-length v)
+
+pub words-small : (v : List ℕ) → Bytes v → All (λ w. w < 65536) (words v)
+unfolding words
+words-small [] o = tt
+words-small (a ∷ []) o = tt
+words-small (a ∷ b ∷ v) o = (omega (arith, o .0, o .1 .0), words-small v (o .1 .1))
+
+-- what was read is written
+pub numbers-words : (v : List ℕ) → Bytes v → length v % 2 ≡ 0 → numbersOf (words v) ≡ v
+unfolding words
+numbers-words [] o h = refl
+numbers-words (a ∷ []) o h = absurd (omega arith)
+numbers-words (a ∷ b ∷ v) o h =
+    let q : (a * 256 + b) / 256 % 256 ≡ a = omega (arith, o .0, o .1 .0) in
+    let r : (a * 256 + b) % 256 ≡ b = omega (arith, o .1 .0) in
+    rw (q, r, numbers-words v (o .1 .1) (omega arith))
 
 -- ---- zeros
 

@@ -3,10 +3,10 @@
 use mathlib.Core.Path.{_≡_, refl, sym, ap, _∙_, subst}
 use mathlib.Core.List.{List, [], _∷_, _++_, append-assoc, append-nil}
 use Prim.Native.Nat.{ℕ, zero, suc, _+_, _-_, _≤_, _<_, min}
-use native.Mathlib.Numerals.{unary-clauses}
 use native.Mathlib.Omega.{arith}
 use lib.ListN.{length, take, drop, length-take, length-drop, drop-of-length-le}
-use lib.Seq.{take-nil, drop-drop, take-take}
+use lib.Seq.{drop-drop, take-take}
+use Rattle.octets.specs.ListsLaws.{drop-take}
 use Rattle.octets.specs.Over.{Wrote}
 use Rattle.octets.specs.OverLaws.{wrote-none, then, over-behind}
 use Rattle.carriers.specs.declared.Carrier.the-variants.{Dhcp4}
@@ -58,13 +58,6 @@ cut-turn j i n h e =
     cut-step (drop i j) (omega arith)
     ∙ ap (λ (t : List ℕ). optionOf Dhcp4 t ++ cutOf (drop 255 (drop i j))) (take-same 255 n (drop i j) k)
     ∙ ap (λ (d : List ℕ). optionOf Dhcp4 (take n (drop i j)) ++ cutOf d) (drop-same 255 n (drop i j) k ∙ drop-drop n i j)
-
--- what is left of n elements after i
-drop-take : (i n : ℕ) (l : List ℕ) → drop i (take n l) ≡ take (n - i) (drop i l)
-drop-take zero n l = simp unary-clauses
-drop-take (suc i) zero l = let none : 0 - suc i ≡ 0 = omega arith in rw none
-drop-take (suc i) (suc n) [] = simp take-nil
-drop-take (suc i) (suc n) (x ∷ xs) = simp unary-clauses (drop-take i n xs)
 
 -- k of n elements from an index, after i of them
 part-of : (from n i k : ℕ) (l : List ℕ) → i + k ≤ n → take k (drop i (take n (drop from l))) ≡ take k (drop (from + i) l)

@@ -2,15 +2,14 @@
 -- a width, octets after their count, bodies after their header. Assumes nothing.
 use mathlib.Core.Path.{_≡_, refl, sym, ap, ap₂, _∙_}
 use mathlib.Core.Logic.{_↔_}
-use mathlib.Core.List.{List, [], _∷_, _++_, map, map-append, append-assoc, append-cancel-left}
+use mathlib.Core.List.{List, [], _∷_, _++_, map, append-assoc, append-cancel-left}
 use Prim.Native.Nat.{ℕ, _+_, _^_, _<_}
 use native.Mathlib.Omega.{arith}
-use lib.ListN.{length, take, drop, length-append}
-use lib.Seq.{take-at, drop-at}
+use lib.ListN.{length, length-append}
 use Rattle.octets.specs.Numbers.{be, val}
 use Rattle.octets.specs.NumbersLaws.{length-be, val-be}
 use Rattle.octets.specs.Lists.{All, flat}
-use Rattle.octets.specs.ListsLaws.{flat-append}
+use Rattle.octets.specs.ListsLaws.{part-apart, flat-map-append}
 use Rattle.octets.specs.Fields.{putCounted}
 use Rattle.carriers.specs.declared.Carrier.{Carrier}
 use Rattle.carriers.specs.Carriers.{codeOf, headWidth, headerOf, inEights}
@@ -23,7 +22,7 @@ use Rattle.prefixes.specs.Prefix.{Leading, SelfDelimiting}
 
 module _ {A : Type 0} (P : A → Type 0) (e : A → List ℕ) where
   leads-flat : (l m : List A) → Leading l m → Leading (flat (map e l)) (flat (map e m))
-  leads-flat l m (t, q) = (flat (map e t), ap (λ (n : List A). flat (map e n)) q ∙ ap flat (map-append e l t) ∙ flat-append (map e l) (map e t))
+  leads-flat l m (t, q) = (flat (map e t), ap (λ (n : List A). flat (map e n)) q ∙ flat-map-append e l t)
 
   module _ (some : (a : A) → P a → 0 < length (e a)) (apart : SelfDelimiting P e) where
     flat-leads : (l m : List A) → All P l → All P m → Leading (flat (map e l)) (flat (map e m)) → Leading l m
@@ -42,13 +41,6 @@ module _ {A : Type 0} (P : A → Type 0) (e : A → List ℕ) where
     flat-exactly l m h k = (flat-leads l m h k, leads-flat l m)
 
 -- ---- parts that say where they end
-
--- octets, as many as the others
-pub part-apart : (a b x y : List ℕ) → length a ≡ length b → a ++ x ≡ b ++ y → (a ≡ b) × (x ≡ y)
-part-apart a b x y e q = (
-  sym (take-at a x (length a) refl) ∙ ap (take (length a)) q ∙ take-at b y (length a) (sym e),
-  sym (drop-at a x (length a) refl) ∙ ap (drop (length a)) q ∙ drop-at b y (length a) (sym e),
-)
 
 -- a number of w octets
 pub number-apart : (w m n : ℕ) (x y : List ℕ) → m < 256 ^ w → n < 256 ^ w → be w m ++ x ≡ be w n ++ y → (m ≡ n) × (x ≡ y)

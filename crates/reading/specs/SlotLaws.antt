@@ -15,6 +15,7 @@ use Rattle.order.specs.declared.Slot.{Slot}
 use Rattle.order.specs.declared.Slots.{Slots}
 use Rattle.order.specs.declared.Sorting.{Sorting}
 use Rattle.octets.specs.Lists.{All}
+use Rattle.octets.specs.ListsLaws.{all-map, all-at}
 use Rattle.order.specs.Order.{SameKey}
 use Rattle.order.specs.OrderLaws.{sort-length}
 use Rattle.order.specs.MapLaws.{each-sort, sort-map-on}
@@ -26,7 +27,7 @@ use Rattle.sheets.specs.Sheets.{frontOf, recordsOf, sheetOf}
 use Rattle.sheets.specs.SheetsLaws.{length-front, length-sheet}
 use Rattle.reading.specs.Reading.{inOrder}
 use Rattle.reading.specs.Walks.{laid, octetsAt, Written}
-use Rattle.reading.specs.ListLaws.{each-at, each-give, laid-next, laid-room, sort-laid}
+use Rattle.reading.specs.ListLaws.{laid-next, laid-room, sort-laid}
 use Rattle.reading.specs.Tally.{bodyAt, recordIn, recordAt, recordsAt, Good, slotOf, Sound}
 
 -- ---- one slot
@@ -48,9 +49,9 @@ module _ (c : Carrier) (source : List ℕ) where
   -- where no more is claimed, each slot stays good
   pub good-still : (was claimed : Bool) → (claimed ≡ true → was ≡ true) → (l : List Slot) → All (Good c source was) l → All (Good c source claimed) l
   good-still was claimed less l e =
-      each-give (Good c source was) (Good c source claimed)
+      all-map (Good c source was) (Good c source claimed) l
       (λ s g. record { within = g .within; yields = g .yields; ranked = g .ranked; clean = λ t. g .clean (less t) })
-      l e
+      e
 
   octets-record : (o : Outcome) → Kept o → recordOf c (recordIn o) ≡ octetsIn c o
   octets-record (faulty k) h = absurd h
@@ -91,14 +92,14 @@ module _ (c : Carrier) (source : List ℕ) {claimed : Bool} {slots : Slots} {r :
   pub ordered-at : {i : ℕ} {x : Slot} → i < r .slots .count → x ≡ getD (listed (r .slots)) i none → Good c source claimed x
   ordered-at {i} h e =
       subst⁻¹ (Good c source claimed) e
-      (each-at (Good c source claimed) none (listed (r .slots)) i (omega (arith, o .count, ordered-length)) ordered-good)
+      (all-at (Good c source claimed) none (listed (r .slots)) ordered-good i (omega (arith, o .count, ordered-length)))
 
   -- the records of slots in order are the records in order
   pub ordered-records : recordsAt c source (r .slots) ≡ inOrder (recordsAt c source slots)
   ordered-records =
       ap (map (recordAt c source)) (o .list)
       ∙ sort-map-on rank (λ (f : Fields). f .priority) (recordAt c source) (listed slots)
-      (each-give (Good c source claimed) (SameKey rank (λ (f : Fields). f .priority) (recordAt c source)) (λ x g. g .ranked) (listed slots) (s .good))
+      (all-map (Good c source claimed) (SameKey rank (λ (f : Fields). f .priority) (recordAt c source)) (listed slots) (λ x g. g .ranked) (s .good))
 
   -- and have as many octets
   pub ordered-size : length (laid (octetsAt c source) (listed (r .slots))) ≡ length (recordsOf c (recordsAt c source slots))

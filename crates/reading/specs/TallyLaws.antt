@@ -2,7 +2,7 @@
 use mathlib.Core.Path.{_≡_, refl, sym, ap, _∙_, subst⁻¹}
 use mathlib.Core.Bool.{Bool, true, false}
 use mathlib.Core.Logic.{⊎-elim}
-use mathlib.Core.List.{List, [], _∷_, _++_, map, append-nil}
+use mathlib.Core.List.{List, [], _∷_, _++_, map, map-append, append-nil}
 use Prim.Native.Nat.{ℕ, _+_, _-_, _≤_, _<_}
 use native.Mathlib.Omega.{arith}
 use borrow.Author.Tests.{lt-ltb, le-ltb, ltb-false}
@@ -22,6 +22,7 @@ use Rattle.blocks.specs.Block.{Fields}
 use Rattle.order.specs.declared.Slots.{Slots}
 use Rattle.order.specs.OrderLaws.{le-or-lt}
 use Rattle.octets.specs.Lists.{All}
+use Rattle.octets.specs.ListsLaws.{flat-map-append, all-append}
 use Rattle.order.specs.Listed.{listed}
 use Rattle.records.specs.declared.Examined.{Examined}
 use Rattle.records.specs.Records.{Outcome, faulty, kept, outcomeOf, recordOf}
@@ -33,7 +34,6 @@ use Rattle.reading.specs.Reading.{Yield, discarded, yields, single, arri
 use Rattle.reading.specs.Tally.{Good, recordAt, slotOf, Held, heldOf, Seen, Grown, Holds, Tally, tallyOf, Shows, Open, alone, Ready}
 use Rattle.reading.specs.YieldLaws.{arrivals-more, discarded-more, discarded-few, first-yields, first-discarded, first-stays}
 use Rattle.reading.specs.InstanceLaws.{instance-short, instance-past, instance-whole, instances-end, before-none, before-ahead, joined-some}
-use Rattle.reading.specs.ListLaws.{map-append, each-append, laid-append}
 use Rattle.reading.specs.SlotLaws.{slot-record, slot-good, good-still}
 use Rattle.reading.specs.Walks.{Tallying, Passed, before}
 
@@ -91,7 +91,7 @@ module _ {c : Carrier} {source : List ℕ} {rs : List Fields} {h : Held} (k : Ho
           lists = λ _. record {
             good =
                 subst⁻¹ (All (Good c source b)) (g .list)
-                (each-append (Good c source b) (listed (h .slots)) (slotOf e start end ∷ [])
+                (all-append (Good c source b) (listed (h .slots)) (slotOf e start end ∷ [])
                 (good-still c source (h .clean) b (λ t. g .claims t .0) (listed (h .slots)) (was .good))
                 (slot-good c source start end o is (x .low) (x .high) (λ t. x .clean (g .claims t .1)), tt));
             records =
@@ -105,7 +105,7 @@ module _ {c : Carrier} {source : List ℕ} {rs : List Fields} {h : Held} (k : Ho
               length-sheet c rs,
               length-sheet c (rs ++ (f ∷ [])),
               ap (λ (x : Examined). x .size) is,
-              ap length (laid-append (recordOf c) rs (f ∷ [])),
+              ap length (flat-map-append (recordOf c) rs (f ∷ [])),
               length-append (recordsOf c rs) (recordsOf c (f ∷ [])),
               ap length (append-nil (recordOf c f)),
             );

@@ -1,10 +1,11 @@
 -- The octets defined for accepted records: how many they are at most, and what they are framed to in carriers 2 to 5. Assumes nothing.
-use mathlib.Core.Path.{_≡_, refl, ap, _∙_}
-use mathlib.Core.List.{List, [], _∷_, _++_, map}
-use Prim.Native.Nat.{ℕ, _+_, _*_, _≤_}
+use mathlib.Core.Path.{_≡_, sym, ap, _∙_}
+use mathlib.Core.List.{List, [], _∷_, map, map-map}
+use Prim.Native.Nat.{_+_, _*_, _≤_}
 use native.Mathlib.Omega.{arith}
 use lib.ListN.{length, length-append}
 use Rattle.octets.specs.Lists.{All, flat}
+use Rattle.octets.specs.ListsLaws.{flat-few}
 use Rattle.numbers.specs.Limit as limit
 use Rattle.carriers.specs.declared.Carrier.{Carrier}
 use Rattle.carriers.specs.declared.Carrier.the-variants.{Dhcp4}
@@ -26,13 +27,6 @@ use Rattle.written.specs.AcceptedLaws.{writable}
 use Rattle.roundtrip.specs.Returns.{bodyOf, bodiesOf}
 
 -- ---- so many octets a record at most
-
--- lists of at most m elements each, one after another
-flat-few : {A : Type 0} (f : A → List ℕ) (P : A → Type 0) (m : ℕ) (l : List A) → ((x : A) → P x → length (f x) ≤ m) → All P l
-    → length (flat (map f l)) ≤ length l * m
-flat-few f P m [] each h = omega arith
-flat-few f P m (x ∷ l) each h =
-    omega (arith, length-append (f x) (flat (map f l)), each x (h .0), flat-few f P m l each (h .1))
 
 option-few : (c : Carrier) (r : Fields) → Sound c r → length (ownOption c r) ≤ 4 + mostBody
 option-few c r s = omega (arith, option-length c (bodyOf c r), header-small c, writable-body c r (writable c r s))
@@ -56,13 +50,9 @@ octets-few =
 
 -- ---- carriers 2 to 5: an option for each body
 
-options-bodies : (c : Carrier) (rs : List Fields) → flat (map (ownOption c) rs) ≡ emit.optionsOf c (bodiesOf c rs)
-options-bodies c [] = refl
-options-bodies c (r ∷ rs) = ap (λ (l : List ℕ). ownOption c r ++ l) (options-bodies c rs)
-
 pub plain-octets : (c : Carrier) → Plain c → (rs : List Fields) → octetsOf c rs ≡ emit.optionsOf c (bodiesOf c rs)
 unfolding octetsOf
-plain-octets c p rs = rw (apart-false (isJoined c) p) (options-bodies c rs)
+plain-octets c p rs = rw (apart-false (isJoined c) p) (ap flat (sym (map-map (emit.optionOf c) (bodyOf c) rs)))
 
 -- each body's length can be said in its header
 pub bodies-emit : (c : Carrier) → Plain c → (rs : List Fields) → All (Sound c) rs → All (emit.Fits c) (bodiesOf c rs)

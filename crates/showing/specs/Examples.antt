@@ -4,13 +4,13 @@ use mathlib.Core.Bool.{true, false}
 use mathlib.Core.List.{List, [], _∷_, _++_}
 use Prim.Native.Nat.{ℕ}
 use Rattle.octets.specs.Fields.{part, number, counted}
-use Rattle.octets.specs.Numbers.{allZero}
+use Rattle.octets.specs.Numbers.{words, allZero}
 use Rattle.carriers.specs.Carriers.{chosenOf}
 use Rattle.addresses.specs.Addresses.{listOf}
 use Rattle.svcparams.specs.Params.{sizeOf}
 use Rattle.svcparams.specs.Entries.{entriesFrom}
 use Rattle.texts.specs.Texts as texts
-use Rattle.ips.specs.Ips.{digit, numeral, text6, mapped, shortened, runOf, longestFrom, around, colons, fieldsOf, zerosAhead}
+use Rattle.ips.specs.Ips.{digit, numeral, text6, mapped, shortened, runOf, longestFrom, around, colons, zerosAhead}
 use Rattle.taking.specs.Taking.{takeOf, same, recordsFrom}
 use Rattle.taking.specs.Taking as taking
 use Rattle.chars.specs.Ascii.{ascii, decimalOf}
@@ -26,12 +26,12 @@ k1 =
 
 -- its text and its JSON, as docs/COMMAND.md has them
 pub k1-text : shownOf false k1 ≡ ascii "DHCPv6 (carrier 2), 1 record\n\ndoh1.example.com\n    priority        1\n    address         2001:db8:122:300::1\n    alpn            dot"
-unfolding takeOf taking.headOf same recordsFrom part number counted chosenOf numeral digit escapedOf valueOf quoted keyOf keysOf stringsFrom protocolsOf carrierOf nameOf addressOf texts.textOf texts.dotsFrom text6 mapped allZero shortened runOf longestFrom around colons fieldsOf zerosAhead listOf sizeOf entriesFrom countOf lineOf objectOf lifetimeOf commonOf addressesOf gapOf labelOf valueBy parameterOf parametersOf listsOf restOf recordOf sheetOf
+unfolding takeOf taking.headOf same recordsFrom part number counted chosenOf numeral digit escapedOf valueOf quoted keyOf keysOf stringsFrom protocolsOf carrierOf nameOf addressOf texts.textOf texts.dotsFrom text6 mapped allZero shortened runOf longestFrom around colons words zerosAhead listOf sizeOf entriesFrom countOf lineOf objectOf lifetimeOf commonOf addressesOf gapOf labelOf valueBy parameterOf parametersOf listsOf restOf recordOf sheetOf
 k1-text = refl
 
 pub k1-json : shownOf true k1
     ≡ ascii "{\"carrier\":2,\"carrierName\":\"DHCPv6\",\"records\":[{\"name\":\"doh1.example.com\",\"priority\":1,\"nameOnly\":false,\"addresses\":[\"2001:db8:122:300::1\"],\"parameters\":[{\"key\":1,\"name\":\"alpn\",\"value\":[\"dot\"]}]}]}"
-unfolding takeOf taking.headOf same recordsFrom part number counted chosenOf numeral digit escapedOf valueOf quoted keyOf keysOf stringsFrom protocolsOf carrierOf nameOf addressOf texts.textOf texts.dotsFrom text6 mapped allZero shortened runOf longestFrom around colons fieldsOf zerosAhead listOf sizeOf entriesFrom countOf lineOf objectOf lifetimeOf commonOf addressesOf gapOf labelOf valueBy parameterOf parametersOf listsOf restOf recordOf sheetOf
+unfolding takeOf taking.headOf same recordsFrom part number counted chosenOf numeral digit escapedOf valueOf quoted keyOf keysOf stringsFrom protocolsOf carrierOf nameOf addressOf texts.textOf texts.dotsFrom text6 mapped allZero shortened runOf longestFrom around colons words zerosAhead listOf sizeOf entriesFrom countOf lineOf objectOf lifetimeOf commonOf addressesOf gapOf labelOf valueBy parameterOf parametersOf listsOf restOf recordOf sheetOf
 k1-json = refl
 
 -- of octets that are no sheet, nothing is shown

@@ -1,6 +1,6 @@
 -- The laws of a sheet as it is shown: its records as a loop meets them, and what taking answers. Assumes nothing.
 use mathlib.Core.Path.{_≡_, sym, ap, _∙_}
-use mathlib.Core.Bool.{Bool, true, false, cond, false≢true, not}
+use mathlib.Core.Bool.{Bool, true, cond, false≢true, not}
 use mathlib.Core.List.{List, [], _∷_, _++_, map}
 use Prim.Native.Nat.{ℕ, _<_, _≤_, min}
 use lib.Dec.{eqb}

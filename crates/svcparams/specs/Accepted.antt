@@ -6,7 +6,7 @@ use mathlib.Core.List.{List, [], _∷_, _++_}
 use Prim.Native.Nat.{ℕ, _<_}
 use Rattle.octets.specs.Lists.{All}
 use lib.ListN.{length}
-use Rattle.octets.specs.Numbers.{be}
+use Rattle.octets.specs.Numbers.{be, numbersOf}
 use Rattle.octets.specs.Fields.{putCounted}
 use Rattle.svcparams.specs.Key as key
 use Rattle.svcparams.specs.Params.{Param, keys}
@@ -51,11 +51,6 @@ abbrev pub Hinted : List Param → Type 0
 Hinted kvs = In key.ipv4hint (keys kvs) ⊎ In key.ipv6hint (keys kvs)
 
 -- ---- values
-
--- numbers of 16 bits one after another
-abbrev pub numbersOf : List ℕ → List ℕ
-numbersOf [] = []
-numbersOf (w ∷ ws) = be 2 w ++ numbersOf ws
 
 -- v is the list of keys ws: not empty, of 16 bits, strictly rising, without 0, each one of the keys ks (RFC 9460 §8)
 pub record Mandatory (ks v ws : List ℕ) : Type 0 where

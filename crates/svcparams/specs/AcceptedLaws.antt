@@ -10,14 +10,15 @@ use lib.ListN.{length, take, drop, length-drop, length-append, take-append-drop}
 use lib.Seq.{drop-at, length-take-le}
 use lib.Dec.{eqb, leb}
 use borrow.Author.Tests.{le-leb, eq-eqb, ne-eqb, eqb-true, eqb-false, leb-true, leb-false, not-true}
-use Rattle.octets.specs.Numbers.{Bytes}
-use Rattle.octets.specs.NumbersLaws.{bytes-drop}
+use Rattle.octets.specs.Numbers.{Octet, Bytes, words, numbersOf}
+use Rattle.octets.specs.NumbersLaws.{words-small, numbers-words}
 use Rattle.svcparams.specs.Key as key
-use Rattle.svcparams.specs.Params.{Param, keys, rising, has, isHint, hasHint, words, allIn, mandatoryGood, stringsFrom, alpnGood, valueGood, allGood}
-use Rattle.svcparams.specs.TilingLaws.{by-test}
+use Rattle.svcparams.specs.Params.{Param, keys, rising, has, isHint, hasHint, allIn, mandatoryGood, stringsFrom, alpnGood, valueGood, allGood}
 use Rattle.svcparams.specs.ValueLaws.{strings-skip, strings-past, value-mandatory, value-alpn, value-no-default-alpn, value-port, value-other}
+use Rattle.octets.specs.Cases.{by-test}
 use Rattle.octets.specs.Lists.{All}
-use Rattle.svcparams.specs.Accepted.{Ascending, In, Fits, Hinted, numbersOf, Mandatory, stringsOf, Alpn, Allowed}
+use Rattle.octets.specs.ListsLaws.{all-drop, all-map}
+use Rattle.svcparams.specs.Accepted.{Ascending, In, Fits, Hinted, Mandatory, stringsOf, Alpn, Allowed}
 
 both : (a b : Bool) → a && b ≡ true → (a ≡ true) × (b ≡ true)
 both a b e = and-eq-true-iff a b .0 e
@@ -32,16 +33,13 @@ by-equal a b {X} f g = by-test (eqb a b) (λ _. X) (λ e. f (eqb-true _ _ e)) (�
 -- ---- keys that rise
 
 above-next : (k : ℕ) (ks : List ℕ) → All (λ x. k < x) ks → All (λ x. k + 1 ≤ x) ks
-above-next k [] a = tt
-above-next k (x ∷ xs) a = (omega (arith, a .0), above-next k xs (a .1))
+above-next k ks a = all-map (λ x. k < x) (λ x. k + 1 ≤ x) ks (λ x h. omega arith) a
 
 next-above : (k : ℕ) (ks : List ℕ) → All (λ x. k + 1 ≤ x) ks → All (λ x. k < x) ks
-next-above k [] a = tt
-next-above k (x ∷ xs) a = (omega (arith, a .0), next-above k xs (a .1))
+next-above k ks a = all-map (λ x. k + 1 ≤ x) (λ x. k < x) ks (λ x h. omega arith) a
 
 above-least : (k least : ℕ) (ks : List ℕ) → least ≤ k → All (λ x. k < x) ks → All (λ x. least ≤ x) ks
-above-least k least [] h a = tt
-above-least k least (x ∷ xs) h a = (omega (arith, a .0), above-least k least xs h (a .1))
+above-least k least ks h a = all-map (λ x. k < x) (λ x. least ≤ x) ks (λ x above. omega arith) a
 
 pub rising-means : (least : ℕ) (ks : List ℕ) → rising least ks ≡ true → All (λ k. least ≤ k) ks × Ascending ks
 unfolding rising
@@ -151,17 +149,6 @@ words-numbers (w ∷ ws) h =
     let e : w / 256 % 256 * 256 + w % 256 ≡ w = omega (arith, h .0) in
     ap₂ (λ (x : ℕ) (l : List ℕ). x ∷ l) e (words-numbers ws (h .1))
 
-numbers-words : (v : List ℕ) → Bytes v → length v % 2 ≡ 0 → (v ≡ numbersOf (words v)) × All (λ w. w < 65536) (words v)
-unfolding words
-numbers-words [] o h = (refl, tt)
-numbers-words (a ∷ []) o h = absurd (omega arith)
-numbers-words (a ∷ b ∷ v) o h =
-    let i = numbers-words v (o .1 .1) (omega arith) in
-    let l = i .0 in
-    let e1 : (a * 256 + b) / 256 % 256 ≡ a = omega (arith, o .0, o .1 .0) in
-    let e2 : (a * 256 + b) % 256 ≡ b = omega (arith, o .0, o .1 .0) in
-    (cc, (omega (arith, o .0, o .1 .0), i .1))
-
 length-numbers : (ws : List ℕ) → length (numbersOf ws) ≡ 2 * length ws
 length-numbers [] = refl
 length-numbers (w ∷ ws) = let i = length-numbers ws in omega arith
@@ -185,12 +172,12 @@ good-mandatory ks v o e =
     let z : length v ≡ 0 → ⊥ = eqb-false _ _ (not-true _ (u .0)) in
     let even : length v % 2 ≡ 0 = eqb-true _ _ (u .1) in
     let r = rising-means 1 (words v) (t .1) in
-    let l = numbers-words v o even in
-    let n : length v ≡ 2 * length (words v) = ap length (l .0) ∙ length-numbers (words v) in
+    let l : v ≡ numbersOf (words v) = sym (numbers-words v o even) in
+    let n : length v ≡ 2 * length (words v) = ap length l ∙ length-numbers (words v) in
     record {
-      laid = l .0;
+      laid = l;
       some = omega (arith, z);
-      narrow = l .1;
+      narrow = words-small v o;
       rise = r .1;
       nonzero = next-above 0 (words v) (r .0);
       present = all-each (words v) ks (q .1);
@@ -222,7 +209,7 @@ good-strings zero (x ∷ xs) h o e = absurd (not-suc-le-zero h)
 good-strings (suc f) [] h o e = ([], refl, tt)
 good-strings (suc f) (x ∷ xs) h o e =
     go (both (not (eqb x 0)) (stringsFrom x xs) e) (leb x (length xs)) refl
-    (λ q. good-strings f (drop x xs) (simp length-drop (omega arith)) (bytes-drop x xs (o .1)) q)
+    (λ q. good-strings f (drop x xs) (simp length-drop (omega arith)) (all-drop Octet x xs (o .1)) q)
   where
     go : (not (eqb x 0) ≡ true) × (stringsFrom x xs ≡ true) → (b : Bool) → leb x (length xs) ≡ b
         → (stringsFrom 0 (drop x xs) ≡ true → (ss : List (List ℕ)) × (drop x xs ≡ stringsOf ss) × All StringSize ss)

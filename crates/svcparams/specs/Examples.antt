@@ -2,8 +2,9 @@
 use mathlib.Core.Path.{_≡_, refl}
 use mathlib.Core.List.{List, [], _∷_}
 use Prim.Native.Nat.{ℕ}
+use Rattle.octets.specs.Numbers.{words}
 use Rattle.numbers.specs.Fault as fault
-use Rattle.svcparams.specs.Params.{paramsFault, pairsFrom, sizeOf, keys, rising, has, hasHint, words, allIn, mandatoryGood, stringsFrom, alpnGood, valueGood, allGood}
+use Rattle.svcparams.specs.Params.{paramsFault, pairsFrom, sizeOf, keys, rising, has, hasHint, allIn, mandatoryGood, stringsFrom, alpnGood, valueGood, allGood}
 use Rattle.octets.specs.Lists.{All}
 
 -- a field and the number it gets

@@ -9,11 +9,12 @@ use lib.ListN.{length, take, drop, length-drop, length-append, take-append-drop}
 use lib.Seq.{take-at, drop-at, length-take-le}
 use lib.Dec.{eqb}
 use borrow.Author.Tests.{eqb-true, eqb-false}
-use Rattle.octets.specs.Numbers.{at16, Bytes}
-use Rattle.octets.specs.NumbersLaws.{bytes-drop}
+use Rattle.octets.specs.Numbers.{at16, Octet, Bytes}
 use Rattle.svcparams.specs.Params.{Param, sizeOf, first, Tiled, bad, tiled, onto, pairs}
-use Rattle.svcparams.specs.TilingLaws.{bad-tiled, by-test, sized, size-fits, pairs-none, pairs-bad, pairs-cons}
+use Rattle.svcparams.specs.TilingLaws.{bad-tiled, sized, size-fits, pairs-none, pairs-bad, pairs-cons}
+use Rattle.octets.specs.Cases.{by-test}
 use Rattle.octets.specs.Lists.{All}
+use Rattle.octets.specs.ListsLaws.{all-left, all-right, all-drop}
 use Rattle.svcparams.specs.Accepted.{put, fieldOf, Fits}
 
 -- ---- what is laid out is tiled
@@ -94,7 +95,7 @@ laid-by (suc f) (x ∷ xs) kvs h o e =
     by-test (eqb (sizeOf (x ∷ xs)) 0) (λ _. (x ∷ xs ≡ fieldOf kvs) × All Fits kvs)
     (λ t. absurd (bad-tiled (sym (pairs-bad (x ∷ xs) (omega arith) (eqb-true _ _ t)) ∙ e)))
     (λ t. go (eqb-false _ _ t) (pairs (drop (sizeOf (x ∷ xs)) (x ∷ xs))) refl
-    (λ ks g q. laid-by f (drop (sizeOf (x ∷ xs)) (x ∷ xs)) ks g (bytes-drop (sizeOf (x ∷ xs)) (x ∷ xs) o) q))
+    (λ ks g q. laid-by f (drop (sizeOf (x ∷ xs)) (x ∷ xs)) ks g (all-drop Octet (sizeOf (x ∷ xs)) (x ∷ xs) o) q))
   where
     go : (sizeOf (x ∷ xs) ≡ 0 → ⊥) → (t : Tiled) → pairs (drop (sizeOf (x ∷ xs)) (x ∷ xs)) ≡ t
         → ((ks : List Param) → length (drop (sizeOf (x ∷ xs)) (x ∷ xs)) ≤ f → pairs (drop (sizeOf (x ∷ xs)) (x ∷ xs)) ≡ tiled ks
@@ -113,10 +114,8 @@ tiled-field s kvs o e = laid-by (length s) s kvs (omega arith) o e
 
 -- ---- the values of a field of octets are octets
 
-bytes-parts : (a b : List ℕ) → Bytes (a ++ b) → Bytes a × Bytes b
-bytes-parts [] b h = (tt, h)
-bytes-parts (x ∷ xs) b h = let r = bytes-parts xs b (h .1) in ((h .0, r .0), r .1)
-
 pub field-octets : (kvs : List Param) → Bytes (fieldOf kvs) → All (λ (kv : Param). Bytes (kv .value)) kvs
 field-octets [] o = tt
-field-octets (kv ∷ kvs) o = let r = bytes-parts (kv .value) (fieldOf kvs) (o .1 .1 .1 .1) in (r .0, field-octets kvs (r .1))
+field-octets (kv ∷ kvs) o =
+    let here : Bytes (kv .value ++ fieldOf kvs) = o .1 .1 .1 .1 in
+    (all-left Octet (kv .value) (fieldOf kvs) here, field-octets kvs (all-right Octet (kv .value) (fieldOf kvs) here))

@@ -1,12 +1,12 @@
 -- The first fault of a field of service parameters: 16-bit keys, 16-bit lengths and values, one after another (01, Parameters;
 -- RFC 9460 §2.2). The order of faults over the whole field: tiling and keys, then hints, then values (01, "A block's fault is the first
 -- of"). Assumes nothing: these are definitions.
-use Prim.Native.Nat.{ℕ, zero, suc, _+_, _-_, _*_, _%_}
+use Prim.Native.Nat.{ℕ, zero, suc, _+_, _-_, _%_}
 use mathlib.Core.Bool.{Bool, true, false, cond, not, _&&_, _||_}
 use mathlib.Core.List.{List, [], _∷_}
 use lib.ListN.{length, take, drop}
 use lib.Dec.{ltb, leb, eqb}
-use Rattle.octets.specs.Numbers.{at16}
+use Rattle.octets.specs.Numbers.{at16, words}
 use Rattle.numbers.specs.Fault as fault
 use Rattle.svcparams.specs.Key as key
 
@@ -77,12 +77,6 @@ hasHint [] = false
 hasHint (k ∷ ks) = isHint k || hasHint ks
 
 -- ---- values
-
--- numbers of two octets; an odd last octet makes none
-unfoldable pub words : List ℕ → List ℕ
-words [] = []
-words (a ∷ []) = []
-words (a ∷ b ∷ s) = (a * 256 + b) ∷ words s
 
 unfoldable pub allIn : List ℕ → List ℕ → Bool
 allIn [] ks = true

@@ -1,15 +1,16 @@
 -- The laws of a tiled field: the size of a parameter, the steps of `pairs` and `entries`, and the same steps at a place of the field.
 -- Assumes nothing.
 use mathlib.Core.Path.{_≡_, refl, sym, ap, ap₂, _∙_}
-use mathlib.Core.Bool.{Bool, true, false, cond}
+use mathlib.Core.Bool.{cond}
 use mathlib.Core.List.{List, [], _∷_}
 use Prim.Native.Nat.{ℕ, zero, suc, _+_, _-_, _≤_, _<_}
 use native.Mathlib.Nat.{le-of-suc-le-suc, not-suc-le-zero}
 use native.Mathlib.Omega.{arith}
 use lib.ListN.{length, take, drop, length-drop}
-use lib.Seq.{drop-length, drop-drop}
+use lib.Seq.{drop-drop}
 use lib.Dec.{ltb, eqb}
 use borrow.Author.Tests.{lt-ltb, le-ltb, ltb-false, eqb-true, eqb-false}
+use Rattle.octets.specs.Cases.{by-test}
 use Rattle.octets.specs.Numbers.{at16}
 use Rattle.octets.specs.ListsLaws.{take-rest}
 use Rattle.svcparams.specs.Params.{Param, sizeOf, first, Tiled, bad, tiled, onto, after, pairsFrom, pairs}
@@ -17,10 +18,6 @@ use Rattle.svcparams.specs.Entries.{afterEntry, entriesFrom, entries}
 
 pub bad-tiled : {kvs : List Param} → bad ≡ tiled kvs → ⊥
 bad-tiled e = let z : _≡_ {A = ℕ} 0 1 = cc in omega arith
-
-pub by-test : (b : Bool) (P : Bool → Type 0) → (b ≡ true → P true) → (b ≡ false → P false) → P b
-by-test true P f g = f refl
-by-test false P f g = g refl
 
 -- ---- the size of the parameter that stands first
 
@@ -146,9 +143,6 @@ entries-tiled s kvs e = same-from 0 s kvs e
 -- the rest of the field, as `&p[at..]` has it
 abbrev pub rest : List ℕ → ℕ → List ℕ
 rest p at = take (length p - at) (drop at p)
-
-pub end-of : (p : List ℕ) (at : ℕ) → at ≤ length p → length p ≤ at → drop at p ≡ []
-end-of p at h k = let e : at ≡ length p = omega arith in ap (λ (i : ℕ). drop i p) e ∙ drop-length p
 
 -- the value of the parameter of n octets that stands at a place, as `&s[4..n]` has it
 abbrev pub valueAt : List ℕ → ℕ → ℕ → List ℕ

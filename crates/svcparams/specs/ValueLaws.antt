@@ -5,14 +5,13 @@ use mathlib.Core.List.{List, [], _∷_}
 use Prim.Native.Nat.{ℕ, zero, suc, _+_, _-_, _%_, _≤_, _<_}
 use native.Mathlib.Nat.{le-of-suc-le-suc, not-suc-le-zero}
 use native.Mathlib.Omega.{arith}
-use lib.ListN.{length, getD, drop, length-drop}
+use lib.ListN.{length, getD, drop, length-drop, drop-of-length-le}
 use lib.Seq.{drop-drop, drop-cons}
 use lib.Dec.{eqb}
 use borrow.Author.Tests.{le-leb, lt-leb, eq-eqb, ne-eqb, not-true, not-false}
-use Rattle.octets.specs.Numbers.{at16}
+use Rattle.octets.specs.Numbers.{at16, words}
 use Rattle.svcparams.specs.Key as key
-use Rattle.svcparams.specs.Params.{rising, has, allIn, words, mandatoryGood, stringsFrom, alpnGood, valueGood}
-use Rattle.svcparams.specs.TilingLaws.{end-of}
+use Rattle.svcparams.specs.Params.{rising, has, allIn, mandatoryGood, stringsFrom, alpnGood, valueGood}
 
 -- ---- numbers of two octets
 
@@ -137,7 +136,7 @@ strings-start v h = record { within = omega arith; left = simp (ne-eqb _ _ h) }
 
 pub strings-end : (v : List ℕ) (at : ℕ) → Strings v at → length v ≤ at → true ≡ alpnGood v
 unfolding stringsFrom
-strings-end v at i h = sym (i .left ∙ ap (stringsFrom 0) (end-of v at (i .within) h))
+strings-end v at i h = sym (i .left ∙ ap (stringsFrom 0) (drop-of-length-le v h))
 
 module _ (v : List ℕ) (at : ℕ) {n : ℕ} (i : Strings v at) (h : at < length v) (e : n ≡ getD v at 0) where
   strings-at : alpnGood v ≡ not (eqb (getD v at 0) 0) && stringsFrom (getD v at 0) (drop (suc at) v)

@@ -5,14 +5,14 @@ use mathlib.Core.List.{List, [], _∷_}
 use Prim.Native.Nat.{ℕ, _+_, _≤_, _<_}
 use native.Mathlib.Omega.{arith}
 use lib.Dec.{eqb}
-use lib.ListN.{length, drop}
+use lib.ListN.{length, drop, drop-of-length-le}
 use borrow.Author.Tests.{le-leb, lt-leb, eq-eqb, ne-eqb, not-true, not-false}
 use Rattle.octets.specs.Numbers.{at16}
 use Rattle.numbers.specs.Fault as fault
 use Rattle.svcparams.specs.Key as key
 use Rattle.svcparams.specs.Params.{Param, sizeOf, Tiled, bad, tiled, onto, pairs, keys, rising, has, ordered, hasHint, valueGood, allGood, tiledFault, paramsFault}
 use Rattle.svcparams.specs.Entries.{entries, keysIn}
-use Rattle.svcparams.specs.TilingLaws.{rest, end-of, valueAt, paramAt, pairs-none, entries-tiled, stop-pairs, stop-entries, next-room, next-pairs, next-entries}
+use Rattle.svcparams.specs.TilingLaws.{rest, valueAt, paramAt, pairs-none, entries-tiled, stop-pairs, stop-entries, next-room, next-pairs, next-entries}
 
 -- ---- tiling, the order of keys, and hints
 
@@ -63,7 +63,7 @@ module _ (p : List ℕ) (at least : ℕ) (hinted : Bool) (i : InOrder p at least
     order-end : paramsFault p ≡ cond hinted fault.hint (valuesFault p)
     unfolding rising has hasHint keys
     order-end =
-        i .left ∙ ap (λ (l : List ℕ). faultFrom p least hinted (pairs l)) (end-of p at (i .within) h)
+        i .left ∙ ap (λ (l : List ℕ). faultFrom p least hinted (pairs l)) (drop-of-length-le p h)
         ∙ ap (faultFrom p least hinted) pairs-none ∙ simp or-false
 
     pub order-hint : hinted ≡ true → fault.hint ≡ paramsFault p

@@ -5,7 +5,8 @@
 ghost use mathlib.Core.Path.{_≡_};
 ghost use Prim.Native.Nat.{_≤_};
 ghost use lib.ListN.{length};
-ghost use Rattle.svcparams.specs.Params.{sizeOf, rising, allIn, words, mandatoryGood, alpnGood, valueGood, allGood, paramsFault};
+ghost use Rattle.octets.specs.Numbers.{words};
+ghost use Rattle.svcparams.specs.Params.{sizeOf, rising, allIn, mandatoryGood, alpnGood, valueGood, allGood, paramsFault};
 ghost use Rattle.svcparams.specs.Entries.{entries, keysIn};
 use numbers::Fault;
 use octets::get16;

@@ -9,9 +9,9 @@ use native.Mathlib.Omega.{arith}
 use borrow.Author.Tests.{eqb-true}
 use lib.Dec.{eqb}
 use lib.ListN.{length, getD, drop}
-use Rattle.octets.specs.Numbers.{be, Bytes}
-use Rattle.octets.specs.NumbersLaws.{bytes-drop}
+use Rattle.octets.specs.Numbers.{be, Octet, Bytes}
 use Rattle.octets.specs.Lists.{All}
+use Rattle.octets.specs.ListsLaws.{all-drop}
 use Rattle.numbers.specs.Limit as limit
 use Rattle.carriers.specs.declared.Carrier.{Carrier}
 use Rattle.carriers.specs.declared.Carrier.the-variants.{Dhcp4, Dhcp6, Router, Ike4, Ike6}
@@ -117,7 +117,7 @@ unfolding sheetOf
 taken-sheet s c rs h e =
     let p : Passed s c rs = taken-passed s c rs e in
     let n : ℕ = getD s countAt 0 in
-    let w : Written c n 0 (drop frontSize s) (records rs) = rw (p .found) at (records-says c n 0 (drop frontSize s) (bytes-drop frontSize s h)) in
+    let w : Written c n 0 (drop frontSize s) (records rs) = rw (p .found) at (records-says c n 0 (drop frontSize s) (all-drop Octet frontSize s h)) in
     let few : length rs ≤ limit.records = omega (arith, w .1, p .few) in
     let k : getD s carrierAt 0 ≡ numberOf c = number-chosen (getD s carrierAt 0) c (p .carrier) in
     record {

@@ -11,19 +11,8 @@ use Rattle.numbers.specs.Limit as limit
 use Rattle.carriers.specs.declared.Carrier.the-variants.{Dhcp6, Router}
 use Rattle.carriers.specs.Carriers.{chosenOf}
 use Rattle.blocks.specs.Block.{nameOnly, whole}
+use Rattle.blocks.specs.Examples.{N, P, A}
 use Rattle.taking.specs.Taking.{same, headOf, recordsFrom, refuse, sheet, takeOf}
-
--- doh1.example.com
-abbrev pub name : List ℕ
-name = 4 ∷ 100 ∷ 111 ∷ 104 ∷ 49 ∷ 7 ∷ 101 ∷ 120 ∷ 97 ∷ 109 ∷ 112 ∷ 108 ∷ 101 ∷ 3 ∷ 99 ∷ 111 ∷ 109 ∷ 0 ∷ []
-
--- 2001:db8:122:300::1
-abbrev pub address : List ℕ
-address = 32 ∷ 1 ∷ 13 ∷ 184 ∷ 1 ∷ 34 ∷ 3 ∷ 0 ∷ 0 ∷ 0 ∷ 0 ∷ 0 ∷ 0 ∷ 0 ∷ 0 ∷ 1 ∷ []
-
--- alpn "dot"
-abbrev pub parameters : List ℕ
-parameters = 0 ∷ 1 ∷ 0 ∷ 4 ∷ 3 ∷ 100 ∷ 111 ∷ 116 ∷ []
 
 -- the head of a sheet
 abbrev pub head : ℕ → ℕ → List ℕ
@@ -31,21 +20,21 @@ head carrier count = 82 ∷ 83 ∷ 86 ∷ 0 ∷ 1 ∷ carrier ∷ count ∷ []
 
 -- a record of mode 0 with a priority below 256 and a lifetime below 65536
 abbrev pub named : ℕ → ℕ → ℕ → List ℕ
-named priority upper lower = 0 ∷ priority ∷ 0 ∷ 0 ∷ upper ∷ lower ∷ 0 ∷ 18 ∷ name
+named priority upper lower = 0 ∷ priority ∷ 0 ∷ 0 ∷ upper ∷ lower ∷ 0 ∷ 18 ∷ N
 
 -- K1's sheet, 60 octets
 abbrev pub k1 : List ℕ
-k1 = head 2 1 ++ (0 ∷ 1 ∷ 0 ∷ 0 ∷ 0 ∷ 0 ∷ 1 ∷ 18 ∷ name) ++ (1 ∷ address) ++ (0 ∷ 8 ∷ parameters)
+k1 = head 2 1 ++ (0 ∷ 1 ∷ 0 ∷ 0 ∷ 0 ∷ 0 ∷ 1 ∷ 18 ∷ N) ++ (1 ∷ A) ++ (0 ∷ 8 ∷ P)
 
 k1-length : length k1 ≡ 60
 k1-length = refl
 
-pub k1-taken : takeOf k1 ≡ sheet Dhcp6 (whole 1 0 name address parameters ∷ [])
+pub k1-taken : takeOf k1 ≡ sheet Dhcp6 (whole 1 0 N A P ∷ [])
 unfolding takeOf headOf same recordsFrom part number counted chosenOf
 k1-taken = refl
 
 -- K3's sheet: carrier 3, name only, lifetime 3,600
-pub k3-taken : takeOf (head 3 1 ++ named 1 14 16) ≡ sheet Router (nameOnly 1 3600 name ∷ [])
+pub k3-taken : takeOf (head 3 1 ++ named 1 14 16) ≡ sheet Router (nameOnly 1 3600 N ∷ [])
 unfolding takeOf headOf same recordsFrom part number counted chosenOf
 k3-taken = refl
 
@@ -54,7 +43,7 @@ pub empty-taken : takeOf (head 2 0) ≡ sheet Dhcp6 []
 unfolding takeOf headOf same recordsFrom part number counted chosenOf
 empty-taken = refl
 
-pub equal-priorities : takeOf (head 2 2 ++ named 5 0 0 ++ named 5 0 0) ≡ sheet Dhcp6 (nameOnly 5 0 name ∷ nameOnly 5 0 name ∷ [])
+pub equal-priorities : takeOf (head 2 2 ++ named 5 0 0 ++ named 5 0 0) ≡ sheet Dhcp6 (nameOnly 5 0 N ∷ nameOnly 5 0 N ∷ [])
 unfolding takeOf headOf same recordsFrom part number counted chosenOf
 equal-priorities = refl
 

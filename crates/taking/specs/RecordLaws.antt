@@ -6,7 +6,7 @@ use Prim.Native.Nat.{ℕ, _*_, _/_, _%_, _≤_, _<_}
 use native.Mathlib.Nat.{mul-div-cancel, mul-mod-left, div-add-mod'}
 use native.Mathlib.Omega.{arith}
 use borrow.Author.Tests.{le-ltb, eqb-true, eq-eqb}
-use lib.Dec.{ltb, eqb}
+use lib.Dec.{eqb}
 use lib.ListN.{length}
 use Rattle.octets.specs.Numbers.{be, Bytes}
 use Rattle.octets.specs.Fields.{putCounted}
@@ -19,6 +19,7 @@ use Rattle.records.specs.Records.{tailOf, recordOf}
 use Rattle.taking.specs.Taking.{Records, none, misplaced, fullFields, oneRecord}
 use Rattle.taking.specs.Sheet.{FitsTail, FitsRecord}
 use Rattle.taking.specs.SpotLaws.{by-less, by-equal}
+use Rattle.taking.specs.WalkLaws.{afterName}
 
 -- ---- a lifetime where none belongs
 
@@ -60,21 +61,13 @@ full-put c p t n a q m =
 -- ---- written, then read
 
 module _ (c : Carrier) (least : ℕ) (next : Fields → List ℕ → Records) where
-  -- what `oneRecord` does once the name is read
-  abbrev afterName : ℕ → ℕ → ℕ → List ℕ → List ℕ → Records
-  afterName p t mode n l =
-      cond (ltb p least) none
-      (cond (misplaced c t) none
-      (cond (eqb mode 0) (next (nameOnly p t n) l)
-      (cond (eqb mode 1) (fullFields c p t n l next) none)))
-
   opening-read : (p t mode : ℕ) (n l : List ℕ) → p < 65536 → t < 4294967296 → mode < 256 → length n < 256
-      → oneRecord c least (opening p t mode (putCounted 1 n l)) next ≡ afterName p t mode n l
+      → oneRecord c least (opening p t mode (putCounted 1 n l)) next ≡ afterName c least next p t mode n l
   opening-read p t mode n l hp ht hm hn =
       number-read none 2 p (be 4 t ++ (be 1 mode ++ putCounted 1 n l)) _ hp
       ∙ number-read none 4 t (be 1 mode ++ putCounted 1 n l) _ ht
       ∙ number-read none 1 mode (putCounted 1 n l) _ hm
-      ∙ counted-read none 1 n l (afterName p t mode) hn
+      ∙ counted-read none 1 n l (afterName c least next p t mode) hn
 
   fields-read : (p t : ℕ) (n a q m : List ℕ) → FitsTail (addressWidth c) true a q → fullFields c p t n (fullTail c a q m) next ≡ next (whole p t n a q) m
   fields-read p t n a q m h =

@@ -43,21 +43,18 @@ module _ {R : Type 0} (stop : R) where
       go false t = refl
 
   module _ (s : List ℕ) (at : ℕ) (inside : at ≤ length s) where
-    left-length : length (drop at s) ≡ length s - at
-    left-length = length-drop at s
-
     part-at : (n next-at : ℕ) (next : List ℕ → List ℕ → R) → next-at ≡ at + n → n ≤ length s - at
         → part stop n (drop at s) next ≡ next (take n (drop at s)) (drop next-at s)
     unfolding part
     part-at n b next e h =
-        let k : n ≤ length (drop at s) = rw left-length h in
+        let k : n ≤ length (drop at s) = rw length-drop h in
         rw (le-leb n (length (drop at s)) k, drop-drop n at s, e)
 
     part-past : (n : ℕ) (next : List ℕ → List ℕ → R) → length s - at < n → part stop n (drop at s) next ≡ stop
-    part-past n next h = part-short n (drop at s) next (rw left-length h)
+    part-past n next h = part-short n (drop at s) next (rw length-drop h)
 
     number-past : (w : ℕ) (next : ℕ → List ℕ → R) → length s - at < w → number stop w (drop at s) next ≡ stop
-    number-past w next h = number-short w (drop at s) next (rw left-length h)
+    number-past w next h = number-short w (drop at s) next (rw length-drop h)
 
     number-at : (w v next-at : ℕ) (next : ℕ → List ℕ → R) → v ≡ val (take w (drop at s)) → next-at ≡ at + w → w ≤ length s - at
         → number stop w (drop at s) next ≡ next v (drop next-at s)
@@ -119,7 +116,7 @@ module _ (s : List ℕ) (p : Spot) (next : Fields → List ℕ → Records) wher
       (λ k. number-at none s t h 1 (getD s t 0) (t + 1) counts (octet-val none s t h k) refl k ∙ addresses-at (t + 1) n (omega arith))
 
 -- the tests after the name, which leave the fields' places alone
-abbrev tested : Carrier → ℕ → ℕ → ℕ → Records → Records
+abbrev pub tested : Carrier → ℕ → ℕ → ℕ → Records → Records
 tested c least priority lifetime found = cond (ltb priority least) none (cond (misplaced c lifetime) none found)
 
 tested-none : (c : Carrier) (least priority lifetime : ℕ) → tested c least priority lifetime none ≡ none
@@ -135,8 +132,8 @@ abbrev pub onRecord : Carrier → ℕ → List ℕ → Spot → (Fields → List
 onRecord c least s p next = cond (p .good) (tested c least (p .priority) (p .lifetime) (next (fieldsAt s p) (drop (p .next) s))) none
 
 module _ (c : Carrier) (least : ℕ) (next : Fields → List ℕ → Records) where
-  -- what stands after the name
-  abbrev afterName : ℕ → ℕ → ℕ → List ℕ → List ℕ → Records
+  -- what `oneRecord` does once the name is read
+  abbrev pub afterName : ℕ → ℕ → ℕ → List ℕ → List ℕ → Records
   afterName priority lifetime mode name l =
       tested c least priority lifetime
       (cond (eqb mode 0) (next (nameOnly priority lifetime name) l)

@@ -1,15 +1,12 @@
 -- To show something of what a step gives, show it of each outcome, with what the tests on the way there say. Assumes nothing.
-use mathlib.Core.Path.{_≡_, refl}
-use mathlib.Core.Bool.{Bool, true, false, cond}
+use mathlib.Core.Path.{_≡_}
+use mathlib.Core.Bool.{true, cond}
 use Prim.Native.Nat.{ℕ, _-_, _≤_, _<_}
 use lib.Dec.{leb, eqb}
 use borrow.Author.Tests.{eqb-true, eqb-false, leb-true, leb-false}
+use Rattle.octets.specs.Cases.{by-test}
 use Rattle.names.specs.Names.{alnum}
 use Rattle.texts.specs.TextCheck.{start, letter, hyphen, Move, stop, go, step, after, inside, dot}
-
-by-test : (b : Bool) (P : Bool → Type 0) → (b ≡ true → P true) → (b ≡ false → P false) → P b
-by-test true P f g = f refl
-by-test false P f g = g refl
 
 pub by-start : (at x : ℕ) (P : Move → Type 0)
     → (alnum x ≡ true → P (go (letter (after at))))

@@ -9,23 +9,14 @@ use lib.ListN.{length, length-append}
 use Rattle.names.specs.declared.Name.the-variants.{Good}
 use Rattle.octets.specs.Lists.{All}
 use Rattle.names.specs.Names.{alnum, last, Ldh, Label}
+use Rattle.names.specs.Complete.{hyphen-not-alnum, both}
 use Rattle.texts.specs.Texts.{dotted, text, IsText}
 use Rattle.texts.specs.TextCheck.{State, start, letter, hyphen, Move, stop, step, walk, textCheck, after, inside, dot}
 use Rattle.texts.specs.Laws.{goes, start-letter, dot-goes, inside-letter, inside-hyphen, inside-other}
 
-hyphen-not-alnum : (x : ℕ) → x ≡ 45 → alnum x ≡ false
-unfolding alnum
-hyphen-not-alnum x e = rw e
-
 dot-not-alnum : alnum 46 ≡ false
 unfolding alnum
 dot-not-alnum = refl
-
-both : {X : Type 0} (x : ℕ) → alnum x ≡ true → x ≡ 45 → X
-both x a q =
-    let n = hyphen-not-alnum x q in
-    let z : _≡_ {A = ℕ} 0 1 = cc in
-    absurd (omega arith)
 
 -- a label does not end in a hyphen
 not-last : (x : ℕ) (l : List ℕ) → x ≡ 45 → alnum (last x l) ≡ true → 1 ≤ length l

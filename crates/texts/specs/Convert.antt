@@ -12,6 +12,7 @@ use lib.Seq.{take-append-add}
 use borrow.Author.Tests.{eqb-true, ne-eqb}
 use Rattle.octets.specs.Lists.{All}
 use Rattle.names.specs.Names.{alnum, Ldh, Label, wire, IsName}
+use Rattle.names.specs.Complete.{wire-some}
 use Rattle.texts.specs.Texts.{dotted, text, IsText, run, wireFrom, wireOf, dotsFrom, textOf}
 
 -- ---- text to wire form
@@ -54,10 +55,6 @@ dots-label : (l t : List ℕ) → dotsFrom (length l) (l ++ t) ≡ l ++ dotsFrom
 unfolding dotsFrom
 dots-label [] t = refl
 dots-label (x ∷ l) t = ap (λ (r : List ℕ). x ∷ r) (dots-label l t)
-
-wire-some : (ls : List (List ℕ)) → 1 ≤ length (wire ls)
-wire-some [] = omega arith
-wire-some (l ∷ ls) = omega arith
 
 -- all but the root octet of a label and what follows it
 before-root : (l : List ℕ) (ms : List (List ℕ)) → take (length (l ++ wire ms) - 1) (l ++ wire ms) ≡ l ++ take (length (wire ms) - 1) (wire ms)

@@ -2,7 +2,7 @@
 -- returns ask it. Assumes nothing.
 use mathlib.Core.Path.{_≡_, refl, sym, ap, _∙_}
 use mathlib.Core.List.{List, [], _∷_}
-use mathlib.Core.Bool.{Bool, true, false}
+use mathlib.Core.Bool.{true, false}
 use Prim.Native.Nat.{ℕ, _+_, _-_, _≤_, _<_, min}
 use native.Mathlib.Numerals.{add-one}
 use native.Mathlib.Omega.{arith}
@@ -140,7 +140,3 @@ bad-answer s r e f = go (textCheck s) refl
     go : (a : Name) → textCheck s ≡ a → Bad r ≡ textCheck s
     go Good h = absurd (f (e ∙ ap placed h))
     go (Bad p) h = ap Bad (e ∙ ap placed h) ∙ sym h
-
--- what a call told of a flag, and what a test told of the same flag
-pub told : {a b v : Bool} → a ≡ b → a ≡ v → b ≡ v
-told e f = sym e ∙ f

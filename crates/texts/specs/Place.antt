@@ -1,13 +1,13 @@
 -- The place that `textCheck` gives is that of the first octet at which no text can go on. Assumes nothing.
 use mathlib.Core.Path.{_≡_, refl, sym, ap, _∙_}
 use mathlib.Core.List.{List, [], _∷_, _++_, append-assoc}
-use mathlib.Core.Bool.{true}
 use Prim.Native.Nat.{ℕ, _+_, _-_, _≤_, _<_}
 use native.Mathlib.Omega.{arith}
 use lib.ListN.{length, length-append, take}
 use lib.Seq.{take-at}
 use Rattle.names.specs.declared.Name.the-variants.{Good, Bad}
-use Rattle.names.specs.Names.{alnum, FirstBad}
+use Rattle.names.specs.Names.{FirstBad}
+use Rattle.names.specs.Place.{a-alnum}
 use Rattle.texts.specs.Texts.{IsText}
 use Rattle.texts.specs.TextCheck.{State, start, letter, hyphen, Move, stop, go, step, on, walk, textCheck, after, inside, dot}
 use Rattle.texts.specs.Laws.{goes, stops, start-letter, inside-letter}
@@ -18,10 +18,6 @@ use Rattle.texts.specs.Complete.{good-complete}
 -- some octets that end a text
 abbrev Ending : State → ℕ → Type 0
 Ending st at = (t : List ℕ) × (walk st at t ≡ Good)
-
-a-alnum : alnum 97 ≡ true
-unfolding alnum
-a-alnum = refl
 
 -- nothing after a letter or a digit, else the letter a
 ending : (st : State) (y at : ℕ) → Valid st y at → Ending st at

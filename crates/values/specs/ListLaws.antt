@@ -8,7 +8,7 @@ use lib.Dec.{eqb}
 use lib.ListN.{length}
 use borrow.Author.Tests.{ne-eqb}
 use Rattle.octets.specs.Lists.{flat}
-use Rattle.octets.specs.ListsLaws.{flat-append}
+use Rattle.octets.specs.ListsLaws.{flat-map-append}
 use Rattle.ips.specs.Ips.{led}
 use Rattle.chars.specs.Puts.{Puts}
 use Rattle.chars.specs.PutsLaws.{puts-none, puts-then, puts-as}
@@ -34,7 +34,7 @@ list-more text true (y ∷ xs) x =
     ∙ ap (λ (l : List ℕ). text y ++ l) (led-more (map text xs) (text x) ∙ ap (led comma) (sym (map-append text xs (x ∷ []))))
 list-more text false (y ∷ xs) x =
     ap (λ (l : List ℕ). flat (map text (y ∷ xs)) ++ l) (sym (append-nil (text x)))
-    ∙ sym (ap flat (map-append text (y ∷ xs) (x ∷ [])) ∙ flat-append (map text (y ∷ xs)) (text x ∷ []))
+    ∙ sym (flat-map-append text (y ∷ xs) (x ∷ []))
 
 -- ---- a loop
 

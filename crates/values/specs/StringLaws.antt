@@ -5,10 +5,9 @@ use mathlib.Core.List.{List, [], _∷_}
 use Prim.Native.Nat.{ℕ, zero, suc, _+_, _-_, _≤_, _<_}
 use native.Mathlib.Nat.{add-sub-cancel-left}
 use native.Mathlib.Numerals.{add-one}
-use lib.ListN.{length, getD, take, drop, length-drop}
+use lib.ListN.{length, getD, take, drop, length-drop, drop-of-length-le}
 use lib.Seq.{drop-cons, drop-drop}
 use borrow.Author.Tests.{lt-ltb, le-ltb}
-use Rattle.svcparams.specs.TilingLaws.{end-of}
 use Rattle.values.specs.Values.{stringsFrom}
 
 skip-strings : (k : ℕ) (s : List ℕ) → stringsFrom k s ≡ stringsFrom 0 (drop k s)
@@ -19,7 +18,7 @@ skip-strings (suc k) (x ∷ s) = skip-strings k s
 
 pub strings-end : (s : List ℕ) (i : ℕ) → i ≤ length s → length s ≤ i → stringsFrom 0 (drop i s) ≡ []
 unfolding stringsFrom
-strings-end s i h k = ap (stringsFrom 0) (end-of s i h k)
+strings-end s i h k = ap (stringsFrom 0) (drop-of-length-le s k)
 
 module _ (s : List ℕ) (i : ℕ) {n : ℕ} (h : i < length s) (e : n ≡ getD s i 0) where
   -- what stands at an index, and after it

@@ -9,7 +9,7 @@ use lib.ListN.{length, take}
 use Rattle.octets.specs.Lists.{flat}
 use Rattle.carriers.specs.declared.Carrier.{Carrier}
 use Rattle.carriers.specs.declared.Carrier.the-variants.{Dhcp4, Dhcp6, Router, Ike4, Ike6}
-use Rattle.svcparams.specs.Params.{words}
+use Rattle.octets.specs.Numbers.{words}
 use Rattle.svcparams.specs.Key as key
 use Rattle.texts.specs.Texts.{textOf}
 use Rattle.ips.specs.Ips.{joined, text4, text6}

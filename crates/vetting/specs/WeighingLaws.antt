@@ -1,6 +1,6 @@
 -- The octets of a record and of records, and each turn of the pass that weighs them. Assumes nothing.
 use mathlib.Core.Path.{_≡_, refl, sym, ap, _∙_, subst, subst⁻¹}
-use mathlib.Core.Bool.{Bool, true, false, cond, _||_}
+use mathlib.Core.Bool.{Bool, true, false, cond, _||_, or-assoc, or-false}
 use mathlib.Core.List.{List, [], _∷_, _++_, map}
 use Prim.Native.Nat.{ℕ, suc, _+_, _-_, _*_, _≤_, _<_}
 use native.Mathlib.Omega.{arith}
@@ -201,14 +201,6 @@ module _ (c : Carrier) (s : List ℕ) (p : Spot) {j : Judged} (judged : j ≡ ju
 
 -- ---- the pass
 
-or-assoc : (a b d : Bool) → (a || (b || d)) ≡ ((a || b) || d)
-or-assoc true b d = refl
-or-assoc false b d = refl
-
-or-false : (a : Bool) → (a || false) ≡ a
-or-false true = refl
-or-false false = refl
-
 module _ (c : Carrier) (r : Fields) (rs : List Fields) where
   first-passed : faultOf Writing c r ≡ 0 → firstFault c (r ∷ rs) ≡ firstFault c rs
   unfolding firstFault
@@ -300,7 +292,7 @@ module _ {c : Carrier} {s : List ℕ} {rs : List Fields} {at size : ℕ} {big : 
               w .larges
               ∙ ap (λ (x : List Fields). big || anyLarge c x) (t .are)
               ∙ ap (λ (x : Bool). big || x) (large-one c r (t .rest))
-              ∙ or-assoc big (large c r) (anyLarge c (t .rest))
+              ∙ sym (or-assoc big (large c r) (anyLarge c (t .rest)))
               ∙ ap (λ (x : Bool). (big || x) || anyLarge c (t .rest)) (sym lr)
               ∙ ap (λ (x : Bool). x || anyLarge c (t .rest)) (sym k);
           sizes = omega (arith, w .sizes, ap (λ (x : List Fields). length (streamOf c x)) (t .are), stream-length c r (t .rest), sr);

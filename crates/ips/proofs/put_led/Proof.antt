@@ -7,13 +7,14 @@ use Prim.Native.Nat.{_-_, _/_, _≤_}
 use lib.ListN.{length, take}
 use Rattle.octets.specs.Over.{Wrote}
 use Rattle.octets.specs.OverLaws.{wrote-none}
-use Rattle.ips.specs.Ips.{hex, led, fieldsOf}
+use Rattle.octets.specs.Numbers.{words}
+use Rattle.ips.specs.Ips.{hex, led}
 use Rattle.ips.specs.Writes.{led-room, wrote-next, all-fields}
 use Rattle.ips.proofs.put_led.Statement.{statement}
 use Rattle.ips.proofs.put_led.Tie as tie
 
 abbrev Inv-loop : tie.InvT-loop
-Inv-loop out₀ at s k₀ next₀ out k next = (k ≤ length s / 2) × (length out ≡ length out₀) × Wrote at (led 58 (map hex (take k (fieldsOf s)))) out₀ next out
+Inv-loop out₀ at s k₀ next₀ out k next = (k ≤ length s / 2) × (length out ≡ length out₀) × Wrote at (led 58 (map hex (take k (words s)))) out₀ next out
 
 abbrev μ-loop : tie.MeasureT-loop
 μ-loop out₀ at s k₀ next₀ out k next = length s / 2 - k

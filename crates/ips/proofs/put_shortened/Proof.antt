@@ -4,8 +4,9 @@ use native.Mathlib.Omega.{arith}
 use mathlib.Core.Path.{_≡_}
 use mathlib.Core.List.{List}
 use Prim.Native.Nat.{ℕ}
-use Rattle.ips.specs.Ips.{fieldsOf, runOf, colons, around, shortened}
-use Rattle.ips.specs.IpsLaws.{fields-length}
+use Rattle.octets.specs.Numbers.{words}
+use Rattle.ips.specs.Ips.{runOf, colons, around, shortened}
+use Rattle.octets.specs.NumbersLaws.{words-length}
 use Rattle.ips.specs.Writes.{shortened-whole, shortened-around, within-fields}
 use Rattle.ips.proofs.put_shortened.Statement.{statement}
 use Rattle.ips.proofs.put_shortened.Tie as tie
@@ -15,11 +16,11 @@ abbrev octets : tie.After-run-in → List ℕ
 octets c = c .before .before .before .args .a .now
 
 -- the text on each way
-whole : (c : tie.After-run-in) → c .run-in .result .count ≡ 0 → shortened (runOf (fieldsOf (octets c))) (fieldsOf (octets c)) ≡ colons (fieldsOf (octets c))
-whole c e = shortened-whole (fieldsOf (octets c)) (c .run-in .result) (c .run-in .ensures) e
+whole : (c : tie.After-run-in) → c .run-in .result .count ≡ 0 → shortened (runOf (words (octets c))) (words (octets c)) ≡ colons (words (octets c))
+whole c e = shortened-whole (words (octets c)) (c .run-in .result) (c .run-in .ensures) e
 
-part : (c : tie.After-run-in) → (c .run-in .result .count ≡ 0 → ⊥) → shortened (runOf (fieldsOf (octets c))) (fieldsOf (octets c)) ≡ around (c .run-in .result) (fieldsOf (octets c))
-part c h = shortened-around (fieldsOf (octets c)) (c .run-in .result) (c .run-in .ensures) h
+part : (c : tie.After-run-in) → (c .run-in .result .count ≡ 0 → ⊥) → shortened (runOf (words (octets c))) (words (octets c)) ≡ around (c .run-in .result) (words (octets c))
+part c h = shortened-around (words (octets c)) (c .run-in .result) (c .run-in .ensures) h
 
 put-fields-requires : tie.Need-put-fields-requires
 put-fields-requires c κs =
@@ -39,8 +40,8 @@ put-around-requires c κs =
     let e = c .before in
     let k = e .before .before in
     let s = k .before .before .before in
-    let inside = within-fields (fieldsOf (octets k)) (k .run-in .result) (k .run-in .ensures) in
-    ((s .pre .0, omega (arith, fields-length (octets k))), rw (part k (e .if1 .left)) at (s .pre .1))
+    let inside = within-fields (words (octets k)) (k .run-in .result) (k .run-in .ensures) in
+    ((s .pre .0, omega (arith, words-length (octets k))), rw (part k (e .if1 .left)) at (s .pre .1))
 
 returns-2 : tie.Need-returns-2
 returns-2 c =

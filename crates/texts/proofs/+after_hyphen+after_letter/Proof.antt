@@ -2,7 +2,8 @@
 -- At each return one law of Outcomes says what the walk gives on the way there. Assumes nothing.
 use Prim.Native.Nat.{ℕ, _<_, _-_}
 use borrow.Author.Needs.{needs}
-use Rattle.texts.specs.Outcomes.{letter-end, hyphen-end, hyphen-letter, hyphen-hyphen, hyphen-last, hyphen-other, letter-letter, letter-long, letter-hyphen, letter-last, letter-other, letter-far, label-missing, label-opens, label-other, told}
+use Rattle.names.specs.Outcomes.{told}
+use Rattle.texts.specs.Outcomes.{letter-end, hyphen-end, hyphen-letter, hyphen-hyphen, hyphen-last, hyphen-other, letter-letter, letter-long, letter-hyphen, letter-last, letter-other, letter-far, label-missing, label-opens, label-other}
 use borrow.Fn.Kinds.{In}
 use borrow.Fn.PlainCycle.{Measures, is, falls, and}
 use Rattle.texts.proofs.after_hyphen.Reads as after-hyphen

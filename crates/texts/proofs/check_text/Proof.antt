@@ -2,7 +2,8 @@
 use mathlib.Core.Path.{_≡_}
 use mathlib.Core.List.{List}
 use Prim.Native.Nat.{ℕ}
-use Rattle.texts.specs.Outcomes.{no-octet, first-other, by-first, good-answer, bad-answer, told}
+use Rattle.names.specs.Outcomes.{told}
+use Rattle.texts.specs.Outcomes.{no-octet, first-other, by-first, good-answer, bad-answer}
 use Rattle.texts.specs.Right.{right}
 use Rattle.names.specs.Wire.{placed}
 use Rattle.texts.specs.TextCheck.{textCheck}

@@ -7,7 +7,7 @@ use Prim.Native.Nat.{ℕ, _+_, _-_, _≤_}
 use native.Mathlib.Omega.{arith}
 use lib.Dec.{eqb}
 use lib.ListN.{length, drop}
-use Rattle.svcparams.specs.Params.{words}
+use Rattle.octets.specs.Numbers.{words}
 use Rattle.svcparams.specs.ValueLaws.{words-cons, words-end}
 use Rattle.values.specs.Values.{beforeOf, quoted, keyOf, keysOf}
 use Rattle.values.specs.ListLaws.{Listed, listed-start, listed-past, listed-end}

@@ -6,9 +6,8 @@ use mathlib.Core.List.{[]}
 use Prim.Native.Nat.{_-_, _≤_}
 use native.Mathlib.Numerals.{add-one}
 use native.Mathlib.Omega.{arith}
-use lib.ListN.{length, drop}
+use lib.ListN.{length, drop, drop-of-length-le}
 use lib.Seq.{drop-cons}
-use Rattle.svcparams.specs.TilingLaws.{end-of}
 use Rattle.values.specs.Values.{escapedOf, valueOf}
 use Rattle.values.specs.ListLaws.{Listed, listed-start, listed-next, listed-end}
 use Rattle.values.proofs.put_value.Statement.{statement}
@@ -34,7 +33,7 @@ returns : tie.Need-returns Inv-loop μ-loop
 unfolding valueOf
 returns c =
     let l = c .before in
-    listed-end _ _ (l .loop .inv .2) (end-of _ (l .loop .i) (l .loop .inv .0) (c .loop-test .left))
+    listed-end _ _ (l .loop .inv .2) (drop-of-length-le _ (c .loop-test .left))
 
 pub put-value-spec : {M : Type 1} → statement M
 put-value-spec =
