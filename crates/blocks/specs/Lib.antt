@@ -6,3 +6,4 @@ pub mod Examples
 pub mod Places
 pub mod Together
 pub mod PlacesLaws
+pub mod Holding

@@ -11,7 +11,8 @@ use Rattle.carriers.specs.declared.Carrier.{Carrier}
 use Rattle.carriers.specs.Carriers.{numberOf}
 use Rattle.blocks.specs.Block.{Fields}
 use Rattle.sheets.specs.Sheets.{sheetOf}
-use Rattle.reading.specs.Reading.{faultless, Answer, refuse, done, readOf}
+use Rattle.reading.specs.declared.Reading.{Reading}
+use Rattle.reading.specs.Reading.{faultless, Answer, refuse, done, readOf, Reads}
 use Rattle.written.specs.Writing.{octetsOf}
 
 -- the octets of the records rs are cut after n of them, and the part before the cut is read under the carrier's number
@@ -32,3 +33,12 @@ pub record FirstRead (c : Carrier) (rs : List Fields) (k n room : ℕ) : Type 0 
 pub data Cut (c : Carrier) (rs : List Fields) (n room : ℕ) : Type 0 where
   after-options : (k : ℕ) → EndOf c rs k n → FirstRead c rs k n room → Cut c rs n room
   elsewhere : ((k : ℕ) → EndOf c rs k n → ⊥) → readCut c rs n room ≡ refuse refusal.framing → Cut c rs n room
+
+-- the same of a call that read the part before a cut of n octets, and got the buffer `sheet`: every number that it returned, and the whole
+-- buffer after it
+pub data CutCall (c : Carrier) (rs : List Fields) (n : ℕ) (sheet : List ℕ) (r : Reading) (sheet′ : List ℕ) : Type 0 where
+  first-records : (k : ℕ) → EndOf c rs k n → length (sheetOf c (take k rs)) ≤ length sheet
+      → Reads (done (faultless (sheetOf c (take k rs)) k)) sheet r sheet′ → CutCall c rs n sheet r sheet′
+  no-room : (k : ℕ) → EndOf c rs k n → length sheet < length (sheetOf c (take k rs)) → Reads (refuse refusal.room) sheet r sheet′
+      → CutCall c rs n sheet r sheet′
+  unframed : ((k : ℕ) → EndOf c rs k n → ⊥) → Reads (refuse refusal.framing) sheet r sheet′ → CutCall c rs n sheet r sheet′

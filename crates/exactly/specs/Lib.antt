@@ -2,3 +2,4 @@ pub mod Allowed
 pub mod AllowedLaws
 pub mod Exactly
 pub mod Sizes
+pub mod Answers

@@ -13,3 +13,4 @@ pub mod Emit
 pub mod EmitLaws
 pub mod Cutting
 pub mod Examples
+pub mod Area

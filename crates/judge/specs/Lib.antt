@@ -3,3 +3,4 @@ pub mod Passed
 pub mod JudgeLaws
 pub mod Outcomes
 pub mod Numbered
+pub mod Allowed

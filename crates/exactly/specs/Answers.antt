@@ -1,0 +1,96 @@
+-- What becomes of a body, of a block and of an area, and what reading answers, in terms that do not compute (demand 2; 01, Area walk, Numbers
+-- given back). Assumes nothing: these are definitions.
+use mathlib.Core.Path.{_≡_}
+use mathlib.Core.Bool.{true, false}
+use mathlib.Core.List.{List, [], _∷_}
+use Prim.Native.Nat.{ℕ, _≤_, _<_}
+use lib.ListN.{length}
+use Rattle.octets.specs.Fields.{putCounted}
+use Rattle.numbers.specs.Refusal as refusal
+use Rattle.numbers.specs.Fault as fault
+use Rattle.numbers.specs.Limit as limit
+use Rattle.carriers.specs.declared.Carrier.{Carrier}
+use Rattle.carriers.specs.declared.Carrier.the-variants.{Dhcp4}
+use Rattle.carriers.specs.Carriers.{numberOf, isJoined}
+use Rattle.order.specs.Order.{Sorted, keep}
+use Rattle.frames.specs.Frame.{blocksOf}
+use Rattle.frames.specs.Area.{Area}
+use Rattle.blocks.specs.Block.{Fields}
+use Rattle.blocks.specs.Holding.{Laid, Short, Misfilled}
+use Rattle.judge.specs.declared.Side.the-variants.{Reading}
+use Rattle.judge.specs.Allowed.{Allowed, FirstBroken}
+use Rattle.records.specs.Records.{Outcome, faulty, kept, keepOf}
+use Rattle.sheets.specs.Sheets.{sheetOf}
+use Rattle.reading.specs.Reading.{Yield, discarded, yields, single, arrivals, discardedIn, firstFault, Done, Answer, refuse, done}
+
+-- ---- a body (in carrier 1 one instance)
+
+-- its fault, the first of 20, 29, 21 to 28, or the record that is kept of allowed fields
+pub data BodyIs (c : Carrier) (body : List ℕ) : Outcome → Type 0 where
+  short : Short c body → BodyIs c body (faulty fault.field)
+  misfilled : Misfilled c body → BodyIs c body (faulty fault.padding)
+  broken : {f : Fields} {k : ℕ} → Laid c body f → FirstBroken Reading c f k → (k ≡ 0 → ⊥) → BodyIs c body (faulty k)
+  keeps : {f : Fields} → Laid c body f → Allowed Reading c f → BodyIs c body (kept (keepOf c f))
+
+-- ---- a block
+
+-- joined data begin with an instance: a 16-bit length, and as many octets
+pub record Begins (joined body rest : List ℕ) : Type 0 where
+  pub small : length body < 65536
+  pub are : joined ≡ putCounted 2 body rest
+
+-- the instances of joined data, one after another; the first with a fault gives the block's
+pub data Instances : List ℕ → Yield → Type 0 where
+  none : Instances [] (yields [])
+  past : {joined : List ℕ} → (joined ≡ [] → ⊥) → ((body rest : List ℕ) → Begins joined body rest → ⊥) → Instances joined (discarded fault.field)
+  first-faulty : {joined body rest : List ℕ} {k : ℕ} → Begins joined body rest → BodyIs Dhcp4 body (faulty k) → Instances joined (discarded k)
+  later-faulty : {joined body rest : List ℕ} {r : Fields} {k : ℕ} → Begins joined body rest → BodyIs Dhcp4 body (kept r) → Instances rest (discarded k)
+      → Instances joined (discarded k)
+  one-more : {joined body rest : List ℕ} {r : Fields} {rs : List Fields} → Begins joined body rest → BodyIs Dhcp4 body (kept r) → Instances rest (yields rs)
+      → Instances joined (yields (r ∷ rs))
+
+-- in carriers 2 to 5 a block is one body, in carrier 1 one instance or more
+pub data BlockIs (c : Carrier) (block : List ℕ) : Yield → Type 0 where
+  one-body : {o : Outcome} → isJoined c ≡ false → BodyIs c block o → BlockIs c block (single o)
+  no-instance : isJoined c ≡ true → block ≡ [] → BlockIs c block (discarded fault.field)
+  instances : {y : Yield} → isJoined c ≡ true → (block ≡ [] → ⊥) → Instances block y → BlockIs c block y
+
+-- so of each block, in order
+pub data BlocksAre (c : Carrier) : List (List ℕ) → List Yield → Type 0 where
+  none : BlocksAre c [] []
+  more : {block : List ℕ} {blocks : List (List ℕ)} {y : Yield} {ys : List Yield} → BlockIs c block y → BlocksAre c blocks ys
+      → BlocksAre c (block ∷ blocks) (y ∷ ys)
+
+-- ---- an area
+
+-- rs are the records as in the list, by rising priority; those of one priority in the order in which they came
+pub record Arranged (came rs : List Fields) : Type 0 where
+  pub rising : Sorted (λ (r : Fields). r .priority) rs
+  pub stable : (p : ℕ) → keep (λ (r : Fields). r .priority) p rs ≡ keep (λ (r : Fields). r .priority) p came
+
+-- an area of at most 40,960 octets, framed into blocks, and what each of them yields
+pub record Readable (c : Carrier) (area : List ℕ) (ys : List Yield) (rs : List Fields) : Type 0 where
+  pub short : length area ≤ limit.input
+  pub bodies : List (List ℕ)
+  pub framed : Area c area bodies
+  pub blocks : BlocksAre c (blocksOf c bodies) ys
+  pub arranged : Arranged (arrivals ys) rs
+
+-- what a reading that is done gives: the sheet, the counts of the blocks, the fault of the first that is discarded
+abbrev pub gives : Carrier → List Yield → List Fields → Done
+gives c ys rs = record { sheet = sheetOf c rs; found = length ys; discarded = discardedIn ys; fault = firstFault ys }
+
+-- ---- the call
+
+-- reading answers this under carrier number n, with an output buffer of `room` octets: 1, 2, 3, 4 and 5 in this order, or it is done
+pub data Answers (n : ℕ) (area : List ℕ) (room : ℕ) : Answer → Type 0 where
+  no-carrier : ((c : Carrier) → numberOf c ≡ n → ⊥) → Answers n area room (refuse refusal.carrier)
+  too-long : (c : Carrier) → numberOf c ≡ n → limit.input < length area → Answers n area room (refuse refusal.input)
+  unframed : (c : Carrier) → numberOf c ≡ n → length area ≤ limit.input → ((bodies : List (List ℕ)) → Area c area bodies → ⊥)
+      → Answers n area room (refuse refusal.framing)
+  too-many : (c : Carrier) {ys : List Yield} {rs : List Fields} → numberOf c ≡ n → Readable c area ys rs → limit.records < length rs
+      → Answers n area room (refuse refusal.records)
+  no-room : (c : Carrier) {ys : List Yield} {rs : List Fields} → numberOf c ≡ n → Readable c area ys rs → length rs ≤ limit.records
+      → room < length (sheetOf c rs) → Answers n area room (refuse refusal.room)
+  is-done : (c : Carrier) {ys : List Yield} {rs : List Fields} → numberOf c ≡ n → Readable c area ys rs → length rs ≤ limit.records
+      → length (sheetOf c rs) ≤ room → Answers n area room (done (gives c ys rs))
