@@ -105,7 +105,7 @@ static const uint8_t *print_record(unsigned carrier, const uint8_t *record)
 static int print_resolvers(unsigned carrier, const uint8_t *area, size_t area_len)
 {
     static uint8_t sheet[DNR_MAX_SHEET];
-    const dnr_reading reading = dnr_read((uint8_t)carrier, area, area_len, sheet, sizeof sheet);
+    const dnr_reading reading = dnr_read(carrier, area, area_len, sheet, sizeof sheet);
     if (reading.number != DNR_DONE) {
         printf("%s: refusal %zu\n", names[carrier], reading.number);
         return 1;

@@ -17,7 +17,7 @@
 #include <unistd.h>
 
 /* host/fuzz: the reference under the same signatures. */
-dnr_reading ref_read(uint8_t carrier, const uint8_t *area, size_t area_len, uint8_t *sheet, size_t sheet_len);
+dnr_reading ref_read(size_t carrier, const uint8_t *area, size_t area_len, uint8_t *sheet, size_t sheet_len);
 dnr_writing ref_write(const uint8_t *sheet, size_t sheet_len, uint8_t *octets, size_t octets_len);
 int LLVMFuzzerTestOneInput(const uint8_t *data, size_t size);
 
@@ -77,7 +77,7 @@ static void check_buffers(const uint8_t *input, size_t input_len, size_t room, s
 }
 
 /* Both readings, compared. The sheet stands at mine_end - room. */
-static dnr_reading reading(uint8_t carrier, const uint8_t *area, size_t area_len, size_t room)
+static dnr_reading reading(size_t carrier, const uint8_t *area, size_t area_len, size_t room)
 {
     const uint8_t *in = handed(area, area_len);
     const dnr_reading got = dnr_read(carrier, in, area_len, lent(mine_end, room), room);
@@ -123,7 +123,7 @@ static dnr_writing round_trip(const uint8_t *sheet, size_t sheet_len)
     return written;
 }
 
-static void try_reading(uint8_t carrier, const uint8_t *area, size_t area_len, size_t room)
+static void try_reading(size_t carrier, const uint8_t *area, size_t area_len, size_t room)
 {
     static uint8_t sheet[DNR_MAX_SHEET];
     const dnr_reading given = reading(carrier, area, area_len, room);

@@ -105,8 +105,9 @@ typedef struct {
 } dnr_reading;
 
 /* Reads an area and writes the record sheet of its resolvers. Options of other codes are skipped, multicast and loopback addresses
- * dropped, and a block with a fault is discarded whole while the reading goes on; an area without any gives a sheet of no records. */
-dnr_reading dnr_read(uint8_t carrier, const uint8_t *area, size_t area_len, uint8_t *sheet, size_t sheet_len);
+ * dropped, and a block with a fault is discarded whole while the reading goes on; an area without any gives a sheet of no records.
+ * The whole number of the carrier is looked at: 257 is refused with 1, it is not DHCPv4. */
+dnr_reading dnr_read(size_t carrier, const uint8_t *area, size_t area_len, uint8_t *sheet, size_t sheet_len);
 
 /* What dnr_write gives back.
  *   number     DNR_DONE, or a refusal, one of 2, 4, 5, 21 to 28 and 40 to 44, with length 0.

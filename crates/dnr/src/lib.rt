@@ -10,10 +10,10 @@ use writing::Writing;
 
 // Reads an area under a carrier number and writes its record sheet. (Field by field: see docs/DESIGN.md, Speed.)
 #[no_mangle]
-pub extern "C" fn dnr_read(carrier: u8, area: &[u8], sheet: &mut [u8]) -> Reading
+pub extern "C" fn dnr_read(carrier: usize, area: &[u8], sheet: &mut [u8]) -> Reading
     ensures { λ r. ⌜ Reads (readOf carrier (now (area .entry)) (length (now (sheet .entry)))) (now (sheet .entry)) r (now (sheet .exit)) ⌝ }
 {
-    let done = reading::read(octets::wide(carrier), area, sheet);
+    let done = reading::read(carrier, area, sheet);
     Reading {
         number: done.number,
         length: done.length,

@@ -15,7 +15,7 @@ fn pointers(from: &[u8], to: &mut [u8]) -> (*const u8, *mut u8) {
 }
 
 /// `dnr_read` of the proved library.
-pub fn read(carrier: u8, area: &[u8], sheet: &mut [u8]) -> Reading {
+pub fn read(carrier: usize, area: &[u8], sheet: &mut [u8]) -> Reading {
     let (from, to) = pointers(area, sheet);
     // SAFETY: both pointers are valid for their lengths and the slices do not overlap; the library keeps neither.
     let raw = unsafe { raw::dnr_read(carrier, from, area.len(), to, sheet.len()) };

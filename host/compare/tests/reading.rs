@@ -11,7 +11,7 @@ const MARK: u8 = 0xA5;
 fn compared(carrier: u8, area: &[u8], room: usize) -> Reading {
     let mut mine = vec![MARK; room + 2 * GUARD];
     let mut theirs = vec![MARK; room];
-    let got = read(carrier, area, &mut mine[GUARD..GUARD + room]);
+    let got = read(usize::from(carrier), area, &mut mine[GUARD..GUARD + room]);
     let wanted = dnr_reference::read(carrier, area, &mut theirs);
     assert_eq!(got, wanted, "carrier {carrier}, room {room}, area {area:02x?}");
     assert!(mine[GUARD..GUARD + room] == theirs[..], "carrier {carrier}, room {room}, area {area:02x?}");
@@ -108,6 +108,21 @@ fn carriers_that_are_none() {
     for carrier in (0..=255).filter(|c| !(1..=5).contains(c)) {
         assert_eq!(every_room(carrier, &[0; 9]).number, 1);
         assert_eq!(compared(carrier, &vec![0; 40_961], 100).number, 1);
+    }
+}
+
+/// A C caller may pass any number: none of these is cut to its lowest octet, which would be a carrier.
+#[test]
+fn numbers_that_are_no_octet() {
+    let refused = Reading { number: 1, length: 0, found: 0, discarded: 0, fault: 0 };
+    for low in 0..=5 {
+        for carrier in [256, 512, 65_280, 65_536, 1 << 31, usize::MAX - 255].map(|high| high + low) {
+            for area in [vec![], vec![0; 9], vec![0; 40_961]] {
+                let mut sheet = [MARK; 100];
+                assert_eq!(read(carrier, &area, &mut sheet), refused, "carrier {carrier}");
+                assert_eq!(sheet, [MARK; 100], "a refusal wrote, carrier {carrier}");
+            }
+        }
     }
 }
 

@@ -65,7 +65,7 @@ pub struct Reading {
 /// nothing. [`MAX_SHEET`] octets have room for every sheet.
 pub fn read(carrier: Carrier, area: &[u8], sheet: &mut [u8]) -> Result<Reading, Refusal> {
     // SAFETY: each pointer is valid for the length beside it, the slices do not overlap, and the library keeps neither.
-    let raw = unsafe { raw::dnr_read(carrier.number(), area.as_ptr(), area.len(), sheet.as_mut_ptr(), sheet.len()) };
+    let raw = unsafe { raw::dnr_read(usize::from(carrier.number()), area.as_ptr(), area.len(), sheet.as_mut_ptr(), sheet.len()) };
     if raw.number != 0 {
         return Err(Refusal::of(raw.number));
     }

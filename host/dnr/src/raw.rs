@@ -30,7 +30,7 @@ pub struct Writing {
 
 extern "C" {
     /// Reads an area under a carrier number and writes its record sheet.
-    pub fn dnr_read(carrier: u8, area: *const u8, area_len: usize, sheet: *mut u8, sheet_len: usize) -> Reading;
+    pub fn dnr_read(carrier: usize, area: *const u8, area_len: usize, sheet: *mut u8, sheet_len: usize) -> Reading;
     /// Writes the octets of a record sheet.
     pub fn dnr_write(sheet: *const u8, sheet_len: usize, octets: *mut u8, octets_len: usize) -> Writing;
 }

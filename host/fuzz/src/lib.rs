@@ -26,8 +26,10 @@ unsafe fn lent_mut<'a>(octets: *mut u8, length: usize) -> &'a mut [u8] {
 /// # Safety
 /// Each pointer is valid for the length beside it, or that length is 0, and the two parts do not overlap.
 #[no_mangle]
-pub unsafe extern "C" fn ref_read(carrier: u8, area: *const u8, area_len: usize, sheet: *mut u8, sheet_len: usize) -> raw::Reading {
-    let reading = dnr_reference::read(carrier, lent(area, area_len), lent_mut(sheet, sheet_len));
+pub unsafe extern "C" fn ref_read(carrier: usize, area: *const u8, area_len: usize, sheet: *mut u8, sheet_len: usize) -> raw::Reading {
+    // The reference takes an octet; a number that is none is no carrier, as 0 is.
+    let octet = u8::try_from(carrier).unwrap_or(0);
+    let reading = dnr_reference::read(octet, lent(area, area_len), lent_mut(sheet, sheet_len));
     raw::Reading {
         number: reading.number,
         length: reading.length,
