@@ -14,3 +14,4 @@ pub mod EmitLaws
 pub mod Cutting
 pub mod Examples
 pub mod Area
+pub mod AreaLaws

@@ -7,7 +7,7 @@ ghost use Rattle.sheets.specs.Sheets.{frontSize, frontOf};
 use carriers::Carrier;
 
 // The three letters at a sheet's head.
-pub const LETTERS: [u8; 3] = [0x52, 0x53, 0x56];
+pub const LETTERS: [u8; 3] = *b"RSV";
 
 // The version of the house edition.
 pub const EDITION: usize = 1;
