@@ -143,12 +143,69 @@ def reached(files, roots):
     return came
 
 
-if __name__ == "__main__":
-    files = all_files()
-    roots = [(f, n) for f, n in (a.split(":") for a in sys.argv[1:])]
-    came = reached(files, roots)
-    by = collections.defaultdict(list)
-    for (f, n), b in came.items():
-        by[f].append(n + ("(law)" if n in files[f].laws else ""))
-    for f in sorted(by):
-        print(f, ":", " ".join(by[f]))
+# ---- the page
+
+THEOREM = re.compile(r"^\| `([^`]+)` \|.*\| `([a-z]+/[A-Za-z]+)` \|[^|]*\|$", re.M)
+FILE = re.compile(r"`([a-z]+/[A-Z][A-Za-z0-9]*)`")
+ROOTS = re.compile(r"`([a-z]+/[A-Z][A-Za-z0-9]*)`: ((?:`[^`]+`(?:, )?)+)")
+
+
+def part(page, heading):
+    """What stands below a heading, up to the next of its level or above."""
+    level = len(heading) - len(heading.lstrip("#"))
+    below = page.split(f"\n{heading}\n", 1)[1]
+    return re.split(rf"^#{{1,{level}}} ", below, maxsplit=1, flags=re.M)[0]
+
+
+def called(page):
+    """Each call of the table of calls as (file, function)."""
+    rows = re.findall(r"^\| ((?:`[^`]+`(?:, )?)+) \|", part(page, "## The calls"), re.M)
+    for name in re.findall(r"`([^`]+)`", " ".join(rows)):
+        crate, _, function = name.rpartition("::")
+        yield f"{crate or 'dnr'}/src", function
+
+
+def specs(came):
+    """The files of definitions among those that were reached."""
+    return {file for file, _ in came if not file.endswith("/src")}
+
+
+def compare(heading, named, found):
+    for file in sorted(found - named):
+        yield f"{file}: statements rest on it, but it is not named under '{heading}'"
+    for file in sorted(named - found):
+        yield f"{file}: named under '{heading}', but nothing rests on it"
+
+
+def why(came, file):
+    for key in (k for k in came if k[0] == file):
+        way = [key]
+        while came[way[-1]]:
+            way.append(came[way[-1]])
+        print(" <- ".join(f"{f}:{n}" for f, n in way))
+
+
+def main():
+    files, page = all_files(), PAGE.read_text()
+    believe, equal = "### To believe", "### Proved equal"
+    head, _, listed = part(page, believe).partition("\n\nThe files")
+    roots = [(file, name) for file, names in ROOTS.findall(head) for name in re.findall(r"`([^`]+)`", names)]
+    statements = [(file, name) for name, file in THEOREM.findall(page)]
+    first = reached(files, roots)
+    every = reached(files, roots + statements + list(called(page)))
+    if sys.argv[1:2] == ["--why"]:
+        why(first if any(f == sys.argv[2] for f, _ in first) else every, sys.argv[2])
+        return 0
+    missing = [f"{f}: {n} is not declared there" for f, n in roots + list(called(page)) if f not in files or n not in files[f].declared]
+    used_in = {key for key in every if not key[0].endswith("/src") and key not in statements}
+    proofs = sorted({f for f, _ in used_in if files[f].laws})
+    wrong = missing + [f"{f}: statements rest on a definition in it, and it holds proofs" for f in proofs]
+    wrong += compare(believe, set(FILE.findall(listed)), specs(first))
+    rest = {f for f, _ in used_in} - specs(first)
+    wrong += compare(equal, set(FILE.findall(part(page, equal))), rest)
+    print("\n".join(wrong), end="\n" if wrong else "")
+    print(f"{len(specs(first))} files to believe, {len(rest)} proved equal to them or between, {len(statements)} theorems, {len(wrong)} faults in the page")
+    return 1 if wrong or not roots or not statements else 0
+
+
+sys.exit(main())

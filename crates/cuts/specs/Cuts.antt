@@ -15,24 +15,24 @@ use Rattle.reading.specs.declared.Reading.{Reading}
 use Rattle.reading.specs.Reading.{faultless, Answer, refuse, done, readOf, Reads}
 use Rattle.written.specs.Writing.{octetsOf}
 
--- the octets of the records rs are cut after n of them, and the part before the cut is read under the carrier's number
-abbrev pub readCut : Carrier → List Fields → ℕ → ℕ → Answer
-readCut c rs n room = readOf (numberOf c) (take n (octetsOf c rs)) room
+-- the octets defined for a sheet are cut after n of them, and the part before the cut is read under the sheet's carrier number
+abbrev pub readCut : Carrier → List ℕ → ℕ → ℕ → Answer
+readCut c octets n room = readOf (numberOf c) (take n octets) room
 
--- n octets are the options of the first k records; a cut after no octet is one of these
+-- n octets are the options of the first k of the records rs; a cut after no octet is one of these
 pub record EndOf (c : Carrier) (rs : List Fields) (k n : ℕ) : Type 0 where
   pub within : k ≤ length rs
   pub whole : n ≡ length (octetsOf c (take k rs))
 
 -- the reading is done with the first k records, or their sheet has no room
-pub record FirstRead (c : Carrier) (rs : List Fields) (k n room : ℕ) : Type 0 where
-  pub enough : length (sheetOf c (take k rs)) ≤ room → readCut c rs n room ≡ done (faultless (sheetOf c (take k rs)) k)
-  pub little : room < length (sheetOf c (take k rs)) → readCut c rs n room ≡ refuse refusal.room
+pub record FirstRead (c : Carrier) (rs : List Fields) (octets : List ℕ) (k n room : ℕ) : Type 0 where
+  pub enough : length (sheetOf c (take k rs)) ≤ room → readCut c octets n room ≡ done (faultless (sheetOf c (take k rs)) k)
+  pub little : room < length (sheetOf c (take k rs)) → readCut c octets n room ≡ refuse refusal.room
 
--- a cut is after k whole options, or it is elsewhere, and the room does not matter
-pub data Cut (c : Carrier) (rs : List Fields) (n room : ℕ) : Type 0 where
-  after-options : (k : ℕ) → EndOf c rs k n → FirstRead c rs k n room → Cut c rs n room
-  elsewhere : ((k : ℕ) → EndOf c rs k n → ⊥) → readCut c rs n room ≡ refuse refusal.framing → Cut c rs n room
+-- the octets of the records rs are cut after k whole options, or elsewhere, and there the room does not matter
+pub data Cut (c : Carrier) (rs : List Fields) (octets : List ℕ) (n room : ℕ) : Type 0 where
+  after-options : (k : ℕ) → EndOf c rs k n → FirstRead c rs octets k n room → Cut c rs octets n room
+  elsewhere : ((k : ℕ) → EndOf c rs k n → ⊥) → readCut c octets n room ≡ refuse refusal.framing → Cut c rs octets n room
 
 -- the same of a call that read the part before a cut of n octets, and got the buffer `sheet`: every number that it returned, and the whole
 -- buffer after it

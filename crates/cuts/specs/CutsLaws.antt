@@ -53,7 +53,7 @@ module _ (c : Carrier) (plain : Plain c) (s : List ℕ) (rs : List Fields) (acce
       ∙ cut-at-end c (bodiesOf c (take k rs)) (bodiesOf c (drop k rs)) (bodies-emit c plain (take k rs) (all-take (Sound c) k rs (accepted .sound)))
 
   -- the first records come back
-  first-read : (k room : ℕ) → k ≤ length rs → FirstRead c rs k (length (octetsOf c (take k rs))) room
+  first-read : (k room : ℕ) → k ≤ length rs → FirstRead c rs (octetsOf c rs) k (length (octetsOf c (take k rs))) room
   first-read k room h =
       let sound = all-take (Sound c) k rs (accepted .sound) in
       let rising = rising-take 0 k rs (accepted .is .order) in
@@ -110,11 +110,11 @@ read-cut-elsewhere c p s rs a n h none room = elsewhere-read c p s rs a n room h
 
 -- both as one: a cut after any number of octets, none and all included
 pub read-cut : (c : Carrier) → Plain c → (s : List ℕ) (rs : List Fields) → Accepted s c rs → (n : ℕ) → n ≤ length (octetsOf c rs)
-    → (room : ℕ) → Cut c rs n room
+    → (room : ℕ) → Cut c rs (octetsOf c rs) n room
 read-cut c p s rs a n h room = go (search (λ k. length (octetsOf c (take k rs))) n (suc (length rs)))
   where
     go : ((k : ℕ) × (k < suc (length rs)) × (n ≡ length (octetsOf c (take k rs))))
-        ⊎ ((k : ℕ) → k < suc (length rs) → n ≡ length (octetsOf c (take k rs)) → ⊥) → Cut c rs n room
+        ⊎ ((k : ℕ) → k < suc (length rs) → n ≡ length (octetsOf c (take k rs)) → ⊥) → Cut c rs (octetsOf c rs) n room
     go (inl (k, i, e)) =
         let within : k ≤ length rs = omega arith in
         after-options k (record { within = within; whole = e }) (rw e (first-read c p s rs a k room within))

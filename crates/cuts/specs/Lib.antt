@@ -1,3 +1,4 @@
 pub mod Cuts
 pub mod ListLaws
 pub mod CutsLaws
+pub mod CallsLaws

@@ -39,7 +39,7 @@ pub record Begins (joined body rest : List ℕ) : Type 0 where
   pub small : length body < 65536
   pub are : joined ≡ putCounted 2 body rest
 
--- the instances of joined data, one after another; the first with a fault gives the block's
+-- the instances of joined data, one after another; the first with a fault gives the block's, and where an instance runs past the data it is 20
 pub data Instances : List ℕ → Yield → Type 0 where
   none : Instances [] (yields [])
   past : {joined : List ℕ} → (joined ≡ [] → ⊥) → ((body rest : List ℕ) → Begins joined body rest → ⊥) → Instances joined (discarded fault.field)
@@ -49,7 +49,7 @@ pub data Instances : List ℕ → Yield → Type 0 where
   one-more : {joined body rest : List ℕ} {r : Fields} {rs : List Fields} → Begins joined body rest → BodyIs Dhcp4 body (kept r) → Instances rest (yields rs)
       → Instances joined (yields (r ∷ rs))
 
--- in carriers 2 to 5 a block is one body, in carrier 1 one instance or more
+-- in carriers 2 to 5 a block is one body; in carrier 1 it is one instance or more, and 20 where there is none
 pub data BlockIs (c : Carrier) (block : List ℕ) : Yield → Type 0 where
   one-body : {o : Outcome} → isJoined c ≡ false → BodyIs c block o → BlockIs c block (single o)
   no-instance : isJoined c ≡ true → block ≡ [] → BlockIs c block (discarded fault.field)

@@ -1,5 +1,7 @@
-pub mod Allowed
-pub mod AllowedLaws
+pub mod Answers
+pub mod Yielding
+pub mod PartsLaws
+pub mod BlockLaws
+pub mod AnswersLaws
 pub mod Exactly
 pub mod Sizes
-pub mod Answers

@@ -33,7 +33,7 @@ abbrev pub NameAllowed : Side → Carrier → List ℕ → Type 0
 NameAllowed Reading c name = NameBy (asText c) name
 NameAllowed Writing c name = IsName name
 
--- addresses of w octets: one at least, and whole (RFC 9463 §3.1.5, RFC 9464 §3.1)
+-- addresses of w octets: one at least, and whole (RFC 9463 §3.1.8, §4.1, §5.1, §6.1; RFC 9464 §3.1)
 abbrev pub Whole : ℕ → List ℕ → Type 0
 Whole w addresses = (0 < length addresses) × (length addresses % w ≡ 0)
 
@@ -72,16 +72,21 @@ Rule n P later k = ((P → ⊥) × (k ≡ n)) ⊎ (P × later k)
 abbrev pub Unbroken : ℕ → Type 0
 Unbroken k = k ≡ 0
 
--- of a record in full form, with addresses of w octets; a field is parameters in one way only (`field-once`)
+-- of a field of parameters; it is parameters in one way only (`field-once`)
+abbrev pub ParametersBroken : List ℕ → ℕ → Type 0
+ParametersBroken parameters =
+    Rule fault.parameters ((kvs : List Param) × Ordered parameters kvs)
+    (Rule fault.hint ((kvs : List Param) → Ordered parameters kvs → Hinted kvs → ⊥)
+    (Rule fault.value ((kvs : List Param) → Ordered parameters kvs → All (value.Allowed (keys kvs)) kvs)
+    Unbroken))
+
+-- of a record in full form, with addresses of w octets
 abbrev pub TailBroken : Side → ℕ → List ℕ → List ℕ → ℕ → Type 0
 TailBroken side w addresses parameters =
     Rule fault.addresses (Whole w addresses)
     (Rule fault.limit (Few w addresses parameters)
     (Rule fault.dropped (Usable side w addresses)
-    (Rule fault.parameters ((kvs : List Param) × Ordered parameters kvs)
-    (Rule fault.hint ((kvs : List Param) → Ordered parameters kvs → Hinted kvs → ⊥)
-    (Rule fault.value ((kvs : List Param) → Ordered parameters kvs → All (value.Allowed (keys kvs)) kvs)
-    Unbroken)))))
+    (ParametersBroken parameters)))
 
 -- name only skips 24 to 28, and in carriers 1 to 3 also 23
 abbrev pub FormBroken : Bool → Side → Carrier → Fields → ℕ → Type 0

@@ -4,3 +4,4 @@ pub mod JudgeLaws
 pub mod Outcomes
 pub mod Numbered
 pub mod Allowed
+pub mod AllowedLaws

@@ -1,4 +1,5 @@
--- What a record's fields without a fault are: none of 21 to 28 (01, Numbers given back) is so. Assumes nothing: these are definitions.
+-- A step of the proofs between the judge and `Allowed`: fields of which none of the judge's tests for 21 to 28 holds, in the words of these
+-- tests; what a reader must believe is `Allowed` (`allowed-exactly`). Assumes nothing: these are definitions.
 use mathlib.Core.Path.{_≡_}
 use mathlib.Core.Bool.{true, false}
 use mathlib.Core.List.{List}

@@ -33,6 +33,13 @@ pub over-front : (bs l : List ℕ) → take (length bs) (over 0 bs l) ≡ bs
 unfolding over
 over-front bs l = take-at bs (drop (0 + length bs) l) (length bs) refl
 
+-- nothing past them is changed
+pub over-past : (bs l : List ℕ) → drop (length bs) (over 0 bs l) ≡ drop (length bs) l
+unfolding over
+over-past bs l =
+    let e : 0 + length bs ≡ length bs = omega arith in
+    drop-at bs (drop (0 + length bs) l) (length bs) refl ∙ ap (λ (n : ℕ). drop n l) e
+
 -- what is laid just after a is laid with a
 pub over-over : (at : ℕ) (a b l : List ℕ) → at + length a + length b ≤ length l → over (at + length a) b (over at a l) ≡ over at (a ++ b) l
 unfolding over

@@ -55,7 +55,8 @@ counted-apart w a b x y ha hb q =
     part-apart a b x y (both .0) (both .1)
 
 -- a header says how many octets follow
-saying : (c : Carrier) (b : List ℕ) → Fits c b → (lengthIn c (length b) < 256 ^ headWidth c) × (wholeSize (inEights c) (headerOf c) (lengthIn c (length b)) ≡ headerOf c + length b)
+saying : (c : Carrier) (b : List ℕ) → Fits c b → let size : ℕ = lengthIn c (length b) in
+    (size < 256 ^ headWidth c) × (wholeSize (inEights c) (headerOf c) size ≡ headerOf c + length b)
 saying c b f = said (inEights c) (headerOf c) (headWidth c) (length b) f
 
 said-length : (c : Carrier) (a b : List ℕ) → Fits c a → Fits c b → lengthIn c (length a) ≡ lengthIn c (length b) → length a ≡ length b

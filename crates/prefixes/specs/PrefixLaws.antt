@@ -24,7 +24,6 @@ use Rattle.frames.specs.Walk.{Plain}
 use Rattle.frames.specs.WalkLaws.{apart-false, false-apart}
 use Rattle.frames.specs.HeadLaws.{header-pos}
 use Rattle.frames.specs.EmitLaws.{option-length}
-use Rattle.judge.specs.JudgeLaws.{written-name}
 use Rattle.layouts.specs.Layouts.{carriedOf, ownOption, instanceOf}
 use Rattle.layouts.specs.LayoutsLaws.{writable-fits, writable-body, writable-emits}
 use Rattle.vetting.specs.Vetting.{streamOf}
@@ -50,7 +49,7 @@ carried-injective c r q m n e =
 -- and an accepted record by its body
 body-injective : (c : Carrier) (r q : Fields) → Sound c r → Sound c q → layout c (carriedOf c r) ≡ layout c (carriedOf c q) → r ≡ q
 body-injective c r q h k e =
-    carried-injective c r q (written-name c (r .name) (h .passed .named)) (written-name c (q .name) (k .passed .named))
+    carried-injective c r q (h .allowed .named) (k .allowed .named)
     (layout-injective c (carriedOf c r) (carriedOf c q) (writable-fits c r (writable c r h)) (writable-fits c q (writable c q k)) e)
 
 -- ---- the octets of a record say where they end

@@ -7,3 +7,4 @@ pub mod ListLaws
 pub mod SlotLaws
 pub mod TallyLaws
 pub mod AnswerLaws
+pub mod LeavesLaws

@@ -6,23 +6,19 @@ use mathlib.Core.List.{List, [], _∷_, map}
 use Prim.Native.Nat.{ℕ, _*_, _/_, _≤_, _<_}
 use native.Mathlib.Nat.{zero-mul, div-add-mod'}
 use native.Mathlib.Omega.{arith}
-use borrow.Author.Tests.{ne-eqb, lt-ltb, le-ltb}
+use borrow.Author.Tests.{lt-ltb, le-ltb}
 use lib.ListN.{length, length-map}
 use Rattle.octets.specs.Lists.{All}
 use Rattle.numbers.specs.Refusal as refusal
 use Rattle.numbers.specs.Limit as limit
 use Rattle.carriers.specs.declared.Carrier.{Carrier}
 use Rattle.carriers.specs.Carriers.{addressWidth, asText, isJoined}
-use Rattle.names.specs.declared.Name.the-variants.{Good}
 use Rattle.names.specs.Names.{IsName}
-use Rattle.names.specs.Wire.{nameCheck}
-use Rattle.names.specs.Exact as names
 use Rattle.texts.specs.Texts.{textOf, wireOf}
-use Rattle.texts.specs.TextCheck.{textCheck}
-use Rattle.texts.specs.Complete.{good-complete}
 use Rattle.texts.specs.Convert.{wire-text, text-of-wire}
-use Rattle.addresses.specs.Addresses.{listOf, keptOf}
-use Rattle.addresses.specs.AddressesLaws.{wide-some, list-length, none-dropped, none-dropped-flat, kept-end}
+use Rattle.addresses.specs.Addresses.{listOf}
+use Rattle.addresses.specs.AddressesLaws.{wide-some, list-length, none-dropped-flat, kept-end}
+use Rattle.addresses.specs.Ranges.{Unusable}
 use Rattle.frames.specs.Frame.{framed}
 use Rattle.frames.specs.Walk.{Plain}
 use Rattle.frames.specs.WalkLaws.{apart-false}
@@ -32,8 +28,9 @@ use Rattle.blocks.specs.Exactly.{parse-layout}
 use Rattle.order.specs.Order.{Leads, Sorted}
 use Rattle.order.specs.OrderLaws.{sort-of-sorted}
 use Rattle.judge.specs.declared.Side.the-variants.{Reading, Writing}
-use Rattle.judge.specs.Passed.{PassedTail, Passed}
-use Rattle.judge.specs.JudgeLaws.{carrier-width, passed-fault, written-name}
+use Rattle.judge.specs.Allowed.{NameBy, Whole, TailAllowed, Allowed}
+use Rattle.judge.specs.JudgeLaws.{carrier-width}
+use Rattle.judge.specs.AllowedLaws.{usable-exactly, allowed-faultless}
 use Rattle.records.specs.Records.{kept, outcomeOf, staying, keepOf}
 use Rattle.records.specs.RecordsLaws.{kept-outcome}
 use Rattle.sheets.specs.Sheets.{sheetOf}
@@ -47,10 +44,9 @@ use Rattle.roundtrip.specs.Returns.{bodyOf, bodiesOf, Brings, answerKept
 
 -- ---- a name, as the carrier has it
 
-name-read : (text : Bool) (name : List ℕ) → IsName name → let carried : List ℕ = cond text (textOf name) name in
-    cond text (textCheck carried) (nameCheck carried) ≡ Good
-name-read true name n = good-complete (textOf name) (text-of-wire name n)
-name-read false name n = names.good name .1 n
+name-read : (text : Bool) (name : List ℕ) → IsName name → NameBy text (cond text (textOf name) name)
+name-read true name n = text-of-wire name n
+name-read false name n = n
 
 name-back : (text : Bool) (name : List ℕ) → IsName name → let carried : List ℕ = cond text (textOf name) name in
     cond text (wireOf carried) carried ≡ name
@@ -59,37 +55,39 @@ name-back false name n = refl
 
 -- ---- addresses of w octets, none of them to be dropped
 
--- one is left at least, for there are some
-tail-read : (w : ℕ) (a p : List ℕ) → PassedTail Writing w a p → PassedTail Reading w a p
-tail-read w a p t =
-    let stay : keptOf w (listOf w a) ≡ listOf w a = none-dropped w (listOf w a) (t .usable) in
-    let count : length (keptOf w (listOf w a)) ≡ length a / w = ap length stay ∙ list-length w a in
+-- they are not all to be dropped, for there are some
+some-usable : (w : ℕ) (l : List (List ℕ)) → 0 < length l → All (λ a. Unusable w a → ⊥) l → All (Unusable w) l → ⊥
+some-usable w [] h none all = omega arith
+some-usable w (a ∷ l) h none all = none .0 (all .0)
+
+some-listed : (w : ℕ) (a : List ℕ) → Whole w a → 0 < length (listOf w a)
+some-listed w a h =
     let none : length a / w ≡ 0 → length a ≡ 0 = λ z. (
     let product : length a / w * w ≡ 0 = ap (λ (n : ℕ). n * w) z ∙ zero-mul w in
-    omega (arith, div-add-mod' (length a) w, t .whole)) in
+    omega (arith, div-add-mod' (length a) w, h .1)) in
+    let many : length a / w ≡ 0 → ⊥ = λ z. omega (arith, none z, h .0) in
+    omega (arith, list-length w a)
+
+tail-read : (w : ℕ) (a p : List ℕ) → TailAllowed Writing w a p → TailAllowed Reading w a p
+tail-read w a p t =
     record {
-      some = t .some;
       whole = t .whole;
       few = t .few;
-      short = t .short;
-      usable = ne-eqb (length (keptOf w (listOf w a))) 0 (λ z. omega (arith, none (sym count ∙ z), t .some));
-      sound = t .sound;
+      usable = some-usable w (listOf w a) (some-listed w a (t .whole)) (t .usable);
+      parameters-allowed = t .parameters-allowed;
     }
 
 -- ---- a record
 
 module _ (c : Carrier) (r : Fields) (s : Sound c r) where
-  named : IsName (r .name)
-  named = written-name c (r .name) (s .passed .named)
-
-  -- what passes when written passes when read
-  read-passed : Passed Reading c (carriedOf c r)
-  read-passed =
+  -- what is allowed when written is allowed when read
+  read-allowed : Allowed Reading c (carriedOf c r)
+  read-allowed =
       record {
-        service = s .passed .service;
-        named = name-read (asText c) (r .name) named;
-        tail = λ u. tail-read (addressWidth c) (r .addresses) (r .parameters) (s .passed .tail u);
-        name-only = s .passed .name-only;
+        service = s .allowed .service;
+        named = name-read (asText c) (r .name) (s .allowed .named);
+        full-form = λ u. tail-read (addressWidth c) (r .addresses) (r .parameters) (s .allowed .full-form u);
+        name-only = s .allowed .name-only;
       }
 
   -- no address is dropped
@@ -97,7 +95,10 @@ module _ (c : Carrier) (r : Fields) (s : Sound c r) where
   addresses-stay = go (r .full) refl
     where
       go : (full : Bool) → r .full ≡ full → staying (addressWidth c) (r .addresses) ≡ r .addresses
-      go true u = let t = s .passed .tail u in none-dropped-flat (addressWidth c) (r .addresses) (t .whole) (t .usable)
+      go true u =
+          let t = s .allowed .full-form u in
+          let w : ℕ = addressWidth c in
+          none-dropped-flat w (r .addresses) (t .whole .1) (usable-exactly w (carrier-width c) (r .addresses) Writing .1 (t .usable))
       go false u = rw (writable c r s .name-only u .0) (rw (kept-end (addressWidth c) [] 0 (wide-some (carrier-width c))))
 
   keep-carried : keepOf c (carriedOf c r) ≡ r
@@ -109,7 +110,7 @@ module _ (c : Carrier) (r : Fields) (s : Sound c r) where
         name = name;
         addresses = addresses;
         parameters = r .parameters;
-      }) (name-back (asText c) (r .name) named) addresses-stay
+      }) (name-back (asText c) (r .name) (s .allowed .named)) addresses-stay
 
 -- an accepted record comes back from its body
 pub record-returns : (c : Carrier) (r : Fields) → Sound c r → outcomeOf c (bodyOf c r) ≡ kept r
@@ -117,7 +118,7 @@ record-returns c r s =
     let f : Fields = carriedOf c r in
     kept-outcome c (bodyOf c r) r f
     (parse-layout c f (writable-fits c r (writable c r s)))
-    (passed-fault Reading c f (read-passed c r s))
+    (allowed-faultless Reading c f (read-allowed c r s))
     (sym (keep-carried c r s))
 
 -- ---- what blocks that are all kept give

@@ -1,12 +1,11 @@
 -- Demand 2, last sentence: the octets defined for an accepted sheet, read with room for it, give the sheet back; with less room, refusal 5.
 -- Assumes nothing.
 use mathlib.Core.Path.{_≡_, sym, ap, ap₂, subst, _∙_}
-use mathlib.Core.Bool.{Bool, true, false, cond}
+use mathlib.Core.Bool.{Bool, cond}
 use mathlib.Core.Logic.{inl}
 use mathlib.Core.List.{List}
 use Prim.Native.Nat.{ℕ, _+_, _≤_, _<_}
 use native.Mathlib.Omega.{arith}
-use lib.Dec.{ltb}
 use lib.ListN.{length, getD, take}
 use Rattle.octets.specs.Numbers.{Bytes}
 use Rattle.octets.specs.Lists.{All}
@@ -29,7 +28,8 @@ use Rattle.taking.specs.Sheet.{NoneFalls}
 use Rattle.written.specs.Writing.{octetsOf, writeOf, numberIn}
 use Rattle.written.specs.Writing as writing
 use Rattle.written.specs.Accepted.{Sound, Accepted}
-use Rattle.written.specs.AcceptedLaws.{accepted-writes, accepted-exactly}
+use Rattle.written.specs.AcceptedLaws.{accepted-exactly}
+use Rattle.written.specs.DefinedLaws.{zero-defined, written-defined, defined-sheet}
 use Rattle.writing.specs.declared.Writing.{Writing}
 use Rattle.writing.specs.Writes.{Writes}
 use Rattle.writing.specs.WritesLaws.{told-number}
@@ -93,20 +93,28 @@ write-unique s t c rs qs a b e =
 front-of : (bs out : List ℕ) {out′ : List ℕ} {size : ℕ} → size ≡ length bs → out′ ≡ over 0 bs out → take size out′ ≡ bs
 front-of bs out n l = ap₂ (λ (n : ℕ) (l : List ℕ). take n l) n l ∙ over-front bs out
 
+-- a call of `write` that returned 0 left what writing answers: the front of the buffer, of the length returned
+module _ (s out out₁ : List ℕ) (w : Writing) (octets : Bytes s) (v : Writes (writeOf s (length out)) out w out₁) (o : w .number ≡ 0) where
+  wrote-front : (writeOf s (length out) ≡ writing.written (take (w .length) out₁)) × (length (take (w .length) out₁) ≡ w .length)
+  wrote-front =
+      let z : numberIn (writeOf s (length out)) ≡ 0 =
+      sym (told-number (writeOf s (length out))) ∙ ap (λ (w : Writing). w .number) (sym (v .numbers)) ∙ o in
+      let d = zero-defined s octets (length out) z in
+      let gave : Writes (writing.written (d .0)) out w out₁ = subst (λ (x : writing.Answer). Writes x out w out₁) (d .2) v in
+      let size : w .length ≡ length (d .0) = ap (λ (w : Writing). w .length) (gave .numbers) in
+      let front : take (w .length) out₁ ≡ d .0 = front-of (d .0) out size (gave .leaves) in
+      (d .2 ∙ ap writing.written (sym front), ap length front ∙ sym size)
+
+  pub call-wrote : writeOf s (length out) ≡ writing.written (take (w .length) out₁)
+  call-wrote = wrote-front .0
+
+  pub call-fits : length (take (w .length) out₁) ≡ w .length
+  call-fits = wrote-front .1
+
 -- a sheet says its carrier's number
-sheet-number : (s : List ℕ) (c : Carrier) (rs : List Fields) → s ≡ sheetOf c rs → getD s carrierAt 0 ≡ numberOf c
+pub sheet-number : (s : List ℕ) (c : Carrier) (rs : List Fields) → s ≡ sheetOf c rs → getD s carrierAt 0 ≡ numberOf c
 unfolding sheetOf frontOf
 sheet-number s c rs e = ap (λ (l : List ℕ). getD l carrierAt 0) e ∙ number-octet c
-
--- writing that answers 0 answers with the octets defined
-written-octets : (s : List ℕ) (c : Carrier) (rs : List Fields) (room : ℕ) → Accepted s c rs → numberIn (writeOf s room) ≡ 0
-    → writeOf s room ≡ writing.written (octetsOf c rs)
-written-octets s c rs room a z = go (ltb room (length (octetsOf c rs))) (accepted-writes s c rs room a)
-  where
-    go : (b : Bool) → writeOf s room ≡ cond b (writing.refuse refusal.room) (writing.written (octetsOf c rs))
-        → writeOf s room ≡ writing.written (octetsOf c rs)
-    go true e = let n : refusal.room ≡ 0 = sym (ap numberIn e) ∙ z in absurd (omega arith)
-    go false e = e
 
 -- what `write` leaves in the buffer, `read` turns back
 pub calls-return : (s out out₁ sheet sheet₁ : List ℕ) (w : Writing) (r : Reading) → Bytes s
@@ -115,16 +123,12 @@ pub calls-return : (s out out₁ sheet sheet₁ : List ℕ) (w : Writing) (r : R
     → length s ≤ length sheet
     → Restored s r sheet₁
 calls-return s out out₁ sheet sheet₁ w r octets v o g room =
-    let z : numberIn (writeOf s (length out)) ≡ 0 =
-    sym (told-number (writeOf s (length out))) ∙ ap (λ (w : Writing). w .number) (sym (v .numbers)) ∙ o in
-    let k = accepted-exactly s octets (length out) .0 (inl z) in
+    let wrote = call-wrote s out out₁ w octets v o in
+    let k = accepted-exactly s octets (length out) .0 (inl (ap numberIn wrote)) in
     let c : Carrier = k .0 in
     let rs : List Fields = k .1 in
     let a : Accepted s c rs = k .2 in
-    let gave : Writes (writing.written (octetsOf c rs)) out w out₁ =
-    subst (λ (x : writing.Answer). Writes x out w out₁) (written-octets s c rs (length out) a z) v in
-    let front : take (w .length) out₁ ≡ octetsOf c rs =
-    front-of (octetsOf c rs) out (ap (λ (w : Writing). w .length) (gave .numbers)) (gave .leaves) in
+    let front : take (w .length) out₁ ≡ octetsOf c rs = defined-sheet s octets (a .is) (written-defined s octets (length out) wrote) .1 in
     let answer : readOf (getD s carrierAt 0) (take (w .length) out₁) (length sheet) ≡ done (returned c rs s) =
     ap₂ (λ (n : ℕ) (l : List ℕ). readOf n l (length sheet)) (sheet-number s c rs (a .is .is)) front ∙ read-write s c rs (length sheet) a room in
     let back : Reads (done (returned c rs s)) sheet r sheet₁ = subst (λ (x : Answer). Reads x sheet r sheet₁) answer g in

@@ -1,24 +1,29 @@
--- Vetting accepts exactly the sheets whose records have no fault, and refuses by 2, 40, 41, 42, 4, 43 or 21 to 28; each way out of the code agrees
+-- Vetting accepts exactly the sheets whose records are allowed, and refuses by 2, 40, 41, 42, 4, 43 or 21 to 28; each way out of the code agrees
 -- with `vetOf`, and what its answer says. Assumes nothing.
 use mathlib.Core.Path.{_≡_, refl, sym, ap, _∙_}
 use mathlib.Core.Logic.{_⊎_, inl, inr, _↔_}
 use mathlib.Core.Bool.{Bool, true, false, cond}
-use mathlib.Core.List.{List, [], _∷_}
-use Prim.Native.Nat.{ℕ, _*_, _≤_}
+use mathlib.Core.List.{List, [], _∷_, _++_}
+use Prim.Native.Nat.{ℕ, _*_, _/_, _≤_}
 use native.Mathlib.Omega.{arith}
 use borrow.Author.Tests.{eqb-true, eqb-false, ne-eqb}
 use lib.Dec.{eqb}
 use lib.ListN.{length}
-use Rattle.octets.specs.Numbers.{Bytes}
+use Rattle.octets.specs.Numbers.{be, Octet, Bytes}
 use Rattle.octets.specs.Lists.{All}
+use Rattle.octets.specs.ListsLaws.{all-left, all-right}
 use Rattle.numbers.specs.Limit as limit
 use Rattle.carriers.specs.declared.Carrier.{Carrier}
+use Rattle.carriers.specs.Carriers.{addressWidth}
 use Rattle.blocks.specs.Block.{Fields}
 use Rattle.judge.specs.declared.Side.the-variants.{Writing}
 use Rattle.judge.specs.Judge.{faultOf}
-use Rattle.judge.specs.Passed.{Passed}
-use Rattle.judge.specs.JudgeLaws.{fault-passed, passed-fault}
+use Rattle.judge.specs.Allowed.{Allowed}
+use Rattle.judge.specs.AllowedLaws as judge
 use Rattle.judge.specs.Numbered.{FaultNumber, fault-number}
+use Rattle.records.specs.Records.{modeOf, tailOf, recordOf}
+use Rattle.sheets.specs.Sheets.{frontOf, sheetOf}
+use Rattle.sheets.specs.Sheets as sheets
 use Rattle.taking.specs.declared.Took.the-variants as took
 use Rattle.taking.specs.Taking.{Taken, takeOf}
 use Rattle.taking.specs.Taking as taking
@@ -34,23 +39,57 @@ use Rattle.vetting.specs.Vetting.{Vetted, refuse, sheet, firstFault, vet
 use Rattle.vetting.specs.Weighing.{recordsIn, recordsOf, TakenAs, most, Weighs}
 use Rattle.vetting.specs.WeighingLaws.{stream-small}
 
+-- ---- a sheet of octets has parameters of octets
+
+parameters-octets : (c : Carrier) (r : Fields) → Bytes (recordOf c r) → r .full ≡ true → Bytes (r .parameters)
+unfolding recordOf
+parameters-octets c r h u =
+    let a : List ℕ = r .addresses in
+    let q : List ℕ = r .parameters in
+    let tail : List ℕ = tailOf (addressWidth c) (r .full) a q in
+    let counted : List ℕ = be 1 (length (r .name)) ++ (r .name ++ tail) in
+    let mode : List ℕ = be 1 (modeOf (r .full)) ++ counted in
+    let after : Bytes tail =
+    all-right Octet (r .name) tail
+    (all-right Octet (be 1 (length (r .name))) (r .name ++ tail)
+    (all-right Octet (be 1 (modeOf (r .full))) counted
+    (all-right Octet (be 4 (r .lifetime)) mode
+    (all-right Octet (be 2 (r .priority)) (be 4 (r .lifetime) ++ mode) h)))) in
+    all-right Octet (be 2 (length q)) q
+    (all-right Octet a (be 2 (length q) ++ q)
+    (all-right Octet (be 1 (length a / addressWidth c)) (a ++ (be 2 (length q) ++ q)) (rw u at after)))
+
+-- where a record has parameters, they are octets
+abbrev OfOctets : Fields → Type 0
+OfOctets r = r .full ≡ true → Bytes (r .parameters)
+
+records-octets : (c : Carrier) (rs : List Fields) → Bytes (sheets.recordsOf c rs) → All OfOctets rs
+records-octets c [] h = tt
+records-octets c (r ∷ rs) h =
+    let more : List ℕ = sheets.recordsOf c rs in
+    (parameters-octets c r (all-left Octet (recordOf c r) more h), records-octets c rs (all-right Octet (recordOf c r) more h))
+
+sheet-octets : (s : List ℕ) (c : Carrier) (rs : List Fields) → Bytes s → IsSheet s c rs → All OfOctets rs
+unfolding sheetOf
+sheet-octets s c rs h i = records-octets c rs (all-right Octet (frontOf c (length rs)) (sheets.recordsOf c rs) (rw (i .is) at h))
+
 -- ---- records without a fault
 
 module _ (c : Carrier) where
-  pub faultless-passed : (rs : List Fields) → firstFault c rs ≡ 0 → All (Passed Writing c) rs
+  faultless-allowed : (rs : List Fields) → All OfOctets rs → firstFault c rs ≡ 0 → All (Allowed Writing c) rs
   unfolding firstFault
-  faultless-passed [] e = tt
-  faultless-passed (r ∷ rs) e = go (eqb (faultOf Writing c r) 0) refl (faultless-passed rs) e
+  faultless-allowed [] o e = tt
+  faultless-allowed (r ∷ rs) o e = go (eqb (faultOf Writing c r) 0) refl (faultless-allowed rs (o .1)) e
     where
-      go : (none : Bool) → eqb (faultOf Writing c r) 0 ≡ none → (firstFault c rs ≡ 0 → All (Passed Writing c) rs)
-          → cond none (firstFault c rs) (faultOf Writing c r) ≡ 0 → All (Passed Writing c) (r ∷ rs)
-      go true t ih e = (fault-passed Writing c r (eqb-true _ _ t), ih e)
+      go : (none : Bool) → eqb (faultOf Writing c r) 0 ≡ none → (firstFault c rs ≡ 0 → All (Allowed Writing c) rs)
+          → cond none (firstFault c rs) (faultOf Writing c r) ≡ 0 → All (Allowed Writing c) (r ∷ rs)
+      go true t ih e = (judge.faultless-allowed Writing c r (o .0) (eqb-true _ _ t), ih e)
       go false t ih e = absurd (eqb-false _ _ t e)
 
-  pub passed-faultless : (rs : List Fields) → All (Passed Writing c) rs → firstFault c rs ≡ 0
+  pub allowed-faultless : (rs : List Fields) → All (Allowed Writing c) rs → firstFault c rs ≡ 0
   unfolding firstFault
-  passed-faultless [] h = refl
-  passed-faultless (r ∷ rs) h = rw (passed-fault Writing c r (h .0)) (passed-faultless rs (h .1))
+  allowed-faultless [] h = refl
+  allowed-faultless (r ∷ rs) h = rw (judge.allowed-faultless Writing c r (h .0)) (allowed-faultless rs (h .1))
 
   first-number : (rs : List Fields) → FaultNumber (firstFault c rs)
   unfolding firstFault
@@ -92,12 +131,15 @@ module _ (s : List ℕ) where
   unfolding vetOf
   taken-vetted e z = rw (e, z)
 
-  -- vetting accepts octets as carrier c and records rs exactly if they are the sheet of these, and no record has one of 21 to 28
-  pub vet-exactly : (c : Carrier) (rs : List Fields) → Bytes s → (vetOf s ≡ sheet c rs) ↔ (IsSheet s c rs × All (Passed Writing c) rs)
-  vet-exactly c rs octets = (accepts, λ g. taken-vetted (sheet-taken s c rs (g .0)) (passed-faultless c rs (g .1)))
+  -- vetting accepts octets as carrier c and records rs exactly if they are the sheet of these, and each record is allowed (21 to 28)
+  pub vet-exactly : (c : Carrier) (rs : List Fields) → Bytes s → (vetOf s ≡ sheet c rs) ↔ (IsSheet s c rs × All (Allowed Writing c) rs)
+  vet-exactly c rs octets = (accepts, λ g. taken-vetted (sheet-taken s c rs (g .0)) (allowed-faultless c rs (g .1)))
     where
-      accepts : vetOf s ≡ sheet c rs → IsSheet s c rs × All (Passed Writing c) rs
-      accepts e = let t = vetted-taken e in (taken-sheet s c rs octets (t .0), faultless-passed c rs (t .1))
+      accepts : vetOf s ≡ sheet c rs → IsSheet s c rs × All (Allowed Writing c) rs
+      accepts e =
+          let t = vetted-taken e in
+          let i : IsSheet s c rs = taken-sheet s c rs octets (t .0) in
+          (i, faultless-allowed c rs (sheet-octets s c rs octets i) (t .1))
 
   -- ---- the refusals: 2, 40, 41, 42, 4, 43, and 21 to 28
 

@@ -1,24 +1,40 @@
--- Which sheets writing accepts, said of their records (01, Evidence on delivery: "a sheet is accepted when writing answers 0 or 5"); the law
--- `accepted-exactly` says that it is these. Assumes nothing: these are definitions.
+-- Which sheets writing accepts (01, Evidence on delivery: "a sheet is accepted when writing answers 0 or 5"), said of their records in terms that do
+-- not compute; the law `accepted-exactly` says that it is these. And which octets are defined for a sheet. Assumes nothing: these are definitions.
 use mathlib.Core.Path.{_≡_}
+use mathlib.Core.Logic.{_⊎_}
 use mathlib.Core.List.{List}
-use Prim.Native.Nat.{ℕ, _≤_}
+use Prim.Native.Nat.{ℕ, _≤_, _<_}
+use lib.ListN.{length}
 use Rattle.octets.specs.Lists.{All}
+use Rattle.numbers.specs.Refusal as refusal
 use Rattle.numbers.specs.Limit as limit
 use Rattle.carriers.specs.declared.Carrier.{Carrier}
 use Rattle.carriers.specs.declared.Carrier.the-variants.{Router}
 use Rattle.blocks.specs.Block.{Fields, optionSize}
 use Rattle.judge.specs.declared.Side.the-variants.{Writing}
-use Rattle.judge.specs.Passed.{Passed}
+use Rattle.judge.specs.Allowed.{Allowed}
 use Rattle.taking.specs.Sheet.{FitsRecord, IsSheet}
+use Rattle.written.specs.Writing.{refuse, written, writeOf}
 
--- a record that writing accepts: it has room in a sheet, none of 21 to 28 is so, nor 44
+-- a record that writing accepts: it has room in a sheet, the RFCs and the limits allow it with no address to be dropped, and in carrier 3 its
+-- option has at most 2,040 octets (44)
 pub record Sound (c : Carrier) (r : Fields) : Type 0 where
   pub fits : FitsRecord c r
-  pub passed : Passed Writing c r
+  pub allowed : Allowed Writing c r
   pub units : c ≡ Router → optionSize r ≤ limit.option
 
 -- s is the sheet of carrier c and records rs, and each of these is accepted
 pub record Accepted (s : List ℕ) (c : Carrier) (rs : List Fields) : Type 0 where
   pub is : IsSheet s c rs
   pub sound : All (Sound c) rs
+
+-- ---- by what writing answers
+
+-- 0 or 5
+abbrev pub Accepting : ℕ → Type 0
+Accepting k = (k ≡ 0) ⊎ (k ≡ refusal.room)
+
+-- the octets defined for a sheet: writing gives them wherever they have room, and answers 5 where they have none
+pub record Defined (s octets : List ℕ) : Type 0 where
+  pub enough : (room : ℕ) → length octets ≤ room → writeOf s room ≡ written octets
+  pub little : (room : ℕ) → room < length octets → writeOf s room ≡ refuse refusal.room

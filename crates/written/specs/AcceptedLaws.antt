@@ -22,18 +22,17 @@ use Rattle.carriers.specs.CarriersLaws.{eights-router}
 use Rattle.names.specs.Right.{three}
 use Rattle.blocks.specs.Block.{Fields, optionSize}
 use Rattle.judge.specs.declared.Side.the-variants.{Writing}
-use Rattle.judge.specs.Passed.{Passed}
-use Rattle.judge.specs.JudgeLaws.{written-name}
+use Rattle.judge.specs.Allowed.{Allowed}
 use Rattle.judge.specs.Numbered.{FaultNumber}
 use Rattle.layouts.specs.Writable.{Writable, WritableTail}
-use Rattle.taking.specs.Sheet.{FitsTail, FitsRecord}
+use Rattle.taking.specs.Sheet.{FitsTail, FitsRecord, IsSheet}
 use Rattle.taking.specs.TakenLaws.{Refusing, refusing-some}
-use Rattle.taking.specs.Exactly.{sheet-taken}
+use Rattle.taking.specs.Exactly.{sheet-taken, sheet-once}
 use Rattle.vetting.specs.Vetting.{Vetted, large, anyLarge, vetOf}
 use Rattle.vetting.specs.Vetting as vetting
-use Rattle.vetting.specs.VettingLaws.{passed-faultless, taken-vetted, vet-exactly, vetted-by}
+use Rattle.vetting.specs.VettingLaws.{allowed-faultless, taken-vetted, vet-exactly, vetted-by}
 use Rattle.written.specs.Writing.{octetsOf, refuse, written, writeVetted, writeOf, numberIn}
-use Rattle.written.specs.Accepted.{Sound, Accepted}
+use Rattle.written.specs.Accepted.{Sound, Accepted, Accepting}
 
 -- ---- an accepted record has room in its carrier
 
@@ -48,8 +47,8 @@ lifetime-room c n h = go (formOf c)
 module _ (c : Carrier) (r : Fields) (s : Sound c r) where
   tail-writable : r .full ≡ true → WritableTail (addressWidth c) r
   tail-writable u =
-      let t = s .passed .tail u in
-      record { some = t .some; whole = t .whole; few = t .few; short = t .short }
+      let t = s .allowed .full-form u in
+      record { some = t .whole .0; whole = t .whole .1; few = t .few .0; short = t .few .1 }
 
   bare : (full : Bool) → FitsTail (addressWidth c) full (r .addresses) (r .parameters) → full ≡ false → (r .addresses ≡ []) × (r .parameters ≡ [])
   bare true t e = absurd (true≢false e)
@@ -57,14 +56,14 @@ module _ (c : Carrier) (r : Fields) (s : Sound c r) where
 
   pub writable : Writable c r
   writable =
-      let named = written-name c (r .name) (s .passed .named) in
+      let named = s .allowed .named in
       record {
         priority = s .fits .priority;
         lifetime = lifetime-room c (r .lifetime) (s .fits .lifetime) (s .fits .placed);
         some = let h = three named in omega arith;
         short = named .short;
         tail = tail-writable;
-        name-only = λ u. let b = bare (r .full) (s .fits .tail) u in (b .0, b .1, s .passed .name-only u);
+        name-only = λ u. let b = bare (r .full) (s .fits .tail) u in (b .0, b .1, s .allowed .name-only u);
         units = s .units;
       }
 
@@ -82,19 +81,19 @@ module _ (c : Carrier) (r : Fields) where
       go false e = refl
 
 module _ (c : Carrier) where
-  -- records that fit a sheet, without a fault and none large, are those accepted
-  tested-sound : (rs : List Fields) → All (FitsRecord c) rs → All (Passed Writing c) rs → anyLarge c rs ≡ false → All (Sound c) rs
+  -- records that fit a sheet, allowed and none large, are those accepted
+  tested-sound : (rs : List Fields) → All (FitsRecord c) rs → All (Allowed Writing c) rs → anyLarge c rs ≡ false → All (Sound c) rs
   unfolding anyLarge
   tested-sound [] f p l = tt
   tested-sound (r ∷ rs) f p l = go (large c r) refl (tested-sound rs (f .1) (p .1)) l
     where
       go : (big : Bool) → large c r ≡ big → (anyLarge c rs ≡ false → All (Sound c) rs) → big || anyLarge c rs ≡ false → All (Sound c) (r ∷ rs)
       go true b ih l = absurd (true≢false l)
-      go false b ih l = (record { fits = f .0; passed = p .0; units = small-units c r b }, ih l)
+      go false b ih l = (record { fits = f .0; allowed = p .0; units = small-units c r b }, ih l)
 
-  sound-passed : (rs : List Fields) → All (Sound c) rs → All (Passed Writing c) rs
-  sound-passed [] h = tt
-  sound-passed (r ∷ rs) h = (h .0 .passed, sound-passed rs (h .1))
+  sound-allowed : (rs : List Fields) → All (Sound c) rs → All (Allowed Writing c) rs
+  sound-allowed [] h = tt
+  sound-allowed (r ∷ rs) h = (h .0 .allowed, sound-allowed rs (h .1))
 
   sound-small : (rs : List Fields) → All (Sound c) rs → anyLarge c rs ≡ false
   unfolding anyLarge
@@ -109,7 +108,7 @@ module _ (s : List ℕ) (c : Carrier) (rs : List Fields) where
       record { is = v .0; sound = tested-sound c rs (v .0 .each) (v .1) l }
 
   accepted-vetted : Accepted s c rs → vetOf s ≡ vetting.sheet c rs
-  accepted-vetted a = taken-vetted s (sheet-taken s c rs (a .is)) (passed-faultless c rs (sound-passed c rs (a .sound)))
+  accepted-vetted a = taken-vetted s (sheet-taken s c rs (a .is)) (allowed-faultless c rs (sound-allowed c rs (a .sound)))
 
 -- ---- the call
 
@@ -118,10 +117,6 @@ pub accepted-writes : (s : List ℕ) (c : Carrier) (rs : List Fields) (room : �
     → writeOf s room ≡ cond (ltb room (length (octetsOf c rs))) (refuse refusal.room) (written (octetsOf c rs))
 unfolding writeOf
 accepted-writes s c rs room a = rw (accepted-vetted s c rs a, sound-small c rs (a .sound))
-
--- 0 or 5
-abbrev pub Accepting : ℕ → Type 0
-Accepting k = (k ≡ 0) ⊎ (k ≡ refusal.room)
 
 module _ (s : List ℕ) (octets : Bytes s) (room : ℕ) where
   -- a refusal of vetting is neither
@@ -167,3 +162,10 @@ module _ (s : List ℕ) (octets : Bytes s) (room : ℕ) where
   -- writing answers 0 or 5 exactly to the sheets that are accepted
   pub accepted-exactly : Accepting (numberIn (writeOf s room)) ↔ ((c : Carrier) × (rs : List Fields) × Accepted s c rs)
   accepted-exactly = (answered-accepted, λ a. accepted-answered (a .0) (a .1) (a .2))
+
+  -- so a sheet to which it answers so has accepted records
+  pub answered-sheet : {c : Carrier} {rs : List Fields} → IsSheet s c rs → Accepting (numberIn (writeOf s room)) → Accepted s c rs
+  answered-sheet {c} {rs} i a =
+      let (d, qs, k) = answered-accepted a in
+      let same = sheet-once s c d rs qs i (k .is) in
+      record { is = i; sound = rw (same .0, same .1) (k .sound) }

@@ -1,3 +1,4 @@
 pub mod Writing
 pub mod Accepted
 pub mod AcceptedLaws
+pub mod DefinedLaws

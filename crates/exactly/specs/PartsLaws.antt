@@ -1,12 +1,8 @@
--- Fields are allowed exactly if they pass the judge when read; and the octets of a layout's parameters. Assumes nothing.
+-- Parts of octets are octets: what a length counts, what follows it, and the parameters of a body. Assumes nothing.
 use mathlib.Core.Path.{_≡_, refl}
-use mathlib.Core.Bool.{Bool, true, false, cond, true≢false}
-use mathlib.Core.Logic.{_↔_}
-use mathlib.Core.List.{List, [], _∷_, _++_}
+use mathlib.Core.Bool.{true, cond}
+use mathlib.Core.List.{List, _++_}
 use Prim.Native.Nat.{ℕ, _/_}
-use native.Mathlib.Omega.{arith}
-use borrow.Author.Tests.{ne-eqb}
-use lib.Dec.{eqb}
 use lib.ListN.{length}
 use Rattle.octets.specs.ListsLaws.{all-left, all-right}
 use Rattle.octets.specs.Numbers.{be, Octet, Bytes}
@@ -15,26 +11,14 @@ use Rattle.carriers.specs.declared.Carrier.{Carrier}
 use Rattle.carriers.specs.declared.Carrier.the-variants.{Router}
 use Rattle.carriers.specs.declared.Form.{Form}
 use Rattle.carriers.specs.declared.Form.the-variants.{Wire, Padded, Text}
-use Rattle.carriers.specs.Carriers.{lengthWidth, lifetimeWidth, addressWidth, asText, formOf}
+use Rattle.carriers.specs.Carriers.{lengthWidth, lifetimeWidth, addressWidth, formOf}
 use Rattle.carriers.specs.CarriersLaws.{padded-router}
-use Rattle.names.specs.declared.Name.the-variants.{Good}
-use Rattle.names.specs.Wire.{nameCheck}
-use Rattle.names.specs.Exact as names
-use Rattle.texts.specs.TextCheck.{textCheck}
-use Rattle.texts.specs.Exact as texts
-use Rattle.addresses.specs.Addresses.{listOf, keptOf}
-use Rattle.svcparams.specs.Exactly.{params-exactly}
 use Rattle.blocks.specs.Block.{Fields, putOpening, putAfterName, putAfterNamePadded, putAttribute, padding, layoutBy, layout}
-use Rattle.judge.specs.declared.Side.the-variants.{Reading}
-use Rattle.judge.specs.Passed.{PassedTail, Passed}
-use Rattle.exactly.specs.Allowed.{NameAllowed, TailAllowed, Allowed}
 
--- ---- octets of a part
-
-counted-left : (w : ℕ) (x l : List ℕ) → Bytes (putCounted w x l) → Bytes x
+pub counted-left : (w : ℕ) (x l : List ℕ) → Bytes (putCounted w x l) → Bytes x
 counted-left w x l h = all-left Octet x l (all-right Octet (be w (length x)) (x ++ l) h)
 
-counted-right : (w : ℕ) (x l : List ℕ) → Bytes (putCounted w x l) → Bytes l
+pub counted-right : (w : ℕ) (x l : List ℕ) → Bytes (putCounted w x l) → Bytes l
 counted-right w x l h = all-right Octet x l (all-right Octet (be w (length x)) (x ++ l) h)
 
 opening-right : (c : Carrier) (f : Fields) (l : List ℕ) → Bytes (putOpening c f l) → Bytes l
@@ -76,56 +60,3 @@ parameters-bytes c f e h = go (formOf c) refl h
     go Wire q h = named-parameters c f e h
     go Padded q h = router-parameters f e (rw (padded-router c q) at h)
     go Text q h = attribute-parameters c f h
-
--- ---- passed when read, and allowed
-
-name-exactly : (text : Bool) (name : List ℕ) → (cond text (textCheck name) (nameCheck name) ≡ Good) ↔ NameAllowed text name
-name-exactly true name = texts.good name
-name-exactly false name = names.good name
-
-some-stay : (l : List (List ℕ)) → (eqb (length l) 0 ≡ false) ↔ (l ≡ [] → ⊥)
-some-stay [] = (λ e _. true≢false e, λ n. absurd (n refl))
-some-stay (x ∷ xs) = (λ e q. let z : _≡_ {A = ℕ} 0 1 = cc in omega arith, λ n. ne-eqb (length (x ∷ xs)) 0 (λ e. omega arith))
-
-module _ (w : ℕ) (a p : List ℕ) (octets : Bytes p) where
-  tail-allowed : PassedTail Reading w a p → TailAllowed w a p
-  tail-allowed t =
-      record {
-        some = t .some;
-        whole = t .whole;
-        few = t .few;
-        stays = some-stay (keptOf w (listOf w a)) .0 (t .usable);
-        short = t .short;
-        parameters-allowed = params-exactly p octets .0 (t .sound);
-      }
-
-  allowed-tail : TailAllowed w a p → PassedTail Reading w a p
-  allowed-tail t =
-      record {
-        some = t .some;
-        whole = t .whole;
-        few = t .few;
-        short = t .short;
-        usable = some-stay (keptOf w (listOf w a)) .1 (t .stays);
-        sound = params-exactly p octets .1 (t .parameters-allowed);
-      }
-
--- fields of a layout of octets pass exactly if they are allowed
-module _ (c : Carrier) (f : Fields) (octets : Bytes (layout c f)) where
-  pub passed-allowed : Passed Reading c f → Allowed c f
-  passed-allowed k =
-      record {
-        service = k .service;
-        name-allowed = name-exactly (asText c) (f .name) .0 (k .named);
-        full-form = λ e. tail-allowed (addressWidth c) (f .addresses) (f .parameters) (parameters-bytes c f e octets) (k .tail e);
-        name-only = k .name-only;
-      }
-
-  pub allowed-passed : Allowed c f → Passed Reading c f
-  allowed-passed k =
-      record {
-        service = k .service;
-        named = name-exactly (asText c) (f .name) .1 (k .name-allowed);
-        tail = λ e. allowed-tail (addressWidth c) (f .addresses) (f .parameters) (parameters-bytes c f e octets) (k .full-form e);
-        name-only = k .name-only;
-      }
