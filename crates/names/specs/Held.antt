@@ -1,7 +1,7 @@
 -- The first 256 octets are enough, and so is the answer as a number. Assumes nothing.
 use mathlib.Core.Path.{_≡_, refl, ap, _∙_}
 use mathlib.Core.List.{List}
-use Prim.Native.Nat.{ℕ, _+_, _≤_}
+use Prim.Native.Nat.{ℕ, _+_, _-_, _≤_}
 use native.Mathlib.Omega.{arith}
 use lib.ListN.{length, take, length-append}
 use lib.Seq.{take-take, take-length, length-take-le}
@@ -9,7 +9,8 @@ use borrow.Author.Tests.{ne-eqb}
 use Rattle.names.specs.declared.Name.{Name}
 use Rattle.names.specs.declared.Name.the-variants.{Good, Bad}
 use Rattle.names.specs.Names.{IsName, FirstBad}
-use Rattle.names.specs.Wire.{letter, nameCheck, past, placed, named, answerIn}
+use Rattle.names.specs.Wire.{letter, nameCheck}
+use Rattle.names.specs.Answered.{past, placed, named, answerIn}
 use Rattle.names.specs.Exact.{good, bad}
 
 -- the name that goes on from a first bad place has at most 255 octets, so that the place is no later
@@ -51,6 +52,8 @@ named-result s Good h e = refl
 named-result s (Bad p) h e = let w = bad s p .0 e .within in simp (ne-eqb p past (omega arith))
 
 -- the walk over at most 256 octets, and its answer
-pub held-check : (s : List ℕ) {r : ℕ} {a : Name} → length s ≤ 256 → r ≡ answerIn s (length s) (letter 0) 0 → a ≡ named r → a ≡ nameCheck s
+pub held-check : (s : List ℕ) {r : ℕ} {a : Name} → length s ≤ 256 → r ≡ answerIn s (length s) (letter 0) (length s) → a ≡ named r → a ≡ nameCheck s
 unfolding nameCheck answerIn
-held-check s h e f = f ∙ ap named e ∙ rw (take-length s) (named-result s (nameCheck s) h refl)
+held-check s h e f =
+    let z : length s - length s ≡ 0 = omega arith in
+    f ∙ ap named e ∙ rw (z, take-length s) (named-result s (nameCheck s) h refl)

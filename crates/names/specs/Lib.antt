@@ -1,5 +1,6 @@
 pub mod Names
 pub mod Wire
+pub mod Answered
 pub mod Laws
 pub mod Outcomes
 pub mod Cases

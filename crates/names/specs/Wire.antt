@@ -1,11 +1,8 @@
 -- The check of a name in wire form, octet by octet. Assumes nothing: these are definitions.
-use mathlib.Core.Path.{_≡_}
-use mathlib.Core.Logic.{_⊎_}
-use Prim.Native.Nat.{ℕ, _+_, _-_, _≤_}
+use Prim.Native.Nat.{ℕ, _+_, _-_}
 use mathlib.Core.List.{List, [], _∷_}
 use mathlib.Core.Bool.{Bool, cond, _&&_}
 use lib.Dec.{leb, ltb, eqb}
-use lib.ListN.{take, drop}
 use Rattle.names.specs.declared.Name.{Name}
 use Rattle.names.specs.declared.Name.the-variants.{Good, Bad}
 use Rattle.names.specs.Names.{alnum}
@@ -70,23 +67,3 @@ walk st at (x ∷ xs) = on (step st at x) (Bad at) (ended (at + 1) xs) (λ st′
 -- A whole name: a length octet stands first
 unfoldable pub nameCheck : List ℕ → Name
 nameCheck s = walk (letter 0) 0 s
-
--- ---- the answer as one number, as the code hands it on: the place of the first bad octet; or `past`, which is no place and no length, since
--- at most 256 octets are walked
-abbrev pub past : ℕ
-past = 257
-
-abbrev pub placed : Name → ℕ
-placed Good = past
-placed (Bad p) = p
-
-abbrev pub named : ℕ → Name
-named k = cond (eqb k past) Good (Bad k)
-
--- the walk over the first n octets of a buffer, from the place `at` on
-unfoldable pub answerIn : List ℕ → ℕ → State → ℕ → ℕ
-answerIn b n st at = placed (walk st at (drop at (take n b)))
-
--- r is the smaller of two numbers
-abbrev pub Lesser : ℕ → ℕ → ℕ → Type 0
-Lesser a b r = (r ≤ a) × (r ≤ b) × ((r ≡ a) ⊎ (r ≡ b))

@@ -1,7 +1,8 @@
 // Names of the DNS in wire form (document 01, Names): whether a slice is one, and the place at which it stops being one.
 // A name is labels of letters, digits and hyphens, each after its length octet, and the root octet at the very end, 3 to 255 octets.
-// The two functions that walk a label call each other over a reference to the slice, with a position, and answer a number: so compiled,
-// a call is a jump. Nothing here changes a name, folds its case or follows a compression pointer.
+// The two functions that walk a label call each other over the falling rest of the name, handed on as the number of octets left, and
+// answer a number: so compiled, a call is a jump. Nothing here changes a name, folds its case or follows a compression pointer.
+use octets::lesser;
 use octets::wide;
 ghost use mathlib.Core.Path.{_≡_};
 ghost use Prim.Native.Nat.{_-_, _≤_, _<_};
@@ -9,7 +10,8 @@ ghost use lib.ListN.{length};
 ghost use Rattle.octets.specs.Numbers.{range};
 ghost use Rattle.names.specs.Names.{alnum};
 ghost use Rattle.names.specs.Right.{Right};
-ghost use Rattle.names.specs.Wire.{nameCheck, answerIn, letter, hyphen, labelFits, hyphenFits, named, Lesser};
+ghost use Rattle.names.specs.Wire.{nameCheck, letter, hyphen, labelFits, hyphenFits};
+ghost use Rattle.names.specs.Answered.{answerIn, named};
 
 pub enum Name {
     // The slice is a name.
@@ -55,34 +57,27 @@ fn label_fits(at: usize, size: usize) -> bool
     size <= 63 && at + size <= 253
 }
 
-// The smaller of two indices.
-fn lesser(a: usize, b: usize) -> usize
-    ensures { λ r. ⌜ Lesser a b r ⌝ }
-{
-    if a < b {
-        return a;
-    }
-    b
-}
-
-// At `at`, after a letter or a digit, in a label that ends before `end`; at `end` itself a length octet is next. The name is the first n
-// octets of s, and `stop` is the smaller of n and `end`: one test for each octet of a label.
+// After a letter or a digit, with `label` octets of the label to come; with none, a length octet is next. The name is the first n octets
+// of s, of which `left` are left: each call has fewer, and the place is n - left. `stop` of them come after the label: one test for each
+// octet of a label finds the label's end, and the name's.
 // Over a reference to the slice, and with a number as the answer, the calls compile to jumps.
-fn after_letter(s: &&[u8], n: usize, at: usize, end: usize, stop: usize) -> usize
-    requires { ⌜ (n ≤ 256) × (n ≤ length (now (now s))) × (at ≤ stop) × Lesser end n stop ⌝ }
-    ensures { λ r. ⌜ r ≡ answerIn (now (now (s .entry))) n (letter (end - at)) at ⌝ }
+fn after_letter(s: &&[u8], n: usize, left: usize, label: usize, stop: usize) -> usize
+    requires { ⌜ (n ≤ 256) × (n ≤ length (now (now s))) × (left ≤ n) × (stop ≡ left - label) ⌝ }
+    ensures { λ r. ⌜ r ≡ answerIn (now (now (s .entry))) n (letter label) left ⌝ }
 {
-    if at == stop {
-        if n <= at {
-            return at;
+    let at = n - left;
+    if left == stop {
+        if left == 0 {
+            return n;
         }
         let b = s[at];
+        let rest = left - 1;
         let next = at + 1;
         if b == 0 {
             if at == 0 {
                 return at;
             }
-            if next < n {
+            if 0 < rest {
                 return next;
             }
             return GOOD;
@@ -91,41 +86,39 @@ fn after_letter(s: &&[u8], n: usize, at: usize, end: usize, stop: usize) -> usiz
         if !label_fits(at, size) {
             return at;
         }
-        if n <= next {
-            return next;
+        if rest == 0 {
+            return n;
         }
         if is_alnum(s[next]) {
-            let label_end = next + size;
-            return after_letter(s, n, next + 1, label_end, lesser(label_end, n));
+            return after_letter(s, n, rest - 1, size - 1, rest - lesser(size, rest));
         }
         return next;
     }
     let b = s[at];
-    let next = at + 1;
     if is_alnum(b) {
-        return after_letter(s, n, next, end, stop);
+        return after_letter(s, n, left - 1, label - 1, stop);
     }
-    if hyphen_fits(b, end - at) {
-        return after_hyphen(s, n, next, end, stop);
+    if hyphen_fits(b, label) {
+        return after_hyphen(s, n, left - 1, label - 1, stop);
     }
     at
 }
 
-// At `at`, after a hyphen, in a label that ends before `end`: an octet of it is to come.
-fn after_hyphen(s: &&[u8], n: usize, at: usize, end: usize, stop: usize) -> usize
-    requires { ⌜ (n ≤ 256) × (n ≤ length (now (now s))) × (at ≤ stop) × (at < end) × Lesser end n stop ⌝ }
-    ensures { λ r. ⌜ r ≡ answerIn (now (now (s .entry))) n (hyphen (end - at)) at ⌝ }
+// The same after a hyphen, where an octet of the label is to come.
+fn after_hyphen(s: &&[u8], n: usize, left: usize, label: usize, stop: usize) -> usize
+    requires { ⌜ (n ≤ 256) × (n ≤ length (now (now s))) × (left ≤ n) × (1 ≤ label) × (stop ≡ left - label) ⌝ }
+    ensures { λ r. ⌜ r ≡ answerIn (now (now (s .entry))) n (hyphen label) left ⌝ }
 {
-    if at == stop {
-        return at;
+    if left == stop {
+        return n;
     }
+    let at = n - left;
     let b = s[at];
-    let next = at + 1;
     if is_alnum(b) {
-        return after_letter(s, n, next, end, stop);
+        return after_letter(s, n, left - 1, label - 1, stop);
     }
-    if hyphen_fits(b, end - at) {
-        return after_hyphen(s, n, next, end, stop);
+    if hyphen_fits(b, label) {
+        return after_hyphen(s, n, left - 1, label - 1, stop);
     }
     at
 }
@@ -145,7 +138,8 @@ fn check_held(s: &[u8]) -> Name
     ensures { λ r. ⌜ r ≡ nameCheck (now (s .entry)) ⌝ }
 {
     let held = &s[..];
-    name_of(after_letter(&held, s.len(), 0, 0, 0))
+    let n = s.len();
+    name_of(after_letter(&held, n, n, 0, n))
 }
 
 // Whether s is a name, filling s exactly. No name has more than 255 octets, so that what comes after 256 changes nothing.

@@ -3,7 +3,7 @@
 // (document 01: "All numbers are most significant octet first"). What a write leaves in the whole buffer is one record, `Wrote`.
 // Nothing here knows of carriers, records or limits.
 ghost use mathlib.Core.Path.{_≡_};
-ghost use Prim.Native.Nat.{_+_, _*_, _^_, _≤_, _<_};
+ghost use Prim.Native.Nat.{_+_, _*_, _^_, _≤_, _<_, min};
 ghost use lib.ListN.{length, take, drop};
 ghost use Rattle.octets.specs.Numbers.{be, at16, at32, numberAt, allZero};
 ghost use Rattle.octets.specs.Over.{Wrote};
@@ -23,6 +23,13 @@ pub fn wide(x: u8) -> usize
     ensures { λ r. ⌜ r < 256 ⌝ }
 {
     x as usize
+}
+
+// The smaller of two numbers.
+pub fn lesser(a: usize, b: usize) -> usize
+    ensures { λ r. ⌜ r ≡ min a b ⌝ }
+{
+    if a < b { a } else { b }
 }
 
 // Two octets as a number.

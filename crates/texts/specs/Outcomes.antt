@@ -11,7 +11,7 @@ use lib.Seq.{drop-cons, getD-take, length-take-le}
 use Rattle.names.specs.declared.Name.{Name}
 use Rattle.names.specs.declared.Name.the-variants.{Good, Bad}
 use Rattle.names.specs.Names.{alnum}
-use Rattle.names.specs.Wire.{past, placed}
+use Rattle.names.specs.Answered.{past, placed}
 use Rattle.texts.specs.TextCheck.{State, start, letter, hyphen, stop, go, step, walk, after, dot, ended, textCheck}
 use Rattle.texts.specs.Laws.{goes, stops, start-letter, start-other, dot-goes, dot-far, dot-other, inside-letter, inside-long, inside-hyphen, inside-last, inside-other}
 use Rattle.texts.specs.Place.{bad-first}

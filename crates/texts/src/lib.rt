@@ -3,11 +3,12 @@
 // The check answers the place of the first octet at which no acceptable name can continue. The label rule itself is the crate `names`'s.
 // A conversion judges nothing: it takes any octets that fit, and its laws say what holds of acceptable ones.
 use names::Name;
+use octets::lesser;
 ghost use mathlib.Core.Path.{_≡_};
 ghost use Prim.Native.Nat.{_+_, _-_, _≤_, min};
 ghost use lib.ListN.{length, take, drop};
 ghost use Rattle.octets.specs.Over.{Wrote};
-ghost use Rattle.names.specs.Wire.{placed};
+ghost use Rattle.names.specs.Answered.{placed};
 ghost use Rattle.texts.specs.Texts.{wireOf, textOf};
 ghost use Rattle.texts.specs.TextCheck.{textCheck, walk, letter, hyphen, after};
 ghost use Rattle.texts.specs.Right.{Right};
@@ -23,11 +24,7 @@ fn left_after(at: usize) -> usize
     requires { ⌜ at ≤ 252 ⌝ }
     ensures { λ r. ⌜ r ≡ after at ⌝ }
 {
-    let left = 252 - at;
-    if left < REST {
-        return left;
-    }
-    REST
+    lesser(REST, 252 - at)
 }
 
 // The place at which the first n octets of `text` stop being a name, or GOOD: from `at` on, after a letter or a digit of a label that
@@ -89,16 +86,6 @@ fn after_hyphen(text: &&[u8], n: usize, at: usize, left: usize) -> usize
     after_hyphen(text, n, at + 1, left - 1)
 }
 
-// How many octets of a text of n decide: the 254th is never good, whatever follows.
-fn looked_at(n: usize) -> usize
-    ensures { λ r. ⌜ r ≡ min 254 n ⌝ }
-{
-    if n < 254 {
-        return n;
-    }
-    254
-}
-
 // Whether s is a name as text, filling s exactly, and the first bad place if it is not.
 pub fn check_text(s: &[u8]) -> Name
     ensures { λ r. ⌜ r ≡ textCheck (now (s .entry)) ⌝ }
@@ -110,7 +97,8 @@ pub fn check_text(s: &[u8]) -> Name
     if !names::is_alnum(s[0]) {
         return Name::Bad(0);
     }
-    let n = looked_at(s.len());
+    // the 254th octet is never good, whatever follows
+    let n = lesser(254, s.len());
     let text = &s[..];
     let place = after_letter(&text, n, 1, REST);
     if place == GOOD {

@@ -1,12 +1,10 @@
--- The proof of the cycle of calls {after_hyphen, after_letter}. The measure of each is how many of the n octets are left from `at` on.
+-- The proof of the cycle of calls {after_hyphen, after_letter}. The measure of each is how many octets are left.
 -- At each return one lemma of Outcomes says what the walk answers on the way there. Assumes nothing.
-use Prim.Native.Nat.{ℕ, _<_, _-_}
-use native.Mathlib.Omega.{arith}
-use mathlib.Core.Logic.{⊎-elim}
+use Prim.Native.Nat.{ℕ, _<_}
 use borrow.Author.Needs.{needs}
 use borrow.Fn.Kinds.{In}
 use borrow.Fn.PlainCycle.{Measures, is, falls, and}
-use Rattle.names.specs.Outcomes.{cut-short, hyphen-cut, hyphen-letter, hyphen-hyphen, hyphen-other, letter-letter, letter-hyphen, letter-other, root-first, root-more, root-last, label-unfit, cut-at-first, label-opens, bad-first-octet, told, told-not, told-not-not, hyphen-more}
+use Rattle.names.specs.Outcomes.{cut-short, hyphen-cut, hyphen-letter, hyphen-hyphen, hyphen-other, letter-letter, letter-hyphen, letter-other, root-first, root-more, root-last, label-unfit, cut-at-first, label-opens, bad-first-octet, told, told-not, told-not-not, hyphen-more, two-fewer, still-within, after-label}
 use Rattle.names.proofs.after_hyphen.Reads as after-hyphen
 use Rattle.names.proofs.after_hyphen.Kinds as after-hyphen-kinds
 use Rattle.names.proofs.+after_hyphen+after_letter.Lts-after_hyphen as after-hyphen-lts
@@ -16,16 +14,16 @@ use Rattle.names.proofs.+after_hyphen+after_letter.Lts-after_letter as 
 use Rattle.names.proofs.hyphen_fits.Reads as hyphen-fits-reads
 use Rattle.names.proofs.is_alnum.Reads as is-alnum-reads
 use Rattle.names.proofs.label_fits.Reads as label-fits-reads
-use Rattle.names.proofs.lesser.Reads as lesser-reads
+use Rattle.octets.proofs.lesser.Reads as lesser-reads
 use Rattle.octets.proofs.wide.Reads as wide-reads
 use Rattle.names.proofs.+after_hyphen+after_letter.{statement}
 use Rattle.names.proofs.+after_hyphen+after_letter.Tie.{close}
 
 abbrev μ-after-hyphen : Measures 2 after-hyphen-kinds.ps ℕ
-μ-after-hyphen κs a = a .1 .0 - a .1 .1 .0
+μ-after-hyphen κs a = a .1 .1 .0
 
 abbrev μ-after-letter : Measures 2 after-letter-kinds.ps ℕ
-μ-after-letter κs a = a .1 .0 - a .1 .1 .0
+μ-after-letter κs a = a .1 .1 .0
 
 abbrev after-hyphen-at : ℕ → In 2 after-hyphen-kinds.ps
 after-hyphen-at t =
@@ -66,17 +64,22 @@ pub +after-hyphen+after-letter-spec : {M : Type 1} → statement M
     (λ c. search needs)
     (λ c. search needs)
     (λ c κs. search needs)
-    (λ c κs. search needs)
-    (λ c. search (needs, hyphen-letter, told))
+    (λ c. search needs)
     (λ c. search needs)
     (λ c κs. search needs)
+    (λ c. search (needs, hyphen-letter, told))
+    (λ c κs. search needs)
+    (λ c. search needs)
+    (λ c. search needs)
     (λ c κs. (search needs, search (needs, hyphen-more)))
     (λ c. search (needs, hyphen-hyphen, told))
     (λ c. search (needs, hyphen-other, told)))
     λ t. after-letter-lts.spec (after-letter-calls t)
     (after-letter-at t)
     after-letter.Post
+    (λ c. search needs)
     (λ c. search (needs, cut-short))
+    (λ c. search needs)
     (λ c. search needs)
     (λ c. search needs)
     (λ c. search (needs, root-first))
@@ -91,16 +94,19 @@ pub +after-hyphen+after-letter-spec : {M : Type 1} → statement M
     (λ c. search needs)
     (λ c. search needs)
     (λ c κs. search needs)
-    (λ c κs. (search needs, (search needs, search needs, ⊎-elim (λ e. omega arith) (λ e. omega arith) (c .lesser .ensures .2), c .lesser .ensures)))
+    (λ c. search needs)
+    (λ c κs. (search (needs, two-fewer), (search needs, search needs, search (needs, still-within), search (needs, after-label))))
     (λ c. search (needs, label-opens, told, told-not-not))
     (λ c. search (needs, bad-first-octet, told, told-not-not))
     (λ c. search needs)
+    (λ c κs. search needs)
+    (λ c. search needs)
     (λ c. search needs)
     (λ c κs. search needs)
-    (λ c κs. (search needs, search needs))
     (λ c. search (needs, letter-letter, told))
-    (λ c. search needs)
     (λ c κs. search needs)
+    (λ c. search needs)
+    (λ c. search needs)
     (λ c κs. (search needs, search (needs, hyphen-more)))
     (λ c. search (needs, letter-hyphen, told))
     (λ c. search (needs, letter-other, told))

@@ -5,7 +5,7 @@ use Prim.Native.Nat.{ℕ}
 use Rattle.names.specs.Outcomes.{told}
 use Rattle.texts.specs.Outcomes.{no-octet, first-other, by-first, good-answer, bad-answer}
 use Rattle.texts.specs.Right.{right}
-use Rattle.names.specs.Wire.{placed}
+use Rattle.names.specs.Answered.{placed}
 use Rattle.texts.specs.TextCheck.{textCheck}
 use borrow.Author.Tests.{not-true, not-false}
 use borrow.Author.Needs.{needs}
@@ -29,11 +29,11 @@ numbered c =
     let some = tested .before .before .before in
     by-first
     (some .before .before .args .s .now)
-    (counted .looked-at .result)
+    (counted .lesser .result)
     (c .after-letter .result)
     (some .if1 .left)
     (told (tested .before .is-alnum .ensures) (not-false _ (tested .if2 .left)))
-    (counted .looked-at .ensures)
+    (counted .lesser .ensures)
     (c .after-letter .ensures)
 
 returns-3 : tie.Need-returns-3
