@@ -14,10 +14,9 @@ use Rattle.octets.specs.Fields.{part, number, counted}
 use Rattle.numbers.specs.Refusal as refusal
 use Rattle.carriers.specs.Carriers.{chosenOf}
 use Rattle.names.specs.Names.{alnum}
+use Rattle.names.specs.Automaton.{walk}
 use Rattle.names.specs.Wire.{nameCheck}
-use Rattle.names.specs.Wire as wire
 use Rattle.texts.specs.TextCheck.{textCheck}
-use Rattle.texts.specs.TextCheck as text
 use Rattle.texts.specs.Texts.{run, wireFrom, wireOf, dotsFrom, textOf}
 use Rattle.addresses.specs.Addresses.{unusable4, unusable16, unusable, listOf, keptOf, hasOf}
 use Rattle.svcparams.specs.Params.{paramsFault, pairsFrom, sizeOf, keys, rising, has, hasHint, stringsFrom, alpnGood, valueGood, allGood}
@@ -92,7 +91,7 @@ rising12 =
 -- each piece holds: the octets come back but of K7, K10 and K11, whose sheets have no record, and of K12
 pub boundary : All Holds table
 unfolding readOf chosenOf frameFrom numberAt parse part number counted isPadding allZero instancesFrom joinedYield outcomeOf judgedOf
-    nameCheck wire.walk alnum textCheck text.walk wireOf wireFrom run
+    nameCheck textCheck walk alnum wireOf wireFrom run
     tailFault listOf keptOf unusable unusable4 unusable16
     paramsFault pairsFrom sizeOf keys rising has hasHint stringsFrom alpnGood valueGood allGood
     recordOf frontOf sheetOf

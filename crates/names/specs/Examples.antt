@@ -4,7 +4,8 @@ use mathlib.Core.List.{List, [], _∷_}
 use Prim.Native.Nat.{ℕ}
 use lib.ListN.{replicate}
 use Rattle.names.specs.declared.Name.the-variants.{Good, Bad}
-use Rattle.names.specs.Wire.{nameCheck, walk}
+use Rattle.names.specs.Automaton.{walk}
+use Rattle.names.specs.Wire.{nameCheck}
 use Rattle.names.specs.Names.{alnum, wire}
 
 aa : ℕ → List ℕ

@@ -1,44 +1,11 @@
--- `walk` over the rest of a list from a place on, a step at a time. Assumes nothing.
+-- The steps of a name's check, one law for each way through the tests. Assumes nothing.
 use mathlib.Core.Path.{_≡_}
-use mathlib.Core.List.{List, _∷_}
 use mathlib.Core.Bool.{true, false}
 use Prim.Native.Nat.{ℕ, _+_, _-_, _≤_, _<_}
-use native.Mathlib.Numerals.{add-one}
-use lib.ListN.{length, getD, drop, drop-of-length-le}
-use lib.Seq.{drop-cons}
 use borrow.Author.Tests.{eq-eqb, ne-eqb, le-leb, lt-ltb}
-use Rattle.names.specs.declared.Name.the-variants.{Good, Bad}
-use Rattle.names.specs.Wire.{State, letter, hyphen, first, stop, root, go, step, ended, walk, inside, hyphenFits, lengthOctet, labelFits}
 use Rattle.names.specs.Names.{alnum}
-
-module _ (s : List ℕ) (at : ℕ) (st : State) where
-  -- past the end
-  pub walk-end : length s ≤ at → walk st at (drop at s) ≡ Bad at
-  unfolding walk
-  walk-end h = rw drop-of-length-le
-
-  module _ (h : at < length s) where
-    one-more : drop at s ≡ getD s at 0 ∷ drop (at + 1) s
-    one-more = rw (add-one, drop-cons s at 0)
-
-    pub walk-stop : step st at (getD s at 0) ≡ stop → walk st at (drop at s) ≡ Bad at
-    unfolding walk
-    walk-stop e = rw (one-more, e)
-
-    pub walk-go : {st′ : State} → step st at (getD s at 0) ≡ go st′ → walk st at (drop at s) ≡ walk st′ (at + 1) (drop (at + 1) s)
-    unfolding walk
-    walk-go e = rw (one-more, e)
-
-    pub walk-root : step st at (getD s at 0) ≡ root → walk st at (drop at s) ≡ ended (at + 1) (drop (at + 1) s)
-    unfolding walk
-    walk-root e = rw (one-more, e)
-
--- after the root
-pub ended-good : (s : List ℕ) (at : ℕ) → length s ≤ at → ended at (drop at s) ≡ Good
-ended-good s at h = rw drop-of-length-le
-
-pub ended-bad : (s : List ℕ) (at : ℕ) → at < length s → ended at (drop at s) ≡ Bad at
-ended-bad s at h = rw (drop-cons s at 0)
+use Rattle.names.specs.Automaton.{stop, go}
+use Rattle.names.specs.Wire.{letter, hyphen, first, root, step, inside, hyphenFits, lengthOctet, labelFits}
 
 -- the steps inside a label
 module _ (left x : ℕ) where
@@ -77,7 +44,7 @@ module _ (at x : ℕ) where
   pub length-empty : x ≡ 0 → at ≡ 0 → lengthOctet at x ≡ stop
   length-empty e f = simp (eq-eqb x 0 e, eq-eqb at 0 f)
 
-  pub length-root : x ≡ 0 → (at ≡ 0 → ⊥) → lengthOctet at x ≡ root
+  pub length-root : x ≡ 0 → (at ≡ 0 → ⊥) → lengthOctet at x ≡ go root
   length-root e f = simp (eq-eqb x 0 e, ne-eqb at 0 f)
 
   pub length-unfit : (x ≡ 0 → ⊥) → labelFits at x ≡ false → lengthOctet at x ≡ stop

@@ -6,8 +6,10 @@ use mathlib.Core.Bool.{true}
 use Prim.Native.Nat.{ℕ, suc, _+_, _-_, _≤_}
 use native.Mathlib.Omega.{arith}
 use lib.ListN.{length}
-use Rattle.names.specs.declared.Name.the-variants.{Good, Bad}
-use Rattle.names.specs.Wire.{State, letter, hyphen, first, Move, step, on, ended, walk, nameCheck, inside}
+use Rattle.names.specs.declared.Name.the-variants.{Good}
+use Rattle.names.specs.Automaton.{Move}
+use Rattle.names.specs.AutomatonLaws.{After, taken}
+use Rattle.names.specs.Wire.{State, letter, hyphen, first, root, step, ended, inside, nameAutomaton, nameCheck}
 use Rattle.octets.specs.Lists.{All}
 use Rattle.names.specs.Names.{alnum, last, Ldh, Label, wire, IsName}
 use Rattle.names.specs.Cases.{by-inside, by-length, by-letter, by-first}
@@ -29,18 +31,13 @@ abbrev pub Valid : State → ℕ → ℕ → Type 0
 Valid (letter k) y at = (alnum y ≡ true) × (at + k ≤ 254)
 Valid (hyphen k) y at = (1 ≤ k) × (at + k ≤ 254)
 Valid (first k) y at = at + k + 1 ≤ 254
+Valid root y at = Unit
 
-abbrev Claim : State → ℕ → ℕ → List ℕ → Type 0
+abbrev pub Claim : State → ℕ → ℕ → List ℕ → Type 0
 Claim (letter k) y at xs = Rest y k at xs
 Claim (hyphen k) y at xs = Rest y k at xs
 Claim (first k) y at xs = (x : ℕ) × (t : List ℕ) × (xs ≡ x ∷ t) × (alnum x ≡ true) × Rest x k (at + 1) t
-
--- the walk from the next place on
-abbrev Onward : List ℕ → ℕ → Type 0
-Onward xs at = (st : State) (y : ℕ) → Valid st y at → walk st at xs ≡ Good → Claim st y at xs
-
-pub not-good : {X : Type 0} {p : ℕ} → Bad p ≡ Good → X
-not-good {X} {p} e = let z : _≡_ {A = ℕ} 0 1 = cc in absurd (omega arith)
+Claim root y at xs = xs ≡ []
 
 -- x, an octet of the label, before the rest of it
 more : (x y k at : ℕ) (xs : List ℕ) → Ldh x → (k ≡ 0 → ⊥) → Rest x (k - 1) (at + 1) xs → Rest y k at (x ∷ xs)
@@ -57,7 +54,8 @@ more x y k at xs o n r = record {
 }
 
 -- a label that begins with x, and its length octet n
-opened : (n x y k at : ℕ) (xs : List ℕ) → alnum y ≡ true → k ≡ 0 → (n ≡ 0 → ⊥) → n ≤ 63 → alnum x ≡ true → Rest x (n - 1) (at + 1 + 1) xs → Rest y k at (n ∷ (x ∷ xs))
+opened : (n x y k at : ℕ) (xs : List ℕ) → alnum y ≡ true → k ≡ 0 → (n ≡ 0 → ⊥) → n ≤ 63 → alnum x ≡ true
+    → Rest x (n - 1) (at + 1 + 1) xs → Rest y k at (n ∷ (x ∷ xs))
 opened n x y k at xs b z p q a r =
     let h = r .long in
     let s = r .short in
@@ -75,53 +73,50 @@ opened n x y k at xs b z p q a r =
     }
 
 -- the root octet
-rooted : (n y k at : ℕ) (xs : List ℕ) → alnum y ≡ true → at + k ≤ 254 → k ≡ 0 → n ≡ 0 → (at ≡ 0 → ⊥) → ended (at + 1) xs ≡ Good → Rest y k at (n ∷ xs)
-rooted n y k at [] b h z e p g = record {
-  label = [];
-  labels = [];
-  long = omega arith;
-  octets = tt;
-  ends = b;
-  each = tt;
-  is = cc;
-  short = omega arith;
-  some = λ f _. absurd (p f);
-}
-rooted n y k at (x ∷ xs) b h z e p g = not-good g
+rooted : (n y k at : ℕ) (xs : List ℕ) → alnum y ≡ true → at + k ≤ 254 → k ≡ 0 → n ≡ 0 → (at ≡ 0 → ⊥) → xs ≡ [] → Rest y k at (n ∷ xs)
+rooted n y k at xs b h z e p g =
+    let l = ap length g in
+    record {
+      label = [];
+      labels = [];
+      long = omega arith;
+      octets = tt;
+      ends = b;
+      each = tt;
+      is = cc;
+      short = omega arith;
+      some = λ f _. absurd (p f);
+    }
 
-sound-inside : (left x y at : ℕ) (xs : List ℕ) → Onward xs (at + 1) → (left ≡ 0 → ⊥) → at + left ≤ 254
-    → on (inside left x) (Bad at) (ended (at + 1) xs) (λ st′. walk st′ (at + 1) xs) ≡ Good → Rest y left at (x ∷ xs)
-sound-inside left x y at xs ih n h =
-    by-inside left x (λ m. on m (Bad at) (ended (at + 1) xs) (λ st′. walk st′ (at + 1) xs) ≡ Good → Rest y left at (x ∷ xs))
-    (λ a e. more x y left at xs (inl a) n (ih (letter (left - 1)) x (a, omega arith) e))
-    (λ q l e. more x y left at xs (inr q) n (ih (hyphen (left - 1)) x (omega arith, omega arith) e))
-    (λ e. not-good e)
+-- what holds of each step
+abbrev Stepped : State → ℕ → ℕ → ℕ → List ℕ → Move State → Type 0
+Stepped = After nameAutomaton Valid Claim
 
-sound-letter : (left x y at : ℕ) (xs : List ℕ) → Onward xs (at + 1) → alnum y ≡ true → at + left ≤ 254
-    → on (step (letter left) at x) (Bad at) (ended (at + 1) xs) (λ st′. walk st′ (at + 1) xs) ≡ Good → Rest y left at (x ∷ xs)
-sound-letter left x y at xs ih b h =
-    let P : Move → Type 0 = λ m. on m (Bad at) (ended (at + 1) xs) (λ st′. walk st′ (at + 1) xs) ≡ Good → Rest y left at (x ∷ xs) in
-    by-letter left at x P
-    (λ z. by-length at x P
-    (λ e p g. rooted x y left at xs b h z e p g)
-    (λ n l f g.
-    let r = ih (first (x - 1)) y (omega arith) g in
-    rw (r .2) (opened x (r .0) y left at (r .1) b z n l (r .3) (r .4)))
-    (λ e. not-good e))
-    (λ n. sound-inside left x y at xs ih n h)
+inside-stepped : (st : State) (left x y at : ℕ) (xs : List ℕ) → (left ≡ 0 → ⊥) → at + left ≤ 254 → (Rest y left at (x ∷ xs) → Claim st y at (x ∷ xs))
+    → Stepped st y at x xs (inside left x)
+inside-stepped st left x y at xs n h c =
+    by-inside left x (Stepped st y at x xs)
+    (λ a. ((a, omega arith), λ r. c (more x y left at xs (inl a) n r)))
+    (λ q l. ((omega arith, omega arith), λ r. c (more x y left at xs (inr q) n r)))
+    tt
 
-pub sound : (xs : List ℕ) (st : State) (y at : ℕ) → Valid st y at → walk st at xs ≡ Good → Claim st y at xs
-unfolding walk
-sound [] (letter k) y at v e = not-good e
-sound [] (hyphen k) y at v e = not-good e
-sound [] (first k) y at v e = not-good e
-sound (x ∷ xs) (letter k) y at v e = sound-letter k x y at xs (λ st′ y′. sound xs st′ y′ (at + 1)) (v .0) (v .1) e
-sound (x ∷ xs) (hyphen k) y at v e = sound-inside k x y at xs (λ st′ y′. sound xs st′ y′ (at + 1)) (omega arith) (v .1) e
-sound (x ∷ xs) (first k) y at v e =
-    by-first k at x (λ m. on m (Bad at) (ended (at + 1) xs) (λ st′. walk st′ (at + 1) xs) ≡ Good → Claim (first k) y at (x ∷ xs))
-    (λ a g. (x, xs, refl, a, sound xs (letter k) x (at + 1) (a, omega arith) g))
-    (λ g. not-good g)
-    e
+pub stepped : (st : State) (y at x : ℕ) (xs : List ℕ) → Valid st y at → After nameAutomaton Valid Claim st y at x xs (step st at x)
+stepped (letter k) y at x xs v =
+    by-letter k at x (Stepped (letter k) y at x xs)
+    (λ z. by-length at x (Stepped (letter k) y at x xs)
+    (λ e p. (tt, λ g. rooted x y k at xs (v .0) (v .1) z e p g))
+    (λ n l f. (omega arith, λ r. rw (r .2) (opened x (r .0) y k at (r .1) (v .0) z n l (r .3) (r .4))))
+    tt)
+    (λ n. inside-stepped (letter k) k x y at xs n (v .1) (λ r. r))
+stepped (hyphen k) y at x xs v = inside-stepped (hyphen k) k x y at xs (omega arith) (v .1) (λ r. r)
+stepped (first k) y at x xs v = by-first k at x (Stepped (first k) y at x xs) (λ a. ((a, omega arith), λ r. (x, xs, refl, a, r))) tt
+stepped root y at x xs v = tt
+
+at-end : (st : State) (y at : ℕ) → Valid st y at → ended st ≡ true → Claim st y at []
+at-end (letter k) y at v e = let z : _≡_ {A = ℕ} 0 1 = cc in absurd (omega arith)
+at-end (hyphen k) y at v e = let z : _≡_ {A = ℕ} 0 1 = cc in absurd (omega arith)
+at-end (first k) y at v e = let z : _≡_ {A = ℕ} 0 1 = cc in absurd (omega arith)
+at-end root y at v e = refl
 
 nil-of : (l : List ℕ) → length l ≡ 0 → l ≡ []
 nil-of [] e = refl
@@ -130,7 +125,7 @@ nil-of (x ∷ l) e = absurd (omega arith)
 pub good-sound : (s : List ℕ) → nameCheck s ≡ Good → IsName s
 unfolding nameCheck alnum
 good-sound s e =
-    let r : Rest 48 0 0 s = sound s (letter 0) 48 0 (refl, omega arith) e in
+    let r : Rest 48 0 0 s = taken nameAutomaton Valid Claim stepped at-end s (letter 0) 48 0 (refl, omega arith) e in
     let n : r .label ≡ [] = nil-of (r .label) (r .long) in
     let h = r .short in
     record {

@@ -12,9 +12,11 @@ not-before : {Acceptable : List ℕ → Type 0} (s : List ℕ) (p q : ℕ) → F
 not-before s p q a b h =
     let w = b .within in
     let t = b .goes-on .0 in
-    let k : take (p + 1) s ++ drop (p + 1) (take q s) ≡ take q s = (ap (λ (l : List ℕ). l ++ drop (p + 1) (take q s)) (sym (take-take (p + 1) q s (omega arith)))) ∙ take-append-drop (p + 1) (take q s) in
-    let j : take (p + 1) s ++ (drop (p + 1) (take q s) ++ t) ≡ take q s ++ t = sym (append-assoc (take (p + 1) s) (drop (p + 1) (take q s)) t) ∙ ap (λ (l : List ℕ). l ++ t) k in
-    a .halts (omega arith) (drop (p + 1) (take q s) ++ t) (rw j (b .goes-on .1))
+    let m : List ℕ = drop (p + 1) (take q s) in
+    let e : take (p + 1) (take q s) ≡ take (p + 1) s = take-take (p + 1) q s (omega arith) in
+    let k : take (p + 1) s ++ m ≡ take q s = ap (λ (l : List ℕ). l ++ m) (sym e) ∙ take-append-drop (p + 1) (take q s) in
+    let j : take (p + 1) s ++ (m ++ t) ≡ take q s ++ t = sym (append-assoc (take (p + 1) s) m t) ∙ ap (λ (l : List ℕ). l ++ t) k in
+    a .halts (omega arith) (m ++ t) (rw j (b .goes-on .1))
 
 pub one-place : {Acceptable : List ℕ → Type 0} (s : List ℕ) (p q : ℕ) → FirstBad Acceptable s p → FirstBad Acceptable s q → p ≡ q
 one-place s p q a b =

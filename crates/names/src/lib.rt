@@ -10,7 +10,7 @@ ghost use lib.ListN.{length};
 ghost use Rattle.octets.specs.Numbers.{range};
 ghost use Rattle.names.specs.Names.{alnum};
 ghost use Rattle.names.specs.Right.{Right};
-ghost use Rattle.names.specs.Wire.{nameCheck, letter, hyphen, labelFits, hyphenFits};
+ghost use Rattle.names.specs.Wire.{nameCheck, nameAutomaton, letter, hyphen, labelFits, hyphenFits};
 ghost use Rattle.names.specs.Answered.{answerIn, named};
 
 pub enum Name {
@@ -20,8 +20,8 @@ pub enum Name {
     Bad(usize),
 }
 
-// What the walk answers of a name: past every place of 256 octets, and past their end.
-const GOOD: usize = 257;
+// What the walk of a name, in either form, answers of a good one: past every place of 256 octets, and past their end.
+pub const GOOD: usize = 257;
 
 fn within(b: u8, lo: u8, hi: u8) -> bool
     ensures { λ r. ⌜ r ≡ range lo hi b ⌝ }
@@ -63,7 +63,7 @@ fn label_fits(at: usize, size: usize) -> bool
 // Over a reference to the slice, and with a number as the answer, the calls compile to jumps.
 fn after_letter(s: &&[u8], n: usize, left: usize, label: usize, stop: usize) -> usize
     requires { ⌜ (n ≤ 256) × (n ≤ length (now (now s))) × (left ≤ n) × (stop ≡ left - label) ⌝ }
-    ensures { λ r. ⌜ r ≡ answerIn (now (now (s .entry))) n (letter label) left ⌝ }
+    ensures { λ r. ⌜ r ≡ answerIn nameAutomaton (now (now (s .entry))) n (letter label) left ⌝ }
 {
     let at = n - left;
     if left == stop {
@@ -107,7 +107,7 @@ fn after_letter(s: &&[u8], n: usize, left: usize, label: usize, stop: usize) -> 
 // The same after a hyphen, where an octet of the label is to come.
 fn after_hyphen(s: &&[u8], n: usize, left: usize, label: usize, stop: usize) -> usize
     requires { ⌜ (n ≤ 256) × (n ≤ length (now (now s))) × (left ≤ n) × (1 ≤ label) × (stop ≡ left - label) ⌝ }
-    ensures { λ r. ⌜ r ≡ answerIn (now (now (s .entry))) n (hyphen label) left ⌝ }
+    ensures { λ r. ⌜ r ≡ answerIn nameAutomaton (now (now (s .entry))) n (hyphen label) left ⌝ }
 {
     if left == stop {
         return n;
@@ -123,7 +123,8 @@ fn after_hyphen(s: &&[u8], n: usize, left: usize, label: usize, stop: usize) -> 
     at
 }
 
-fn name_of(place: usize) -> Name
+// The answer of a walk.
+pub fn name_of(place: usize) -> Name
     ensures { λ r. ⌜ r ≡ named place ⌝ }
 {
     if place == GOOD {

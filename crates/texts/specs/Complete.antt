@@ -9,43 +9,40 @@ use lib.ListN.{length, length-append}
 use Rattle.names.specs.declared.Name.the-variants.{Good}
 use Rattle.octets.specs.Lists.{All}
 use Rattle.names.specs.Names.{alnum, last, Ldh, Label}
-use Rattle.names.specs.Complete.{hyphen-not-alnum, both}
+use Rattle.names.specs.Complete.{hyphen-not-alnum, both, not-last}
+use Rattle.names.specs.Automaton.{Move, stop, walk}
+use Rattle.names.specs.AutomatonLaws.{goes, ends-good}
 use Rattle.texts.specs.Texts.{dotted, text, IsText}
-use Rattle.texts.specs.TextCheck.{State, start, letter, hyphen, Move, stop, step, walk, textCheck, after, inside, dot}
-use Rattle.texts.specs.Laws.{goes, start-letter, dot-goes, inside-letter, inside-hyphen, inside-other}
+use Rattle.texts.specs.TextCheck.{State, start, letter, hyphen, step, after, inside, dot, textAutomaton, textCheck}
+use Rattle.texts.specs.Laws.{start-letter, dot-goes, inside-letter, inside-hyphen, inside-other}
 
 dot-not-alnum : alnum 46 ≡ false
 unfolding alnum
 dot-not-alnum = refl
 
--- a label does not end in a hyphen
-not-last : (x : ℕ) (l : List ℕ) → x ≡ 45 → alnum (last x l) ≡ true → 1 ≤ length l
-not-last x [] q e = both x e q
-not-last x (z ∷ l) q e = omega arith
-
 -- the walk has passed the label's octets l, from where the label may have k octets more
 abbrev Passed : State → ℕ → ℕ → List ℕ → List ℕ → Type 0
-Passed st at k l t = walk st at (l ++ t) ≡ walk (letter (k - length l)) (at + length l) t
+Passed st at k l t = walk textAutomaton st at (l ++ t) ≡ walk textAutomaton (letter (k - length l)) (at + length l) t
 
 -- one octet of a label, not its first
-one-octet : (x at k : ℕ) (l t : List ℕ) (st : State) (other : Move) → step st at x ≡ inside k x other → suc (length l) ≤ k
+one-octet : (x at k : ℕ) (l t : List ℕ) (st : State) (other : Move State) → step st at x ≡ inside k x other → suc (length l) ≤ k
     → Ldh x → alnum (last x l) ≡ true
     → (alnum x ≡ true → Passed (letter (k - 1)) (at + 1) (k - 1) l t)
     → (x ≡ 45 → Passed (hyphen (k - 1)) (at + 1) (k - 1) l t)
     → Passed st at k (x ∷ l) t
 one-octet x at k l t st other s n o e f g = one o
   where
-    next : walk (letter (k - 1 - length l)) (at + 1 + length l) t ≡ walk (letter (k - suc (length l))) (at + suc (length l)) t
+    next : walk textAutomaton (letter (k - 1 - length l)) (at + 1 + length l) t ≡ walk textAutomaton (letter (k - suc (length l))) (at + suc (length l)) t
     next =
         let i : k - 1 - length l ≡ k - suc (length l) = omega arith in
         let j : at + 1 + length l ≡ at + suc (length l) = omega arith in
         cc
 
     one : Ldh x → Passed st at k (x ∷ l) t
-    one (inl a) = goes st at x (l ++ t) (s ∙ inside-letter k x other a (omega arith)) ∙ f a ∙ next
+    one (inl a) = goes textAutomaton st at x (l ++ t) (s ∙ inside-letter k x other a (omega arith)) ∙ f a ∙ next
     one (inr q) =
         let p = not-last x l q e in
-        goes st at x (l ++ t) (s ∙ inside-hyphen k x other (hyphen-not-alnum x q) q (omega arith)) ∙ g q ∙ next
+        goes textAutomaton st at x (l ++ t) (s ∙ inside-hyphen k x other (hyphen-not-alnum x q) q (omega arith)) ∙ g q ∙ next
 
 -- the rest of a label, from the state after y on, up to the label's end
 mutual
@@ -68,13 +65,13 @@ mutual
 
 -- a whole label from its first octet on
 one-label : (l : List ℕ) (at : ℕ) (t : List ℕ) → Label l → at + length l ≤ 253
-    → walk start at (l ++ t) ≡ walk (letter (after at - (length l - 1))) (at + length l) t
+    → walk textAutomaton start at (l ++ t) ≡ walk textAutomaton (letter (after at - (length l - 1))) (at + length l) t
 one-label [] at t o h = let s = o .some in absurd (omega arith)
 one-label (x ∷ l) at t o h =
     let s = o .short in
     let i : suc (length l) - 1 ≡ length l = omega arith in
     let j : at + 1 + length l ≡ at + suc (length l) = omega arith in
-    goes start at x (l ++ t) (start-letter at x (o .begins))
+    goes textAutomaton start at x (l ++ t) (start-letter at x (o .begins))
     ∙ rest-letter l x (at + 1) (after at) t (omega arith) (o .octets .1) (o .ends)
     ∙ rw (i, j)
 
@@ -82,22 +79,19 @@ dotted-some : (l : List ℕ) (ms : List (List ℕ)) → Label l → 1 ≤ length
 dotted-some l [] o = o .some
 dotted-some l (m ∷ ms) o = let a = length-append l (46 ∷ dotted m ms) in omega arith
 
-at-end : (k at : ℕ) → walk (letter k) at [] ≡ Good
-unfolding walk
-at-end k at = refl
-
-dotted-good : (ms : List (List ℕ)) (l : List ℕ) (at : ℕ) → Label l → All Label ms → at + length (dotted l ms) ≤ 253 → walk start at (dotted l ms) ≡ Good
-dotted-good [] l at o p h = ap (walk start at) (sym (append-nil l)) ∙ one-label l at [] o h ∙ at-end _ _
+dotted-good : (ms : List (List ℕ)) (l : List ℕ) (at : ℕ) → Label l → All Label ms → at + length (dotted l ms) ≤ 253
+    → walk textAutomaton start at (dotted l ms) ≡ Good
+dotted-good [] l at o p h = ap (walk textAutomaton start at) (sym (append-nil l)) ∙ one-label l at [] o h ∙ ends-good textAutomaton (letter _) _ refl
 dotted-good (m ∷ ms) l at o p h =
     let a = length-append l (46 ∷ dotted m ms) in
     let b = dotted-some m ms (p .0) in
     let j : ℕ = at + length l in
     let k : ℕ = after at - (length l - 1) in
     one-label l at (46 ∷ dotted m ms) o (omega arith)
-    ∙ goes (letter k) j 46 (dotted m ms) (inside-other k 46 (dot j 46) dot-not-alnum (λ q. omega arith) ∙ dot-goes j 46 refl (omega arith))
+    ∙ goes textAutomaton (letter k) j 46 (dotted m ms) (inside-other k 46 (dot j 46) dot-not-alnum (λ q. omega arith) ∙ dot-goes j 46 refl (omega arith))
     ∙ dotted-good ms m (j + 1) (p .0) (p .1) (omega arith)
 
-text-good : (ls : List (List ℕ)) → 1 ≤ length ls → All Label ls → length (text ls) ≤ 253 → walk start 0 (text ls) ≡ Good
+text-good : (ls : List (List ℕ)) → 1 ≤ length ls → All Label ls → length (text ls) ≤ 253 → walk textAutomaton start 0 (text ls) ≡ Good
 text-good [] n o h = absurd (omega arith)
 text-good (l ∷ ls) n o h = dotted-good ls l 0 (o .0) (o .1) (omega arith)
 

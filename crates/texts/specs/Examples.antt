@@ -6,7 +6,8 @@ use lib.ListN.{replicate}
 use Rattle.names.specs.declared.Name.the-variants.{Good, Bad}
 use Rattle.names.specs.Names.{alnum, wire}
 use Rattle.texts.specs.Texts.{text, run, wireFrom, wireOf, dotsFrom, textOf}
-use Rattle.texts.specs.TextCheck.{textCheck, walk}
+use Rattle.names.specs.Automaton.{walk}
+use Rattle.texts.specs.TextCheck.{textCheck}
 
 -- the labels of doh1.example.com (01, Boundary pieces: N)
 abbrev labels : List (List ℕ)

@@ -1,12 +1,11 @@
--- The steps of a text's check, one law for each way through the tests, and the walk by a step. Assumes nothing.
+-- The steps of a text's check, one law for each way through the tests. Assumes nothing.
 use mathlib.Core.Path.{_≡_}
-use mathlib.Core.List.{List, _∷_}
 use mathlib.Core.Bool.{true, false}
-use Prim.Native.Nat.{ℕ, _+_, _-_, _≤_, _<_}
+use Prim.Native.Nat.{ℕ, _-_, _≤_, _<_}
 use borrow.Author.Tests.{eq-eqb, ne-eqb, le-leb, lt-leb}
-use Rattle.names.specs.declared.Name.the-variants.{Bad}
 use Rattle.names.specs.Names.{alnum}
-use Rattle.texts.specs.TextCheck.{State, start, letter, hyphen, Move, stop, go, step, walk, after, inside, dot}
+use Rattle.names.specs.Automaton.{Move, stop, go}
+use Rattle.texts.specs.TextCheck.{State, start, letter, hyphen, step, after, inside, dot}
 
 -- a label's first octet
 module _ (at x : ℕ) where
@@ -27,7 +26,7 @@ module _ (at x : ℕ) where
   dot-other n = simp (ne-eqb x 46 n)
 
 -- an octet of a label, not its first
-module _ (left x : ℕ) (other : Move) where
+module _ (left x : ℕ) (other : Move State) where
   pub inside-letter : alnum x ≡ true → (left ≡ 0 → ⊥) → inside left x other ≡ go (letter (left - 1))
   inside-letter a n = simp (a, ne-eqb left 0 n)
 
@@ -42,12 +41,3 @@ module _ (left x : ℕ) (other : Move) where
 
   pub inside-other : alnum x ≡ false → (x ≡ 45 → ⊥) → inside left x other ≡ other
   inside-other a n = simp (a, ne-eqb x 45 n)
-
-module _ (st : State) (at x : ℕ) (xs : List ℕ) where
-  pub goes : {st′ : State} → step st at x ≡ go st′ → walk st at (x ∷ xs) ≡ walk st′ (at + 1) xs
-  unfolding walk
-  goes e = rw e
-
-  pub stops : step st at x ≡ stop → walk st at (x ∷ xs) ≡ Bad at
-  unfolding walk
-  stops e = rw e

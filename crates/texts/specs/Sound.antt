@@ -6,11 +6,13 @@ use mathlib.Core.Bool.{true}
 use Prim.Native.Nat.{ℕ, _+_, _-_, _≤_}
 use native.Mathlib.Omega.{arith}
 use lib.ListN.{length}
-use Rattle.names.specs.declared.Name.the-variants.{Good, Bad}
+use Rattle.names.specs.declared.Name.the-variants.{Good}
 use Rattle.octets.specs.Lists.{All}
 use Rattle.names.specs.Names.{alnum, last, Ldh, Label}
 use Rattle.texts.specs.Texts.{dotted, IsText}
-use Rattle.texts.specs.TextCheck.{State, start, letter, hyphen, Move, stop, on, walk, textCheck, after, inside, dot}
+use Rattle.names.specs.Automaton.{Move, stop}
+use Rattle.names.specs.AutomatonLaws.{After, taken}
+use Rattle.texts.specs.TextCheck.{State, start, letter, hyphen, step, ended, after, inside, dot, textAutomaton, textCheck}
 use Rattle.texts.specs.Cases.{by-start, by-dot, by-inside}
 
 -- xs are the octets from the place `at` on: at most k to the end of the label that y is in, and the labels after it
@@ -39,17 +41,10 @@ Valid start y at = at ≤ 252
 Valid (letter k) y at = (alnum y ≡ true) × (at + k ≤ 253)
 Valid (hyphen k) y at = (1 ≤ k) × (at + k ≤ 253)
 
-abbrev Claim : State → ℕ → ℕ → List ℕ → Type 0
+abbrev pub Claim : State → ℕ → ℕ → List ℕ → Type 0
 Claim start y at xs = Labels at xs
 Claim (letter k) y at xs = Rest y k at xs
 Claim (hyphen k) y at xs = Rest y k at xs
-
--- the walk from the next place on
-abbrev Onward : List ℕ → ℕ → Type 0
-Onward xs at = (st : State) (y : ℕ) → Valid st y at → walk st at xs ≡ Good → Claim st y at xs
-
-pub not-good : {X : Type 0} {p : ℕ} → Bad p ≡ Good → X
-not-good {X} {p} e = let z : _≡_ {A = ℕ} 0 1 = cc in absurd (omega arith)
 
 dotted-cons : (x : ℕ) (l : List ℕ) (ms : List (List ℕ)) → x ∷ dotted l ms ≡ dotted (x ∷ l) ms
 dotted-cons x l [] = refl
@@ -108,39 +103,35 @@ opens x at xs a r =
       short = omega arith;
     }
 
-sound-inside : (k x y at : ℕ) (xs : List ℕ) (other : Move) → Onward xs (at + 1) → at + k ≤ 253
-    → (on other (Bad at) (λ st. walk st (at + 1) xs) ≡ Good → Rest y k at (x ∷ xs))
-    → on (inside k x other) (Bad at) (λ st. walk st (at + 1) xs) ≡ Good → Rest y k at (x ∷ xs)
-sound-inside k x y at xs other ih h f =
-    by-inside k x other (λ m. on m (Bad at) (λ st. walk st (at + 1) xs) ≡ Good → Rest y k at (x ∷ xs))
-    (λ a n e. more x y k at xs (inl a) n (ih (letter (k - 1)) x (a, omega arith) e))
-    (λ q l e. more x y k at xs (inr q) (omega arith) (ih (hyphen (k - 1)) x (omega arith, omega arith) e))
-    f
-    (λ e. not-good e)
+-- what holds of each step
+abbrev Stepped : State → ℕ → ℕ → ℕ → List ℕ → Move State → Type 0
+Stepped = After textAutomaton Valid Claim
 
-sound : (xs : List ℕ) (st : State) (y at : ℕ) → Valid st y at → walk st at xs ≡ Good → Claim st y at xs
-unfolding walk
-sound [] start y at v e = not-good e
-sound [] (letter k) y at v e = ending y k at (v .0) (omega arith)
-sound [] (hyphen k) y at v e = not-good e
-sound (x ∷ xs) start y at v e =
-    by-start at x (λ m. on m (Bad at) (λ st. walk st (at + 1) xs) ≡ Good → Labels at (x ∷ xs))
-    (λ a g. opens x at xs a (sound xs (letter (after at)) x (at + 1) (a, omega arith) g))
-    (λ g. not-good g)
-    e
-sound (x ∷ xs) (letter k) y at v e =
-    sound-inside k x y at xs (dot at x) (λ st z. sound xs st z (at + 1)) (v .1)
-    (by-dot at x (λ m. on m (Bad at) (λ st. walk st (at + 1) xs) ≡ Good → Rest y k at (x ∷ xs))
-    (λ q l g. dots x y k at xs (v .0) q (sound xs start y (at + 1) (omega arith) g))
-    (λ g. not-good g))
-    e
-sound (x ∷ xs) (hyphen k) y at v e =
-    sound-inside k x y at xs stop (λ st z. sound xs st z (at + 1)) (v .1) (λ g. not-good g) e
+inside-stepped : (st : State) (k x y at : ℕ) (xs : List ℕ) (other : Move State) → at + k ≤ 253 → (Rest y k at (x ∷ xs) → Claim st y at (x ∷ xs))
+    → Stepped st y at x xs other → Stepped st y at x xs (inside k x other)
+inside-stepped st k x y at xs other h c o =
+    by-inside k x other (Stepped st y at x xs)
+    (λ a n. ((a, omega arith), λ r. c (more x y k at xs (inl a) n r)))
+    (λ q l. ((omega arith, omega arith), λ r. c (more x y k at xs (inr q) (omega arith) r)))
+    o
+    tt
+
+pub stepped : (st : State) (y at x : ℕ) (xs : List ℕ) → Valid st y at → After textAutomaton Valid Claim st y at x xs (step st at x)
+stepped start y at x xs v = by-start at x (Stepped start y at x xs) (λ a. ((a, omega arith), λ r. opens x at xs a r)) tt
+stepped (letter k) y at x xs v =
+    inside-stepped (letter k) k x y at xs (dot at x) (v .1) (λ r. r)
+    (by-dot at x (Stepped (letter k) y at x xs) (λ q l. (omega arith, λ r. dots x y k at xs (v .0) q r)) tt)
+stepped (hyphen k) y at x xs v = inside-stepped (hyphen k) k x y at xs stop (v .1) (λ r. r) tt
+
+at-end : (st : State) (y at : ℕ) → Valid st y at → ended st ≡ true → Claim st y at []
+at-end start y at v e = let z : _≡_ {A = ℕ} 0 1 = cc in absurd (omega arith)
+at-end (letter k) y at v e = ending y k at (v .0) (omega arith)
+at-end (hyphen k) y at v e = let z : _≡_ {A = ℕ} 0 1 = cc in absurd (omega arith)
 
 pub good-sound : (s : List ℕ) → textCheck s ≡ Good → IsText s
 unfolding textCheck
 good-sound s e =
-    let r : Labels 0 s = sound s start 0 0 (omega arith) e in
+    let r : Labels 0 s = taken textAutomaton Valid Claim stepped at-end s start 0 0 (omega arith) e in
     let h = r .short in
     record {
       labels = r .label ∷ r .labels;

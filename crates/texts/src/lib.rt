@@ -2,19 +2,17 @@
 // the two conversions between a name's text and its wire form, which the record sheet holds.
 // The check answers the place of the first octet at which no acceptable name can continue. The label rule itself is the crate `names`'s.
 // A conversion judges nothing: it takes any octets that fit, and its laws say what holds of acceptable ones.
+use names::GOOD;
 use names::Name;
 use octets::lesser;
 ghost use mathlib.Core.Path.{_≡_};
-ghost use Prim.Native.Nat.{_+_, _-_, _≤_, min};
-ghost use lib.ListN.{length, take, drop};
+ghost use Prim.Native.Nat.{_+_, _-_, _≤_};
+ghost use lib.ListN.{length};
 ghost use Rattle.octets.specs.Over.{Wrote};
-ghost use Rattle.names.specs.Answered.{placed};
+ghost use Rattle.names.specs.Answered.{answerIn};
 ghost use Rattle.texts.specs.Texts.{wireOf, textOf};
-ghost use Rattle.texts.specs.TextCheck.{textCheck, walk, letter, hyphen, after};
+ghost use Rattle.texts.specs.TextCheck.{textCheck, textAutomaton, letter, hyphen, after};
 ghost use Rattle.texts.specs.Right.{Right};
-
-// The walk's answer of a good text, as in the check of a wire form: past every place, which is 253 at most.
-const GOOD: usize = 257;
 
 // A label has at most 63 octets: so many after its first.
 const REST: usize = 62;
@@ -27,27 +25,30 @@ fn left_after(at: usize) -> usize
     lesser(REST, 252 - at)
 }
 
-// The place at which the first n octets of `text` stop being a name, or GOOD: from `at` on, after a letter or a digit of a label that
-// may have `left` octets more. Over a reference to the slice, and with a number as the answer, the calls compile to jumps.
-fn after_letter(text: &&[u8], n: usize, at: usize, left: usize) -> usize
-    requires { ⌜ (n ≤ 254) × (n ≤ length (now (now text))) × (at + left ≤ 253) ⌝ }
-    ensures { λ r. ⌜ r ≡ placed (walk (letter left) at (drop at (take n (now (now (text .entry)))))) ⌝ }
+// The place at which the first n octets of `text` stop being a name, or GOOD: after a letter or a digit of a label that may have `label`
+// octets more, where `left` of the n are left. Each call has fewer, and the place is n - left.
+// Over a reference to the slice, and with a number as the answer, the calls compile to jumps.
+fn after_letter(text: &&[u8], n: usize, left: usize, label: usize) -> usize
+    requires { ⌜ (n ≤ 254) × (n ≤ length (now (now text))) × (left ≤ n) ⌝ }
+    ensures { λ r. ⌜ r ≡ answerIn textAutomaton (now (now (text .entry))) n (letter label) left ⌝ }
 {
-    if n <= at {
+    if left == 0 {
         return GOOD;
     }
+    let at = n - left;
+    let rest = left - 1;
     let b = text[at];
     if names::is_alnum(b) {
-        if left == 0 {
+        if label == 0 {
             return at;
         }
-        return after_letter(text, n, at + 1, left - 1);
+        return after_letter(text, n, rest, label - 1);
     }
     if b == b'-' {
-        if left <= 1 {
+        if label <= 1 {
             return at;
         }
-        return after_hyphen(text, n, at + 1, left - 1);
+        return after_hyphen(text, n, rest, label - 1);
     }
     if b != b'.' {
         return at;
@@ -55,35 +56,37 @@ fn after_letter(text: &&[u8], n: usize, at: usize, left: usize) -> usize
     if 251 < at {
         return at;
     }
-    let first = at + 1;
-    if n <= first {
-        return first;
+    if rest == 0 {
+        return n;
     }
+    let first = at + 1;
     if names::is_alnum(text[first]) {
-        return after_letter(text, n, first + 1, left_after(first));
+        return after_letter(text, n, rest - 1, left_after(first));
     }
     first
 }
 
 // The same after a hyphen, where one octet at least is to come.
-fn after_hyphen(text: &&[u8], n: usize, at: usize, left: usize) -> usize
-    requires { ⌜ (n ≤ 254) × (n ≤ length (now (now text))) × (1 ≤ left) × (at + left ≤ 253) ⌝ }
-    ensures { λ r. ⌜ r ≡ placed (walk (hyphen left) at (drop at (take n (now (now (text .entry)))))) ⌝ }
+fn after_hyphen(text: &&[u8], n: usize, left: usize, label: usize) -> usize
+    requires { ⌜ (n ≤ 254) × (n ≤ length (now (now text))) × (left ≤ n) × (1 ≤ label) ⌝ }
+    ensures { λ r. ⌜ r ≡ answerIn textAutomaton (now (now (text .entry))) n (hyphen label) left ⌝ }
 {
-    if n <= at {
-        return at;
+    if left == 0 {
+        return n;
     }
+    let at = n - left;
+    let rest = left - 1;
     let b = text[at];
     if names::is_alnum(b) {
-        return after_letter(text, n, at + 1, left - 1);
+        return after_letter(text, n, rest, label - 1);
     }
     if b != b'-' {
         return at;
     }
-    if left <= 1 {
+    if label <= 1 {
         return at;
     }
-    after_hyphen(text, n, at + 1, left - 1)
+    after_hyphen(text, n, rest, label - 1)
 }
 
 // Whether s is a name as text, filling s exactly, and the first bad place if it is not.
@@ -100,11 +103,7 @@ pub fn check_text(s: &[u8]) -> Name
     // the 254th octet is never good, whatever follows
     let n = lesser(254, s.len());
     let text = &s[..];
-    let place = after_letter(&text, n, 1, REST);
-    if place == GOOD {
-        return Name::Good;
-    }
-    Name::Bad(place)
+    names::name_of(after_letter(&text, n, n - 1, REST))
 }
 
 // Writes the wire form of a text at `at`, and returns the index after it. It goes from the end to the front, so that the length of a

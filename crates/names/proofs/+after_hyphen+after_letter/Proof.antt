@@ -4,7 +4,10 @@ use Prim.Native.Nat.{ℕ, _<_}
 use borrow.Author.Needs.{needs}
 use borrow.Fn.Kinds.{In}
 use borrow.Fn.PlainCycle.{Measures, is, falls, and}
-use Rattle.names.specs.Outcomes.{cut-short, hyphen-cut, hyphen-letter, hyphen-hyphen, hyphen-other, letter-letter, letter-hyphen, letter-other, root-first, root-more, root-last, label-unfit, cut-at-first, label-opens, bad-first-octet, told, told-not, told-not-not, hyphen-more, two-fewer, still-within, after-label}
+use Rattle.names.specs.AnsweredLaws.{two-fewer, still-within, told, told-not, told-not-not}
+use Rattle.names.specs.Outcomes.{letter-cut, letter-letter, letter-hyphen, letter-other}
+use Rattle.names.specs.Outcomes.{hyphen-cut, hyphen-letter, hyphen-hyphen, hyphen-other, hyphen-more}
+use Rattle.names.specs.Outcomes.{root-first, root-more, root-last, label-unfit, cut-at-first, label-opens, bad-first-octet, after-label}
 use Rattle.names.proofs.after_hyphen.Reads as after-hyphen
 use Rattle.names.proofs.after_hyphen.Kinds as after-hyphen-kinds
 use Rattle.names.proofs.+after_hyphen+after_letter.Lts-after_hyphen as after-hyphen-lts
@@ -51,10 +54,34 @@ after-letter-below t =
 
 -- what `after_hyphen`'s and `after_letter`'s calls ask and give
 abbrev after-hyphen-calls : ℕ → after-hyphen-lts.Claims
-after-hyphen-calls t = (is-alnum-reads.Asked, is-alnum-reads.Learnt, after-letter-below t, after-letter.Post, hyphen-fits-reads.Asked, hyphen-fits-reads.Learnt, after-hyphen-below t, after-hyphen.Post)
+after-hyphen-calls t = (
+  is-alnum-reads.Asked,
+  is-alnum-reads.Learnt,
+  after-letter-below t,
+  after-letter.Post,
+  hyphen-fits-reads.Asked,
+  hyphen-fits-reads.Learnt,
+  after-hyphen-below t,
+  after-hyphen.Post,
+)
 
 abbrev after-letter-calls : ℕ → after-letter-lts.Claims
-after-letter-calls t = (wide-reads.Asked, wide-reads.Learnt, label-fits-reads.Asked, label-fits-reads.Learnt, is-alnum-reads.Asked, is-alnum-reads.Learnt, lesser-reads.Asked, lesser-reads.Learnt, after-letter-below t, after-letter.Post, hyphen-fits-reads.Asked, hyphen-fits-reads.Learnt, after-hyphen-below t, after-hyphen.Post)
+after-letter-calls t = (
+  wide-reads.Asked,
+  wide-reads.Learnt,
+  label-fits-reads.Asked,
+  label-fits-reads.Learnt,
+  is-alnum-reads.Asked,
+  is-alnum-reads.Learnt,
+  lesser-reads.Asked,
+  lesser-reads.Learnt,
+  after-letter-below t,
+  after-letter.Post,
+  hyphen-fits-reads.Asked,
+  hyphen-fits-reads.Learnt,
+  after-hyphen-below t,
+  after-hyphen.Post,
+)
 
 pub +after-hyphen+after-letter-spec : {M : Type 1} → statement M
 +after-hyphen+after-letter-spec = close μ-after-hyphen μ-after-letter (λ t. after-hyphen-lts.spec (after-hyphen-calls t)
@@ -78,7 +105,7 @@ pub +after-hyphen+after-letter-spec : {M : Type 1} → statement M
     (after-letter-at t)
     after-letter.Post
     (λ c. search needs)
-    (λ c. search (needs, cut-short))
+    (λ c. search (needs, letter-cut))
     (λ c. search needs)
     (λ c. search needs)
     (λ c. search needs)

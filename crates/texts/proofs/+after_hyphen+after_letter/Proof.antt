@@ -1,9 +1,11 @@
--- The proof of the cycle of calls {after_hyphen, after_letter}. The measure of each is what is left of the array from `at` on.
+-- The proof of the cycle of calls {after_hyphen, after_letter}. The measure of each is how many octets are left.
 -- At each return one law of Outcomes says what the walk gives on the way there. Assumes nothing.
-use Prim.Native.Nat.{ℕ, _<_, _-_}
+use Prim.Native.Nat.{ℕ, _<_}
 use borrow.Author.Needs.{needs}
-use Rattle.names.specs.Outcomes.{told}
-use Rattle.texts.specs.Outcomes.{letter-end, hyphen-end, hyphen-letter, hyphen-hyphen, hyphen-last, hyphen-other, letter-letter, letter-long, letter-hyphen, letter-last, letter-other, letter-far, label-missing, label-opens, label-other}
+use Rattle.names.specs.AnsweredLaws.{two-fewer, still-within, told}
+use Rattle.texts.specs.Outcomes.{letter-end, letter-letter, letter-long, letter-hyphen, letter-last, letter-other, letter-far}
+use Rattle.texts.specs.Outcomes.{hyphen-end, hyphen-letter, hyphen-hyphen, hyphen-last, hyphen-other}
+use Rattle.texts.specs.Outcomes.{label-missing, label-opens, label-other}
 use borrow.Fn.Kinds.{In}
 use borrow.Fn.PlainCycle.{Measures, is, falls, and}
 use Rattle.texts.proofs.after_hyphen.Reads as after-hyphen
@@ -18,10 +20,10 @@ use Rattle.texts.proofs.+after_hyphen+after_letter.{statement}
 use Rattle.texts.proofs.+after_hyphen+after_letter.Tie.{close}
 
 abbrev μ-after-hyphen : Measures 2 after-hyphen-kinds.ps ℕ
-μ-after-hyphen κs a = 256 - a .1 .1 .0
+μ-after-hyphen κs a = a .1 .1 .0
 
 abbrev μ-after-letter : Measures 2 after-letter-kinds.ps ℕ
-μ-after-letter κs a = 256 - a .1 .1 .0
+μ-after-letter κs a = a .1 .1 .0
 
 abbrev after-hyphen-at : ℕ → In 2 after-hyphen-kinds.ps
 after-hyphen-at t = and 2 after-hyphen-kinds.ps (is 2 after-hyphen-kinds.ps μ-after-hyphen t) after-hyphen.Pre
@@ -57,14 +59,14 @@ pub +after-hyphen+after-letter-spec : {M : Type 1} → statement M
     after-hyphen.Post
     (λ c. search (needs, hyphen-end))
     (λ c. search needs)
-    (λ c κs. search needs)
     (λ c. search needs)
+    (λ c. search needs)
+    (λ c κs. search needs)
     (λ c. search needs)
     (λ c κs. search needs)
     (λ c. search (needs, hyphen-letter, told))
     (λ c. search (needs, hyphen-other, told))
     (λ c. search (needs, hyphen-last, told))
-    (λ c. search needs)
     (λ c. search needs)
     (λ c κs. search needs)
     (λ c. search (needs, hyphen-hyphen, told)))
@@ -73,25 +75,25 @@ pub +after-hyphen+after-letter-spec : {M : Type 1} → statement M
     after-letter.Post
     (λ c. search (needs, letter-end))
     (λ c. search needs)
+    (λ c. search needs)
+    (λ c. search needs)
     (λ c κs. search needs)
     (λ c. search (needs, letter-long, told))
-    (λ c. search needs)
     (λ c. search needs)
     (λ c κs. search needs)
     (λ c. search (needs, letter-letter, told))
     (λ c. search (needs, letter-last, told))
     (λ c. search needs)
-    (λ c. search needs)
     (λ c κs. search needs)
     (λ c. search (needs, letter-hyphen, told))
     (λ c. search (needs, letter-other, told))
     (λ c. search (needs, letter-far, told))
-    (λ c. search needs)
     (λ c. search (needs, label-missing, told))
     (λ c. search needs)
+    (λ c. search needs)
     (λ c κs. search needs)
     (λ c. search needs)
     (λ c κs. search needs)
-    (λ c κs. search needs)
+    (λ c κs. (search (needs, two-fewer), (search needs, search needs, search (needs, still-within))))
     (λ c. search (needs, label-opens, told))
     (λ c. search (needs, label-other, told))
