@@ -2,13 +2,14 @@
 // 255, nothing for no octets, no code 255. Joined octets are cut in the buffer where they stand, from the front, so that none is overwritten
 // before it has moved.
 ghost use mathlib.Core.Path.{_≡_};
-ghost use Prim.Native.Nat.{_+_, _≤_, _<_, min};
+ghost use Prim.Native.Nat.{_+_, _≤_, _<_};
 ghost use lib.ListN.{length, take, drop};
 ghost use Rattle.octets.specs.Over.{Wrote};
 ghost use Rattle.carriers.specs.declared.Carrier.the-variants.{Dhcp4};
 ghost use Rattle.frames.specs.Emit.{optionOf};
 ghost use Rattle.pieces.specs.Pieces.{cutOf, cutOctets};
 use carriers::Carrier;
+use octets::lesser;
 
 // The most octets that an option 162 has after its header.
 const PIECE: usize = 255;
@@ -19,13 +20,6 @@ pub fn cut_size(n: usize) -> usize
     ensures { λ r. ⌜ r ≡ cutOctets n ⌝ }
 {
     n + 2 * ((n + (PIECE - 1)) / PIECE)
-}
-
-// Octets of the next piece, with `left` octets to come.
-fn piece_size(left: usize) -> usize
-    ensures { λ r. ⌜ r ≡ min 255 left ⌝ }
-{
-    if left < PIECE { left } else { PIECE }
 }
 
 // Writes an option at `at` whose body is the n octets that stand at `from`, and returns the index after it.
@@ -47,7 +41,7 @@ pub fn cut_within(out: &mut [u8], from: usize, n: usize) -> usize
     let mut i = 0;
     let mut o = 0;
     while i < n {
-        let size = piece_size(n - i);
+        let size = lesser(PIECE, n - i);
         o = put_piece(out, o, from + i, size);
         i += size;
     }

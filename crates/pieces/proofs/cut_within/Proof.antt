@@ -16,21 +16,21 @@ abbrev μ-loop : tie.MeasureT-loop
 loop-holds : tie.Need-loop-holds Inv-loop μ-loop
 loop-holds c = cutting-start (c .before .pre .0)
 
-piece-size-requires : tie.Need-piece-size-requires Inv-loop μ-loop
-piece-size-requires c κs = tt
+lesser-requires : tie.Need-lesser-requires Inv-loop μ-loop
+lesser-requires c κs = tt
 
 put-piece-requires : tie.Need-put-piece-requires Inv-loop μ-loop
 put-piece-requires c κs =
     let p = c .before in
     let k = p .before .before in
-    (cutting-room (p .piece-size .result) (p .piece-size .ensures) (k .loop .inv) (p .before .loop-test .taken), omega arith, omega arith)
+    (cutting-room (p .lesser .result) (p .lesser .ensures) (k .loop .inv) (p .before .loop-test .taken), omega arith, omega arith)
 
 loop-again : tie.Need-loop-again Inv-loop μ-loop
 loop-again c =
     let w = c .before .before in
     let p = w .before .before in
     let k = p .before .before in
-    cutting-turn (p .piece-size .result) (p .piece-size .ensures) (k .loop .inv) (p .before .loop-test .taken) (omega arith) (w .put-piece .ensures) (omega arith)
+    cutting-turn (p .lesser .result) (p .lesser .ensures) (k .loop .inv) (p .before .loop-test .taken) (omega arith) (w .put-piece .ensures) (omega arith)
 
 returns : tie.Need-returns Inv-loop μ-loop
 returns c = cutting-done (c .before .loop .inv) (c .loop-test .left)
@@ -43,7 +43,7 @@ cut-within-spec =
     μ-loop
     loop-holds
     (λ c. omega arith)
-    piece-size-requires
+    lesser-requires
     (λ c. omega arith)
     put-piece-requires
     (λ c. omega arith)
