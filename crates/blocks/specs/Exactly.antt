@@ -6,9 +6,10 @@ use mathlib.Core.List.{List, [], _∷_, _++_}
 use Prim.Native.Nat.{ℕ, _+_, _*_, _/_, _^_, _≤_, _<_}
 use native.Mathlib.Nat.{mul-div-cancel, mul-mod-left, div-add-mod'}
 use native.Mathlib.Omega.{arith}
-use borrow.Author.Tests.{le-ltb, lt-ltb, ltb-true, ltb-false, ne-eqb}
+use borrow.Author.Tests.{le-ltb, lt-ltb, ltb-true, ne-eqb}
 use lib.Dec.{ltb, eqb}
 use lib.ListN.{length, length-append, length-replicate}
+use Rattle.octets.specs.Cases.{by-less}
 use Rattle.octets.specs.Numbers.{be, Bytes, zeros, allZero}
 use Rattle.octets.specs.NumbersLaws.{length-be, zeros-zero, zero-zeros}
 use Rattle.octets.specs.Fields.{counted, putCounted}
@@ -24,7 +25,7 @@ use Rattle.blocks.specs.Block.{Fields, Parsed, bad, fields, nameOnly, wh
 
 -- ---- laid out, then split
 
-opening-read : (c : Carrier) (f : Fields) (l : List ℕ) (next : ℕ → ℕ → List ℕ → List ℕ → Parsed) → f .priority < 65536 → f .lifetime < 256 ^ lifetimeWidth c
+pub opening-read : (c : Carrier) (f : Fields) (l : List ℕ) (next : ℕ → ℕ → List ℕ → List ℕ → Parsed) → f .priority < 65536 → f .lifetime < 256 ^ lifetimeWidth c
     → length (f .name) < 256 ^ lengthWidth c → opening c (putOpening c f l) next ≡ next (f .priority) (f .lifetime) (f .name) l
 opening-read c f l next hp ht hn = simp (number-read, counted-read)
 
@@ -95,13 +96,6 @@ given-says : {C : Type 0} (P : Fields → Type 0) (x : Parsed) → C → Says (�
 given-says P (bad k) c h = tt
 given-says P (fields f) c h = h c
 
-test-says : (P : Fields → Type 0) (m n : ℕ) (x y : Parsed) → (m < n → Says P x) → (n ≤ m → Says P y) → Says P (cond (ltb m n) x y)
-test-says P m n x y h k = go (ltb m n) refl
-  where
-    go : (b : Bool) → ltb m n ≡ b → Says P (cond b x y)
-    go true t = h (ltb-true _ _ t)
-    go false t = k (ltb-false _ _ t)
-
 empty-says : (P : Fields → Type 0) (l : List ℕ) (x y : Parsed) → (l ≡ [] → Says P x) → Says P y → Says P (cond (eqb (length l) 0) x y)
 empty-says P [] x y h k = h refl
 empty-says P (z ∷ l) x y h k = rw (ne-eqb (length (z ∷ l)) 0 (λ e. omega arith)) k
@@ -115,15 +109,16 @@ padded-says P l f h = go (ltb (length l) 8) (allZero l) refl refl
     go true false s t = tt
     go false b s t = tt
 
-opening-says : (c : Carrier) (P : List ℕ → Fields → Type 0) (l : List ℕ) (next : ℕ → ℕ → List ℕ → List ℕ → Parsed) → Bytes l
+-- S relates octets and an answer, and holds of every answer 20
+pub opening-says : (c : Carrier) (S : List ℕ → Parsed → Type 0) (l : List ℕ) (next : ℕ → ℕ → List ℕ → List ℕ → Parsed) → Bytes l → ((l : List ℕ) → S l short)
     → ((p u : ℕ) (n r : List ℕ) → p < 65536 → u < 256 ^ lifetimeWidth c → length n < 256 ^ lengthWidth c → Bytes r
-    → Says (P (be 2 p ++ (be (lifetimeWidth c) u ++ putCounted (lengthWidth c) n r))) (next p u n r))
-    → Says (P l) (opening c l next)
-opening-says c P l next h k =
+    → S (be 2 p ++ (be (lifetimeWidth c) u ++ putCounted (lengthWidth c) n r)) (next p u n r))
+    → S l (opening c l next)
+opening-says c S l next h s k =
     let t : ℕ = lifetimeWidth c in
-    number-says short 2 (λ l. Says (P l)) l _ h tt (λ p l hp h.
-    number-says short t (λ l. Says (P (be 2 p ++ l))) l _ h tt (λ u l hu h.
-    counted-says short (lengthWidth c) (λ l. Says (P (be 2 p ++ (be t u ++ l)))) l _ h (λ _. tt) (λ n l hn _ h.
+    number-says short 2 S l _ h (s l) (λ p l hp h.
+    number-says short t (λ l. S (be 2 p ++ l)) l _ h (s (be 2 p ++ l)) (λ u l hu h.
+    counted-says short (lengthWidth c) (λ l. S (be 2 p ++ (be t u ++ l))) l _ h (λ l. s (be 2 p ++ (be t u ++ l))) (λ n l hn _ h.
     k p u n l hp hu hn h)))
 
 -- what is to be shown of fields that fit
@@ -133,7 +128,7 @@ Shown c put Fit P = (f : Fields) → f .priority < 65536 → f .lifetime < 256 ^
 named-says : (c : Carrier) (P : List ℕ → Fields → Type 0) (b : List ℕ) → Bytes b
     → Shown c (λ f. putOpening c f (putAfterName c f)) (FitsNamed c) P → Says (P b) (opening c b (afterName c))
 named-says c P b h k =
-    opening-says c P b (afterName c) h (λ p u n l hp hu hn h.
+    opening-says c (λ b. Says (P b)) b (afterName c) h (λ _. tt) (λ p u n l hp hu hn h.
     let Q : List ℕ → Fields → Type 0 = λ l. P (be 2 p ++ (be (lifetimeWidth c) u ++ putCounted (lengthWidth c) n l)) in
     empty-says (Q l) l _ _
     (λ e. rw e (k (nameOnly p u n) hp hu hn (refl, refl)))
@@ -143,9 +138,9 @@ named-says c P b h k =
 router-says : (P : List ℕ → Fields → Type 0) (b : List ℕ) → Bytes b → Shown Router (λ f. putOpening Router f (putAfterNamePadded f)) FitsRouter P
     → Says (λ f. Possible Router b → P b f) (opening Router b afterNamePadded)
 router-says P b h k =
-    opening-says Router (λ b f. Possible Router b → P b f) b afterNamePadded h (λ p u n l hp hu hn h.
+    opening-says Router (λ b. Says (λ f. Possible Router b → P b f)) b afterNamePadded h (λ _. tt) (λ p u n l hp hu hn h.
     let Q : List ℕ → Fields → Type 0 = λ l f. let b : List ℕ = be 2 p ++ (be 4 u ++ putCounted 2 n l) in Possible Router b → P b f in
-    test-says (Q l) (length l) 8 _ _
+    by-less (Says (Q l)) (length l) 8 _ _
     (λ _. padded-says (Q l) l (nameOnly p u n) (λ z few m.
     let g : length l ≡ paddingAfter (8 + length n) = omega (arith, length-append n l) in
     rw (z ∙ ap zeros g) (k (nameOnly p u n) hp hu hn (refl, refl))))

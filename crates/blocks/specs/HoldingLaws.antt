@@ -6,14 +6,14 @@ use mathlib.Core.Logic.{_↔_, _⊎_, inl, inr}
 use mathlib.Core.List.{List, [], _∷_, _++_}
 use Prim.Native.Nat.{ℕ, _^_, _≤_, _<_}
 use native.Mathlib.Omega.{arith}
-use borrow.Author.Tests.{le-ltb, lt-ltb, ltb-true, ltb-false, eqb-true}
-use lib.Dec.{ltb, eqb}
+use borrow.Author.Tests.{le-ltb, lt-ltb, ltb-true}
+use lib.Dec.{ltb}
 use lib.ListN.{length}
-use Rattle.octets.specs.Lists.{All}
-use Rattle.octets.specs.Cases.{by-test}
+use Rattle.octets.specs.Cases.{by-test, by-less}
 use Rattle.octets.specs.Numbers.{be, Bytes, allZero}
-use Rattle.octets.specs.Fields.{counted, putCounted}
-use Rattle.octets.specs.FieldsLaws.{number-read, counted-read, number-says, counted-says}
+use Rattle.octets.specs.NumbersLaws.{zero-exactly}
+use Rattle.octets.specs.Fields.{putCounted}
+use Rattle.octets.specs.FieldsLaws.{counted-read, counted-says}
 use Rattle.numbers.specs.Fault as fault
 use Rattle.carriers.specs.declared.Carrier.{Carrier}
 use Rattle.carriers.specs.declared.Carrier.the-variants.{Router}
@@ -22,19 +22,11 @@ use Rattle.carriers.specs.declared.Form.the-variants.{Wire, Padded, Text}
 use Rattle.carriers.specs.Carriers.{formOf, lifetimeIn, lifetimeWidth}
 use Rattle.carriers.specs.CarriersLaws.{padded-router}
 use Rattle.blocks.specs.Block.{Fields, Parsed, bad, fields, nameOnly, whole, short, opening, isPadding, padded, afterNamePadded, parse, Tail, Possible}
-use Rattle.blocks.specs.Exactly.{parse-layout, parse-iff}
+use Rattle.blocks.specs.Exactly.{opening-read, opening-says, parse-layout, parse-iff}
 use Rattle.blocks.specs.Faults.{parse-fault}
 use Rattle.blocks.specs.Holding.{Laid, Padding, putTail, Follows, HoldsPadded, HoldsBy, Holds, Short, Misfilled}
 
 -- ---- padding
-
-zero-exactly : (l : List ℕ) → (allZero l ≡ true) ↔ All (λ x. x ≡ 0) l
-unfolding allZero
-zero-exactly [] = (λ _. tt, λ _. refl)
-zero-exactly (x ∷ xs) =
-    let both = and-eq-true-iff (eqb x 0) (allZero xs) in
-    let rest = zero-exactly xs in
-    (λ e. (eqb-true x 0 (both .0 e .0), rest .0 (both .0 e .1)), λ h. both .1 (rw (h .0), rest .1 (h .1)))
 
 padding-exactly : (l : List ℕ) → (isPadding l ≡ true) ↔ Padding l
 unfolding isPadding
@@ -59,10 +51,8 @@ tail-read p t n false a q rest h k = rw (k .0, k .1, lt-ltb (length rest) 8 (ome
 
 router-read : (b : List ℕ) (f : Fields) (rest : List ℕ) → HoldsPadded b f rest → opening Router b afterNamePadded ≡ padded rest f
 router-read b f rest h =
-    let hp = h .priority in
-    let ht = h .lifetime in
-    let hn = h .name in
-    rw (h .laid) (simp (number-read, counted-read) (tail-read _ _ _ (f .full) _ _ rest (h .form) (h .tail)))
+    rw (h .laid)
+    (opening-read Router f (putTail f rest) afterNamePadded (h .priority) (h .lifetime) (h .name) ∙ tail-read _ _ _ (f .full) _ _ rest (h .form) (h .tail))
 
 form-read : (k : Form) (c : Carrier) (b : List ℕ) (f : Fields) (rest : List ℕ) → formOf c ≡ k → HoldsBy k c b f rest → parse c b ≡ padded rest f
 unfolding parse isPadding allZero
@@ -81,20 +71,13 @@ Held H r = (r ≡ short) ⊎ ((f : Fields) × (rest : List ℕ) × H f rest)
 
 router-says : (b : List ℕ) → Bytes b → Held (HoldsPadded b) (opening Router b afterNamePadded)
 router-says b h =
-    number-says short 2 (λ b. Held (HoldsPadded b)) b _ h (inl refl) (λ p l hp h.
-    number-says short 4 (λ l. Held (HoldsPadded (be 2 p ++ l))) l _ h (inl refl) (λ t l ht h.
-    counted-says short 2 (λ l. Held (HoldsPadded (be 2 p ++ (be 4 t ++ l)))) l _ h (λ _. inl refl) (λ n l hn _ h.
+    opening-says Router (λ b. Held (HoldsPadded b)) b afterNamePadded h (λ _. inl refl) (λ p t n l hp ht hn h.
     let Q : List ℕ → Parsed → Type 0 = λ l. Held (HoldsPadded (be 2 p ++ (be 4 t ++ putCounted 2 n l))) in
-    by-test (ltb (length l) 8)
-    (λ x. Q l (cond x (padded l (nameOnly p t n)) (counted short 2 l (λ a l. counted short 2 l (λ q l. padded l (whole p t n a q))))))
-    (λ e.
-    let few : length l < 8 = ltb-true _ _ e in
-    inr (nameOnly p t n, l, record { laid = refl; form = omega (arith, few); priority = hp; lifetime = ht; name = hn; tail = (refl, refl) }))
-    (λ e.
-    counted-says short 2 (λ l r. 8 ≤ length l → Q l r) l _ h (λ _ _. inl refl) (λ a l ha _ h.
+    by-less (Q l) (length l) 8 _ _
+    (λ few. inr (nameOnly p t n, l, record { laid = refl; form = omega (arith, few); priority = hp; lifetime = ht; name = hn; tail = (refl, refl) }))
+    (counted-says short 2 (λ l r. 8 ≤ length l → Q l r) l _ h (λ _ _. inl refl) (λ a l ha _ h.
     counted-says short 2 (λ l r. 8 ≤ length (putCounted 2 a l) → Q (putCounted 2 a l) r) l _ h (λ _ _. inl refl) (λ q l hq _ _ big.
-    inr (whole p t n a q, l, record { laid = refl; form = omega (arith, big); priority = hp; lifetime = ht; name = hn; tail = (ha, hq) })))
-    (ltb-false (length l) 8 e)))))
+    inr (whole p t n a q, l, record { laid = refl; form = omega (arith, big); priority = hp; lifetime = ht; name = hn; tail = (ha, hq) })))))
 
 -- in the other carriers fields are those of a layout, and 20 is the only fault
 fault-says : (c : Carrier) (H : Fields → List ℕ → Type 0) (k : ℕ) → (c ≡ Router → ⊥) → (k ≡ fault.field) ⊎ ((c ≡ Router) × (k ≡ fault.padding)) → Held H (bad k)

@@ -4,14 +4,14 @@ use mathlib.Core.Path.{_≡_, refl, sym, ap, _∙_}
 use mathlib.Core.Bool.{Bool, true, false, cond, false≢true}
 use mathlib.Core.List.{List}
 use Prim.Native.Nat.{ℕ, _+_, _-_, _*_, _%_, _≤_, _<_}
-use native.Mathlib.Nat.{sub-add-eq, add-assoc, zero-add, mul-le-mul, mul-mod-left}
+use native.Mathlib.Nat.{sub-add-eq, add-assoc, mul-mod-left}
 use native.Mathlib.Omega.{arith}
 use borrow.Author.Tests.{le-ltb, lt-ltb, eq-eqb, ne-eqb}
 use lib.Dec.{ltb}
 use lib.ListN.{length, take, drop, getD, length-drop}
 use lib.Seq.{drop-drop}
 use Rattle.octets.specs.Numbers.{val, at16, at32, numberAt, allZero}
-use Rattle.octets.specs.NumbersLaws.{at16-val, number-8, number-16, number-32}
+use Rattle.octets.specs.NumbersLaws.{number-none, number-8, number-16, number-32}
 use Rattle.octets.specs.ListsLaws.{take-rest}
 use Rattle.octets.specs.Fields.{number, counted}
 use Rattle.numbers.specs.Fault as fault
@@ -19,65 +19,62 @@ use Rattle.carriers.specs.declared.Carrier.{Carrier}
 use Rattle.carriers.specs.declared.Carrier.the-variants.{Router}
 use Rattle.carriers.specs.declared.Form.{Form}
 use Rattle.carriers.specs.Carriers.{lengthWidth, formOf, lifetimeWidth, addressWidth, asText}
-use Rattle.carriers.specs.CarriersLaws.{address-width, text-width, wire-form, text-form}
+use Rattle.carriers.specs.CarriersLaws.{text-width, wire-form, text-form}
 use Rattle.blocks.specs.declared.Places.{Places}
 use Rattle.blocks.specs.declared.Places.the-variants.{Bad, NameOnly, Full}
 use Rattle.blocks.specs.Block.{Parsed, fields, whole, short, opening, afterName, isPadding, padded, afterNamePadded, attribute, parseBy, parse}
 use Rattle.blocks.specs.Together.{part-is, part-two, part-three}
 use Rattle.blocks.specs.Places.{told, Inside, nameAt, Numbers, Ranged, Named, pastName}
 
--- ---- widths
+-- ---- carriers 1 to 3: up to the name, which stands at a, after a lifetime of t octets and a length of w
 
--- octets of the addresses in carriers 4 and 5
-pub addresses-fit : (c : Carrier) {k w : ℕ} → k < 256 → w ≡ addressWidth c → k * w < 4096
-addresses-fit c {k} {w} h e =
-    let i : k ≤ 255 = omega arith in
-    let j : w ≤ 16 = rw e (address-width c .1) in
-    omega (arith, mul-le-mul i j)
+module _ (c : Carrier) (b : List ℕ) (next : ℕ → ℕ → List ℕ → List ℕ → Parsed) (z : parse c b ≡ opening c b next) {t w a : ℕ} (et : t ≡ lifetimeWidth c)
+    (ew : w ≡ lengthWidth c) (ea : a ≡ 2 + (t + w)) where
+  opening-is : let n : ℕ = numberAt w (2 + t) b in
+      parse c b
+      ≡ cond (ltb (length b) a) short
+      (cond (ltb (length b - a) n) short
+      (pastName a n b (next (numberAt 2 0 b) (numberAt t 2 b))))
+  unfolding numberAt number counted
+  opening-is = z ∙ rw (ea, et, ew) (part-three short 2 (lifetimeWidth c) (lengthWidth c) b _ ∙ simp (part-is, length-drop, drop-drop))
 
--- ---- carriers 1 to 3: up to the name
+  pub fixed-cut : length b < a → told b (Bad fault.field) ≡ parse c b
+  fixed-cut h = simp (opening-is, lt-ltb _ _ h)
 
-opening-is : (c : Carrier) (b : List ℕ) (next : ℕ → ℕ → List ℕ → List ℕ → Parsed)
-    → let t : ℕ = lifetimeWidth c in let w : ℕ = lengthWidth c in
-    let n : ℕ = numberAt w (2 + t) b in
-    opening c b next
-    ≡ cond (ltb (length b) (2 + (t + w))) short
-    (cond (ltb (length b - (2 + (t + w))) n) short
-    (pastName (2 + (t + w)) n b (next (numberAt 2 0 b) (numberAt t 2 b))))
-unfolding numberAt number counted
-opening-is c b next = part-three short 2 (lifetimeWidth c) (lengthWidth c) b _ ∙ simp (part-is, length-drop, drop-drop)
+  module _ (h : a ≤ length b) {n : ℕ} (en : n ≡ numberAt w (2 + t) b) where
+    pub name-cut : length b - a < n → told b (Bad fault.field) ≡ parse c b
+    name-cut i = simp (opening-is, le-ltb _ _ h, ← en, lt-ltb _ _ i)
+
+    pub name-there : n ≤ length b - a → {p u : ℕ} → p ≡ at16 b 0 → u ≡ numberAt t 2 b → parse c b ≡ pastName a n b (next p u)
+    name-there i ep eu = simp (opening-is, le-ltb _ _ h, ← en, le-ltb _ _ i, ep, number-16 b 0 (omega arith), eu)
+
+-- the numbers are in range where there is no lifetime, and the name stands where it should
+pub no-lifetime : (c : Carrier) {p : ℕ} → p < 65536 → Numbers c p 0
+no-lifetime c h = record { priority = h; lifetime = omega arith; none = λ _. refl }
+
+module _ (c : Carrier) (z : asText c ≡ false) {p u t w : ℕ} (n : Numbers c p u) (et : t ≡ lifetimeWidth c) (ew : w ≡ lengthWidth c) where
+  pub alone-ranged : Numbers c p u × (2 + t + w ≡ nameAt c 0) × (asText c ≡ false)
+  alone-ranged = (n, simp (z, et, ew), z)
+
+  pub whole-ranged : (m : ℕ) → Numbers c p u × (2 + t + w ≡ nameAt c m) × (asText c ≡ true → m % addressWidth c ≡ 0)
+  whole-ranged m = (n, simp (z, et, ew), λ x. absurd (false≢true (sym z ∙ x)))
 
 -- ---- carriers 1 and 2
 
-named-parse : (c : Carrier) (b : List ℕ) → Named c → parse c b ≡ opening c b (afterName c)
+pub named-opens : (c : Carrier) (b : List ℕ) → Named c → parse c b ≡ opening c b (afterName c)
 unfolding parse
-named-parse c b h = ap (λ (k : Form). parseBy k c b) (wire-form (formOf c) (h .0) (h .1))
+named-opens c b h = ap (λ (k : Form). parseBy k c b) (wire-form (formOf c) (h .0) (h .1))
 
 module _ (c : Carrier) (b : List ℕ) (z : Named c) {w : ℕ} (e : w ≡ lengthWidth c) where
-  named-is : let n : ℕ = numberAt w 2 b in
-      parse c b
-      ≡ cond (ltb (length b) (2 + w)) short
-      (cond (ltb (length b - (2 + w)) n) short
-      (pastName (2 + w) n b (afterName c (numberAt 2 0 b) 0)))
-  unfolding numberAt
-  named-is = named-parse c b z ∙ opening-is c b (afterName c) ∙ rw (z .0, ← e, zero-add)
+  module _ (h : 2 + w ≤ length b) {p n : ℕ} (ep : p ≡ at16 b 0) (en : n ≡ numberAt w 2 b) (i : n ≤ length b - (2 + w)) where
+    named-there : parse c b ≡ pastName (2 + w) n b (afterName c p 0)
+    named-there = name-there c b (afterName c) (named-opens c b z) (sym (z .0)) e (omega arith) h en i ep (number-none 2 b)
 
-  pub named-fixed-cut : length b < 2 + w → told b (Bad fault.field) ≡ parse c b
-  named-fixed-cut h = simp (named-is, lt-ltb _ _ h)
+    pub named-alone : length b - (2 + w + n) ≡ 0 → told b (NameOnly p 0 (2 + w) n) ≡ parse c b
+    named-alone j = simp (named-there, length-drop, eq-eqb _ _ j)
 
-  module _ (h : 2 + w ≤ length b) {p n : ℕ} (ep : p ≡ at16 b 0) (en : n ≡ numberAt w 2 b) where
-    pub named-name-cut : length b - (2 + w) < n → told b (Bad fault.field) ≡ parse c b
-    named-name-cut i = simp (named-is, le-ltb _ _ h, ← en, lt-ltb _ _ i)
-
-    module _ (i : n ≤ length b - (2 + w)) where
-      named-there : parse c b ≡ pastName (2 + w) n b (afterName c p 0)
-      named-there = simp (named-is, le-ltb _ _ h, ← en, le-ltb _ _ i, ep, number-16 b 0 (omega arith))
-
-      pub named-alone : length b - (2 + w + n) ≡ 0 → told b (NameOnly p 0 (2 + w) n) ≡ parse c b
-      named-alone j = simp (named-there, length-drop, eq-eqb _ _ j)
-
-      pub named-followed : (r : Places) → told b r ≡ pastName (2 + lengthWidth c) n b (afterName c p 0) → told b r ≡ parse c b
-      named-followed r j = j ∙ sym (rw e at named-there)
+    pub named-followed : (r : Places) → told b r ≡ pastName (2 + lengthWidth c) n b (afterName c p 0) → told b r ≡ parse c b
+    named-followed r j = j ∙ sym (rw e at named-there)
 
   module _ (p n : ℕ) (h : 2 + lengthWidth c + n < length b) where
     abbrev rest : Parsed
@@ -104,16 +101,6 @@ module _ (c : Carrier) (b : List ℕ) (z : Named c) {w : ℕ} (e : w ≡ lengthW
           → told b (Full p 0 (2 + w) n (2 + w + n + w) m (2 + w + n + w + m) (length b - (2 + w + n + w + m))) ≡ rest
       after-name-whole j = simp (rest-is, le-ltb _ _ i, ← em, le-ltb _ _ j, take-rest)
 
-module _ (c : Carrier) {p w : ℕ} (z : Named c) (e : w ≡ lengthWidth c) (h : p < 65536) where
-  named-numbers : Numbers c p 0
-  named-numbers = record { priority = h; lifetime = omega arith; none = λ _. refl }
-
-  pub named-alone-ranged : Numbers c p 0 × (2 + w ≡ nameAt c 0) × (asText c ≡ false)
-  named-alone-ranged = (named-numbers, simp (z .0, z .1, e), z .1)
-
-  pub named-whole-ranged : (m : ℕ) → Numbers c p 0 × (2 + w ≡ nameAt c m) × (asText c ≡ true → m % addressWidth c ≡ 0)
-  named-whole-ranged m = (named-numbers, simp (z .0, z .1, e), λ x. absurd (false≢true (sym (z .1) ∙ x)))
-
 -- ---- carrier 3
 
 module _ (l : List ℕ) where
@@ -129,31 +116,23 @@ module _ (l : List ℕ) where
 part-padding : (b : List ℕ) (a : ℕ) {x : Bool} → x ≡ isPadding (take (length b - a) (drop a b)) → isPadding (drop a b) ≡ x
 part-padding b a e = sym (e ∙ ap isPadding (take-rest a b))
 
-module _ (b : List ℕ) where
-  pub router-fixed-cut : length b < 8 → told b (Bad fault.field) ≡ parse Router b
-  unfolding parse
-  router-fixed-cut h = simp (opening-is, lt-ltb _ _ h)
+pub router-opens : (b : List ℕ) → parse Router b ≡ opening Router b afterNamePadded
+unfolding parse
+router-opens b = refl
 
-  module _ (h : 8 ≤ length b) {p t n : ℕ} (ep : p ≡ at16 b 0) (et : t ≡ at32 b 2) (en : n ≡ at16 b 6) where
-    pub router-name-cut : length b - 8 < n → told b (Bad fault.field) ≡ parse Router b
-    unfolding parse
-    router-name-cut i = simp (opening-is, le-ltb _ _ h, ← (number-16 b 6 (omega arith)), ← en, lt-ltb _ _ i)
+module _ (b : List ℕ) (h : 8 ≤ length b) {p t n : ℕ} (ep : p ≡ at16 b 0) (et : t ≡ at32 b 2) (en : n ≡ at16 b 6) (i : n ≤ length b - 8) where
+  router-there : parse Router b ≡ pastName 8 n b (afterNamePadded p t)
+  router-there = name-there Router b afterNamePadded (router-opens b) refl refl refl h (en ∙ number-16 b 6 (omega arith)) i ep (et ∙ number-32 b 2 (omega arith))
 
-    module _ (i : n ≤ length b - 8) where
-      router-there : parse Router b ≡ pastName 8 n b (afterNamePadded p t)
-      unfolding parse
-      router-there =
-          simp (opening-is, le-ltb _ _ h, ← (number-16 b 6 (omega arith)), ← en, le-ltb _ _ i, ← (number-16 b 0 (omega arith)), ← ep, ← (number-32 b 2 (omega arith)), ← et)
+  module _ (j : length b - (8 + n) < 8) {x : Bool} (e : x ≡ isPadding (take (length b - (8 + n)) (drop (8 + n) b))) where
+    pub router-alone : x ≡ true → told b (NameOnly p t 8 n) ≡ parse Router b
+    router-alone k = simp (router-there, length-drop, lt-ltb _ _ j, part-padding b (8 + n) e, k)
 
-      module _ (j : length b - (8 + n) < 8) {x : Bool} (e : x ≡ isPadding (take (length b - (8 + n)) (drop (8 + n) b))) where
-        pub router-alone : x ≡ true → told b (NameOnly p t 8 n) ≡ parse Router b
-        router-alone k = simp (router-there, length-drop, lt-ltb _ _ j, part-padding b (8 + n) e, k)
+    pub router-unpadded : x ≡ false → told b (Bad fault.padding) ≡ parse Router b
+    router-unpadded k = simp (router-there, length-drop, lt-ltb _ _ j, part-padding b (8 + n) e, k)
 
-        pub router-unpadded : x ≡ false → told b (Bad fault.padding) ≡ parse Router b
-        router-unpadded k = simp (router-there, length-drop, lt-ltb _ _ j, part-padding b (8 + n) e, k)
-
-      pub router-followed : (r : Places) → told b r ≡ pastName 8 n b (afterNamePadded p t) → told b r ≡ parse Router b
-      router-followed r e = e ∙ sym router-there
+  pub router-followed : (r : Places) → told b r ≡ pastName 8 n b (afterNamePadded p t) → told b r ≡ parse Router b
+  router-followed r e = e ∙ sym router-there
 
 module _ (b : List ℕ) (p t n : ℕ) (h : 8 + n + 8 ≤ length b) {m : ℕ} (em : m ≡ at16 b (8 + n)) where
   -- where the name ends
@@ -172,7 +151,7 @@ module _ (b : List ℕ) (p t n : ℕ) (h : 8 + n + 8 ≤ length b) {m : ℕ} (em
   after-is =
       let eight : 8 ≤ length b - a = omega arith in
       let two : 2 ≤ length b - a = omega arith in
-      let read : val (take 2 (drop a b)) ≡ m = sym (em ∙ at16-val b a (omega arith)) in
+      let read : val (take 2 (drop a b)) ≡ m = sym (em ∙ number-16 b a (omega arith)) in
       simp (length-drop, le-ltb _ _ eight, part-is short 2 (drop a b), le-ltb _ _ two, read, part-two)
       (simp (part-is, length-drop, drop-drop, ← sub-add-eq, ← add-assoc))
 
@@ -193,15 +172,8 @@ module _ (b : List ℕ) (p t n : ℕ) (h : 8 + n + 8 ≤ length b) {m : ℕ} (em
       pub padded-unpadded : x ≡ false → told b (Bad fault.padding) ≡ after
       padded-unpadded l = simp (after-is, le-ltb _ _ i, here, le-ltb _ _ j, part-padding b (a + 2 + m + 2 + k) e, l)
 
-module _ {p t : ℕ} (h : p < 65536) (i : t < 4294967296) where
-  router-numbers : Numbers Router p t
-  router-numbers = record { priority = h; lifetime = i; none = λ e. absurd (omega arith) }
-
-  pub router-alone-ranged : Numbers Router p t × (8 ≡ nameAt Router 0) × (asText Router ≡ false)
-  router-alone-ranged = (router-numbers, refl, refl)
-
-  pub router-whole-ranged : (m : ℕ) → Numbers Router p t × (8 ≡ nameAt Router m) × (asText Router ≡ true → m % addressWidth Router ≡ 0)
-  router-whole-ranged m = (router-numbers, refl, λ e. absurd (false≢true e))
+pub router-numbers : {p t : ℕ} → p < 65536 → t < 4294967296 → Numbers Router p t
+router-numbers h i = record { priority = h; lifetime = i; none = λ e. absurd (omega arith) }
 
 -- ---- carriers 4 and 5
 
@@ -238,7 +210,7 @@ module _ (c : Carrier) (b : List ℕ) (z : asText c ≡ true) where
 
 pub attribute-whole-ranged : (c : Carrier) {p w : ℕ} (k : ℕ) → asText c ≡ true → w ≡ addressWidth c → p < 65536
     → Numbers c p 0 × (4 + k * w ≡ nameAt c (k * w)) × (asText c ≡ true → k * w % addressWidth c ≡ 0)
-attribute-whole-ranged c {p} {w} k z e h = (record { priority = h; lifetime = omega arith; none = λ _. refl }, simp z, λ _. rw (← e) (mul-mod-left k w))
+attribute-whole-ranged c {p} {w} k z e h = (no-lifetime c h, simp z, λ _. rw (← e) (mul-mod-left k w))
 
 -- ---- split
 

@@ -1,7 +1,8 @@
 -- What holds of every row of the table, and that each carrier has a number of its own. Assumes nothing.
 use mathlib.Core.Path.{_≡_, refl, sym, ap, _∙_}
 use mathlib.Core.Bool.{true, false, false≢true, true≢false}
-use Prim.Native.Nat.{ℕ, _%_, _^_, _≤_, _<_}
+use Prim.Native.Nat.{ℕ, _*_, _/_, _%_, _^_, _≤_, _<_}
+use native.Mathlib.Nat.{mul-le-mul, div-add-mod'}
 use native.Mathlib.Omega.{arith}
 use lib.ListN.{getD}
 use Rattle.octets.specs.Numbers.{be}
@@ -76,6 +77,13 @@ length-width = by-length (λ w k. (0 < w) × (w ≤ 2)) (omega arith, omega arit
 
 pub address-width : (c : Carrier) → (0 < addressWidth c) × (addressWidth c ≤ 16)
 address-width = by-address (λ w. (0 < w) × (w ≤ 16)) (omega arith, omega arith) (omega arith, omega arith)
+
+-- so m addresses are at most 16 * m octets, counted or as octets of whole addresses
+pub addresses-octets : (c : Carrier) {k m w : ℕ} → k ≤ m → w ≡ addressWidth c → k * w ≤ m * 16
+addresses-octets c h e = mul-le-mul h (rw e (address-width c .1))
+
+pub few-addresses : (c : Carrier) (m n : ℕ) → n % addressWidth c ≡ 0 → n / addressWidth c ≤ m → n ≤ m * 16
+few-addresses c m n e h = omega (arith, div-add-mod' n (addressWidth c), e, addresses-octets c h refl)
 
 -- what has room in one octet has room in a length
 pub length-room : (n : ℕ) → n < 256 → (c : Carrier) → n < 256 ^ lengthWidth c

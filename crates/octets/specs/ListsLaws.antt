@@ -60,6 +60,10 @@ module _ {A : Type 0} where
   all-map P Q [] f h = tt
   all-map P Q (x ∷ xs) f h = (f x (h .0), all-map P Q xs f (h .1))
 
+  pub all-flat : (P : A → Type 0) (ls : List (List A)) → All (All P) ls → All P (flat ls)
+  all-flat P [] h = tt
+  all-flat P (l ∷ ls) h = all-append P l (flat ls) (h .0) (all-flat P ls (h .1))
+
   -- what holds of every element holds at each index
   pub all-at : (P : A → Type 0) (d : A) (l : List A) → All P l → (i : ℕ) → i < length l → P (getD l i d)
   all-at P d [] h i k = absurd (omega arith)

@@ -1,17 +1,17 @@
 -- The laws of numbers as octets, over the width: what is written is read, and what is read is written. Assumes nothing.
 use mathlib.Core.Path.{_≡_, refl, sym, ap, _∙_}
-use mathlib.Core.Bool.{Bool, true, false, _&&_, false≢true}
-use mathlib.Core.List.{List, [], _∷_, _++_, append-assoc, append-nil}
+use mathlib.Core.Bool.{true, false, and-eq-true-iff}
+use mathlib.Core.Logic.{_↔_}
+use mathlib.Core.List.{List, [], _∷_, _++_, append-nil}
 use Prim.Native.Nat.{ℕ, zero, suc, _+_, _*_, _/_, _%_, _^_, _≤_, _<_}
-use native.Mathlib.Nat.{div-one, div-div-eq-div-mul, mul-comm, mul-assoc, pow-suc, add-zero, zero-add, one-mul, add-suc, suc-add}
+use native.Mathlib.Nat.{mul-comm, mul-assoc, pow-suc, add-zero, zero-add, one-mul, add-suc, suc-add, add-assoc}
 use native.Mathlib.Numerals.{add-one}
 use native.Mathlib.Omega.{arith}
 use borrow.Author.Tests.{eqb-true, ne-eqb}
 use lib.Dec.{eqb}
 use lib.ListN.{length, getD, take, drop, length-append, length-drop, drop-of-length-le}
-use lib.Seq.{append-snoc, drop-cons, take-append-le, drop-append-le, take-at, drop-at}
+use lib.Seq.{append-snoc, take-suc, drop-cons, getD-drop, take-append-le, drop-append-le, take-at, drop-at}
 use Rattle.octets.specs.Lists.{All}
-use Rattle.octets.specs.ListsLaws.{all-append}
 use Rattle.octets.specs.Numbers.{be, val, valFrom, at16, at32, numberAt, Octet, Bytes, words, numbersOf, zeros, allZero}
 
 pub bytes-at : (l : List ℕ) → ((i : ℕ) → getD l i 0 < 256) → Bytes l
@@ -21,10 +21,6 @@ bytes-at (x ∷ xs) h = (h 0, bytes-at xs (λ i. h (suc i)))
 pub length-be : (w v : ℕ) → length (be w v) ≡ w
 length-be zero v = refl
 length-be (suc w) v = length-append (be w (v / 256)) (v % 256 ∷ []) ∙ ap (λ (n : ℕ). n + 1) (length-be w (v / 256)) ∙ add-one w
-
-pub bytes-be : (w v : ℕ) → Bytes (be w v)
-bytes-be zero v = tt
-bytes-be (suc w) v = all-append Octet (be w (v / 256)) (v % 256 ∷ []) (bytes-be w (v / 256)) (omega arith, tt)
 
 val-snoc : (a x : ℕ) (l : List ℕ) → valFrom a (l ++ (x ∷ [])) ≡ valFrom a l * 256 + x
 val-snoc a x [] = refl
@@ -50,13 +46,6 @@ be-from w a (x ∷ xs) h =
 pub be-val : (l : List ℕ) → Bytes l → be (length l) (val l) ≡ l
 be-val l h = rw zero-add at (be-from 0 0 l h)
 
--- the octets of a number's last n, after those of the rest
-pub be-add : (m n v : ℕ) → be (m + n) v ≡ be m (v / 256 ^ n) ++ be n v
-be-add m zero v = rw (add-zero, div-one, append-nil)
-be-add m (suc n) v =
-    let e : v / 256 / 256 ^ n ≡ v / 256 ^ suc n = div-div-eq-div-mul v 256 (256 ^ n) ∙ rw (pow-suc, mul-comm 256 (256 ^ n)) in
-    rw add-suc (rw (be-add m n (v / 256)) (append-assoc (be m (v / 256 / 256 ^ n)) (be n (v / 256)) (v % 256 ∷ []) ∙ rw e))
-
 -- four octets are two and two
 pub halves : (v : ℕ) → be 4 v ≡ be 2 (v / 65536) ++ be 2 (v % 65536)
 halves v =
@@ -81,46 +70,36 @@ val-small-from a m (x ∷ xs) h k =
 pub val-small : (l : List ℕ) → Bytes l → val l < 256 ^ length l
 val-small l h = rw one-mul at (val-small-from 0 1 l h (omega arith))
 
--- ---- numbers at an index
-
--- the two octets at an index are the number of the part there
-pub at16-val : (s : List ℕ) (i : ℕ) → i + 1 < length s → at16 s i ≡ val (take 2 (drop i s))
-at16-val s i h =
-    let e : drop i s ≡ getD s i 0 ∷ drop (suc i) s = drop-cons s i 0 (omega arith) in
-    let f : drop (suc i) s ≡ getD s (suc i) 0 ∷ drop (suc (suc i)) s = drop-cons s (suc i) 0 (omega arith) in
-    rw (e, f, add-one) (omega arith)
-
-pub at32-val : (s : List ℕ) (i : ℕ) → i + 3 < length s → at32 s i ≡ val (take 4 (drop i s))
-at32-val s i h =
-    let e : drop i s ≡ getD s i 0 ∷ drop (suc i) s = drop-cons s i 0 (omega arith) in
-    let f : drop (suc i) s ≡ getD s (suc i) 0 ∷ drop (suc (suc i)) s = drop-cons s (suc i) 0 (omega arith) in
-    let g : drop (suc (suc i)) s ≡ getD s (suc (suc i)) 0 ∷ drop (suc (suc (suc i))) s = drop-cons s (suc (suc i)) 0 (omega arith) in
-    let k : drop (suc (suc (suc i))) s ≡ getD s (suc (suc (suc i))) 0 ∷ drop (suc (suc (suc (suc i)))) s = drop-cons s (suc (suc (suc i))) 0 (omega arith) in
-    let p : i + 1 ≡ suc i = omega arith in
-    let q : i + 2 ≡ suc (suc i) = omega arith in
-    let r : i + 2 + 1 ≡ suc (suc (suc i)) = omega arith in
-    rw (e, f, g, k, p, r, q) (omega arith)
-
 -- ---- numbers of a width at an index
 
-pub number-8 : (s : List ℕ) (i : ℕ) → i < length s → getD s i 0 ≡ numberAt 1 i s
+-- none, and an octet more
+pub number-none : (i : ℕ) (s : List ℕ) → 0 ≡ numberAt 0 i s
 unfolding numberAt
-number-8 s i h = rw (drop-cons s i 0 h) (omega arith)
+number-none i s = refl
 
-pub number-16 : (s : List ℕ) (i : ℕ) → i + 1 < length s → at16 s i ≡ numberAt 2 i s
+pub number-next : (w i : ℕ) (s : List ℕ) → i + w < length s → numberAt (suc w) i s ≡ numberAt w i s * 256 + getD s (i + w) 0
 unfolding numberAt
-number-16 s i h = at16-val s i h
+number-next w i s h =
+    let k : w < length (drop i s) = rw length-drop (omega arith) in
+    rw (take-suc (drop i s) w 0 k, val-snoc 0 (getD (drop i s) w 0) (take w (drop i s)), getD-drop i s w 0)
 
-module _ (s : List ℕ) (i : ℕ) {w x : ℕ} (h : i + w ≤ length s) where
-  pub number-one : w ≡ 1 → x ≡ getD s i 0 → x ≡ numberAt w i s
-  number-one e k = rw e (k ∙ number-8 s i (omega arith))
+-- so the numbers of one, two and four octets, as the code makes them
+module _ (s : List ℕ) (i : ℕ) where
+  pub number-8 : i < length s → getD s i 0 ≡ numberAt 1 i s
+  number-8 h = rw (number-next 0 i s (omega arith), ← (number-none i s), add-zero i) (omega arith)
 
-  pub number-two : w ≡ 2 → x ≡ at16 s i → x ≡ numberAt w i s
-  number-two e k = rw e (k ∙ number-16 s i (omega arith))
+  pub number-16 : i + 1 < length s → at16 s i ≡ numberAt 2 i s
+  number-16 h = rw (number-next 1 i s h, ← (number-8 (omega arith)))
 
-pub number-32 : (s : List ℕ) (i : ℕ) → i + 3 < length s → at32 s i ≡ numberAt 4 i s
-unfolding numberAt
-number-32 s i h = at32-val s i h
+  pub number-32 : i + 3 < length s → at32 s i ≡ numberAt 4 i s
+  number-32 h = rw (number-next 3 i s h, number-next 2 i s (omega arith), ← (number-16 (omega arith)), add-assoc i 2 1) (omega arith)
+
+  module _ {w x : ℕ} (h : i + w ≤ length s) where
+    pub number-one : w ≡ 1 → x ≡ getD s i 0 → x ≡ numberAt w i s
+    number-one e k = rw e (k ∙ number-8 (omega arith))
+
+    pub number-two : w ≡ 2 → x ≡ at16 s i → x ≡ numberAt w i s
+    number-two e k = rw e (k ∙ number-16 (omega arith))
 
 -- what follows is not looked at
 pub number-local : (w i : ℕ) (s t : List ℕ) → i + w ≤ length s → numberAt w i (s ++ t) ≡ numberAt w i s
@@ -181,11 +160,18 @@ unfolding allZero
 zeros-zero zero = refl
 zeros-zero (suc n) = zeros-zero n
 
-pub zero-zeros : (l : List ℕ) → allZero l ≡ true → l ≡ zeros (length l)
+pub zero-exactly : (l : List ℕ) → (allZero l ≡ true) ↔ All (λ x. x ≡ 0) l
 unfolding allZero
-zero-zeros [] h = refl
-zero-zeros (x ∷ xs) h = go (eqb x 0) refl h (λ e. zero-zeros xs e)
+zero-exactly [] = (λ _. tt, λ _. refl)
+zero-exactly (x ∷ xs) =
+    let both = and-eq-true-iff (eqb x 0) (allZero xs) in
+    let rest = zero-exactly xs in
+    (λ e. (eqb-true x 0 (both .0 e .0), rest .0 (both .0 e .1)), λ h. both .1 (rw (h .0), rest .1 (h .1)))
+
+-- so they are as many zeros
+pub zero-zeros : (l : List ℕ) → allZero l ≡ true → l ≡ zeros (length l)
+zero-zeros l h = zeros-are l (zero-exactly l .0 h)
   where
-    go : (b : Bool) → eqb x 0 ≡ b → b && allZero xs ≡ true → (allZero xs ≡ true → xs ≡ zeros (length xs)) → x ∷ xs ≡ 0 ∷ zeros (length xs)
-    go true t e ih = let q : x ≡ 0 = eqb-true _ _ t in let r = ih e in cc
-    go false t e ih = absurd (false≢true e)
+    zeros-are : (l : List ℕ) → All (λ x. x ≡ 0) l → l ≡ zeros (length l)
+    zeros-are [] h = refl
+    zeros-are (x ∷ xs) h = let q : x ≡ 0 = h .0 in let r = zeros-are xs (h .1) in cc

@@ -1,8 +1,9 @@
 -- `blocks::after_name` meets its contract: a law of `PlacesLaws` for each way out. Assumes nothing.
+use mathlib.Core.Path.{sym}
 use native.Mathlib.Omega.{arith}
 use borrow.Author.Needs.{needs}
 use Rattle.carriers.specs.CarriersLaws.{length-width}
-use Rattle.blocks.specs.PlacesLaws.{after-name-length-cut, after-name-addresses-cut, after-name-whole, named-whole-ranged}
+use Rattle.blocks.specs.PlacesLaws.{after-name-length-cut, after-name-addresses-cut, after-name-whole, no-lifetime, whole-ranged}
 use Rattle.blocks.proofs.after_name.Statement.{statement}
 use Rattle.blocks.proofs.after_name.Tie as tie
 
@@ -18,7 +19,7 @@ returns-2 c = search (needs, after-name-addresses-cut)
 returns-3 : tie.Need-returns-3
 returns-3 c =
     let k = c .before .before .before in
-    (search (needs, after-name-whole), (omega arith, named-whole-ranged _ (k .before .before .pre .0) (k .length-width .ensures) (omega arith) _))
+    (search (needs, after-name-whole), (omega arith, whole-ranged _ (k .before .before .pre .0 .1) (no-lifetime _ (omega arith)) (sym (k .before .before .pre .0 .0)) (k .length-width .ensures) _))
 
 pub after-name-spec : {M : Type 1} → statement M
 after-name-spec =
