@@ -1,6 +1,6 @@
 -- The laws of characters and of reading, case by case, and that what is written is read back. Assumes nothing.
 use mathlib.Core.Path.{_≡_, refl, sym, ap, _∙_}
-use mathlib.Core.Bool.{Bool, true, false, _&&_, _||_, false≢true}
+use mathlib.Core.Bool.{Bool, true, false, _||_, false≢true, and-eq-true-iff}
 use mathlib.Core.List.{List, [], _∷_, _++_}
 use Prim.Native.Nat.{ℕ, _+_, _-_, _*_, _/_, _%_, _≤_, _<_}
 use native.Mathlib.Numerals.{add-one}
@@ -15,12 +15,7 @@ use Rattle.hexes.specs.Hexes.{digit, value, separator, octet, Read, octe
 -- ---- characters
 
 range-true : (lo hi x : ℕ) → range lo hi x ≡ true → (lo ≤ x) × (x ≤ hi)
-range-true lo hi x = go (leb lo x) refl (leb x hi) refl
-  where
-    go : (a : Bool) → leb lo x ≡ a → (b : Bool) → leb x hi ≡ b → a && b ≡ true → (lo ≤ x) × (x ≤ hi)
-    go true p true q e = (leb-true lo x p, leb-true x hi q)
-    go true p false q e = absurd (false≢true e)
-    go false p b q e = absurd (false≢true e)
+range-true lo hi x e = let q = and-eq-true-iff (leb lo x) (leb x hi) .0 e in (leb-true _ _ (q .0), leb-true _ _ (q .1))
 
 -- to show something of a digit, show it of each of the three ranges
 pub by-digit : (x : ℕ) {P : Type 0} → digit x ≡ true → (48 ≤ x → x ≤ 57 → P) → (65 ≤ x → x ≤ 70 → P) → (97 ≤ x → x ≤ 102 → P) → P

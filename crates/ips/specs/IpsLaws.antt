@@ -1,15 +1,14 @@
 -- The laws of texts: at most 15 characters for an IPv4 address and 39 for an IPv6 address, of digits, dots and colons only, so that a
 -- text can stand in a JSON string as it is. Assumes nothing.
 use mathlib.Core.Path.{_≡_, refl, _∙_}
-use mathlib.Core.Bool.{Bool, true, false, cond}
+use mathlib.Core.Bool.{true, false, cond}
 use mathlib.Core.Logic.{inl, inr}
 use mathlib.Core.List.{List, [], _∷_, map}
 use Prim.Native.Nat.{ℕ, suc, _+_, _-_, _*_, _≤_, _<_}
 use native.Mathlib.Nat.{mul-suc}
 use native.Mathlib.Omega.{arith}
-use borrow.Author.Tests.{eqb-true, eqb-false}
-use lib.Dec.{eqb}
 use lib.ListN.{length, take, drop, length-append, length-take, length-drop}
+use Rattle.octets.specs.Cases.{by-test, by-equal}
 use Rattle.octets.specs.Numbers.{Octet, Bytes, words}
 use Rattle.octets.specs.NumbersLaws.{words-length, words-small}
 use Rattle.octets.specs.Lists.{All}
@@ -24,19 +23,11 @@ use Rattle.ips.specs.RunLaws.{run-inside}
 
 pub by-run : (P : List ℕ → Type 0) (r : Run) (fs : List ℕ) → (r .count ≡ 0 → P (colons fs)) → ((r .count ≡ 0 → ⊥) → P (around r fs)) → P (shortened r fs)
 unfolding shortened
-by-run P r fs none some = go (eqb (r .count) 0) refl
-  where
-    go : (b : Bool) → eqb (r .count) 0 ≡ b → P (cond b (colons fs) (around r fs))
-    go true t = none (eqb-true _ _ t)
-    go false t = some (eqb-false _ _ t)
+by-run P r fs = by-equal P (r .count) 0 (colons fs) (around r fs)
 
 pub by-mapped : (P : List ℕ → Type 0) (a : List ℕ) → (mapped a ≡ true → P (mixed a)) → (mapped a ≡ false → P (shortened (runOf (words a)) (words a))) → P (text6 a)
 unfolding text6
-by-mapped P a is isnt = go (mapped a) refl
-  where
-    go : (b : Bool) → mapped a ≡ b → P (cond b (mixed a) (shortened (runOf (words a)) (words a)))
-    go true t = is t
-    go false t = isnt t
+by-mapped P a = by-test (mapped a) (λ b. P (cond b (mixed a) (shortened (runOf (words a)) (words a))))
 
 -- ---- lengths
 
@@ -47,7 +38,7 @@ module _ (c w : ℕ) (f : ℕ → List ℕ) (h : (x : ℕ) → length (f x) ≤ 
 
   joined-length : (xs : List ℕ) → length (joined c (map f xs)) ≤ suc w * length xs - 1
   joined-length [] = omega arith
-  joined-length (x ∷ xs) = rw (mul-suc (suc w) (length xs)) (simp length-append (omega (arith, h x, led-length xs)))
+  joined-length (x ∷ xs) = omega (arith, led-length (x ∷ xs))
 
 pub text4-length : (a : List ℕ) → length a ≡ 4 → length (text4 a) ≤ 15
 unfolding text4
@@ -90,7 +81,7 @@ module _ (P Q : ℕ → Type 0) (c : ℕ) (f : ℕ → List ℕ) (digits : (x : 
 
   joined-all : (xs : List ℕ) → All Q xs → All P (joined c (map f xs))
   joined-all [] h = tt
-  joined-all (x ∷ xs) h = all-append P (f x) (led c (map f xs)) (all-map Digit P (f x) digits (parts x (h .0))) (led-all xs (h .1))
+  joined-all (x ∷ xs) h = led-all (x ∷ xs) h .1
 
 pub text4-all : (P : ℕ → Type 0) → ((x : ℕ) → Digit x → P x) → P 46 → (a : List ℕ) → Bytes a → All P (text4 a)
 unfolding text4

@@ -1,18 +1,15 @@
 -- The laws of numerals: how long they are, of which characters, that none begins with a needless zero, and that each is of one number,
 -- in any base up to 16. Assumes nothing.
 use mathlib.Core.Path.{_≡_, refl, sym, ap, _∙_}
-use mathlib.Core.Bool.{Bool, true, false, cond}
 use mathlib.Core.Logic.{inl, inr}
 use mathlib.Core.List.{List, [], _∷_, _++_}
 use Prim.Native.Nat.{ℕ, zero, suc, _+_, _-_, _*_, _/_, _%_, _^_, _≤_, _<_}
 use native.Mathlib.Nat.{pow-suc, pow-zero, one-mul, mod-lt, div-add-mod', div-lt-iff-lt-mul}
 use native.Mathlib.Omega.{arith}
-use borrow.Author.Tests.{ltb-true, ltb-false}
-use lib.Dec.{ltb}
-use lib.ListN.{length, getD, take, drop, length-append, List·getD-append}
-use lib.Seq.{take-at, drop-at}
+use lib.ListN.{length, getD, length-append, List·getD-append}
+use Rattle.octets.specs.Cases.{by-less}
 use Rattle.octets.specs.Lists.{All}
-use Rattle.octets.specs.ListsLaws.{all-append}
+use Rattle.octets.specs.ListsLaws.{part-apart, all-append}
 use Rattle.ips.specs.Ips.{digit, numeral}
 use Rattle.ips.specs.Claims.{Digit}
 
@@ -20,11 +17,7 @@ use Rattle.ips.specs.Claims.{Digit}
 
 by-ten : (P : ℕ → Type 0) (d : ℕ) → (d < 10 → P (48 + d)) → (10 ≤ d → P (97 + (d - 10))) → P (digit d)
 unfolding digit
-by-ten P d low high = go (ltb d 10) refl
-  where
-    go : (b : Bool) → ltb d 10 ≡ b → P (cond b (48 + d) (97 + (d - 10)))
-    go true t = low (ltb-true _ _ t)
-    go false t = high (ltb-false _ _ t)
+by-ten P d = by-less P d 10 (48 + d) (97 + (d - 10))
 
 pub digit-sign : (d : ℕ) → d < 16 → Digit (digit d)
 digit-sign d h = by-ten Digit d (λ l. inl (omega arith, omega arith)) (λ g. inr (omega arith, omega arith))
@@ -43,11 +36,7 @@ zero-sign = refl
 -- by whether one digit is enough
 by-base : (P : List ℕ → Type 0) (b k n : ℕ) → (n < b → P (digit n ∷ [])) → (b ≤ n → P (numeral b k (n / b) ++ (digit (n % b) ∷ []))) → P (numeral b (suc k) n)
 unfolding numeral
-by-base P b k n one more = go (ltb n b) refl
-  where
-    go : (t : Bool) → ltb n b ≡ t → P (cond t (digit n ∷ []) (numeral b k (n / b) ++ (digit (n % b) ∷ [])))
-    go true t = one (ltb-true _ _ t)
-    go false t = more (ltb-false _ _ t)
+by-base P b k n = by-less P n b (digit n ∷ []) (numeral b k (n / b) ++ (digit (n % b) ∷ []))
 
 pub numeral-some : (b k n : ℕ) → 1 ≤ length (numeral b k n)
 unfolding numeral
@@ -70,9 +59,9 @@ one-not-more b k n x y q = omega (arith, numeral-some b k n, simp length-append 
 snoc-same : (u v : List ℕ) (x y : ℕ) → u ++ (x ∷ []) ≡ v ++ (y ∷ []) → (u ≡ v) × (x ≡ y)
 snoc-same u v x y q =
     let long : length u ≡ length v = omega (arith, simp length-append at (ap length q)) in
-    let front : u ≡ v = sym (take-at u (x ∷ []) (length v) long) ∙ ap (λ (l : List ℕ). take (length v) l) q ∙ take-at v (y ∷ []) (length v) refl in
-    let back : x ∷ [] ≡ y ∷ [] = sym (drop-at u (x ∷ []) (length v) long) ∙ ap (λ (l : List ℕ). drop (length v) l) q ∙ drop-at v (y ∷ []) (length v) refl in
-    (front, cc)
+    let k = part-apart u v (x ∷ []) (y ∷ []) long q in
+    let last : x ∷ [] ≡ y ∷ [] = k .1 in
+    (k .0, cc)
 
 module _ (b : ℕ) (some : 0 < b) (small : b ≤ 16) where
   -- a number of k + 1 digits with its last one gone

@@ -7,9 +7,10 @@ use mathlib.Core.List.{List, [], _∷_}
 use Prim.Native.Nat.{ℕ, zero, suc, _+_, _-_, _≤_, _<_}
 use native.Mathlib.Nat.{add-zero, zero-add, add-suc, suc-add, sub-zero}
 use native.Mathlib.Omega.{arith}
-use borrow.Author.Tests.{ltb-true, ltb-false, eqb-true, eqb-false}
-use lib.Dec.{eqb, ltb}
+use borrow.Author.Tests.{eqb-true, eqb-false}
+use lib.Dec.{eqb}
 use lib.ListN.{length, getD, drop, length-drop}
+use Rattle.octets.specs.Cases.{by-less}
 use Rattle.ips.specs.declared.Run.{Run}
 use Rattle.ips.specs.Ips.{zerosAhead, run, longer, longestFrom, shortening, runOf}
 use Rattle.ips.specs.Claims.{Zeros, Longest}
@@ -83,24 +84,15 @@ longest-from i [] =
 longest-from i (f ∷ fs) = go (longestFrom (i + 1) fs) (longest-from (i + 1) fs)
   where
     go : (q : Run) → From (i + 1) fs q → From i (f ∷ fs) (longer (run i (zerosAhead (f ∷ fs))) q)
-    go q h = by (ltb (zerosAhead (f ∷ fs)) (q .count)) refl
-      where
-        by : (b : Bool) → ltb (zerosAhead (f ∷ fs)) (q .count) ≡ b → From i (f ∷ fs) (cond b q (run i (zerosAhead (f ∷ fs))))
-        by true t =
-            let e : q .start - i ≡ suc (q .start - (i + 1)) = omega (arith, h .0) in
-            (omega (arith, h .0), rw e (longest-after (h .1) (ltb-true _ _ t)))
-        by false t =
-            let e : i - i ≡ 0 = omega arith in
-            (omega arith, rw e (longest-ahead (h .1) (ltb-false _ _ t)))
+    go q h =
+        by-less (From i (f ∷ fs)) (zerosAhead (f ∷ fs)) (q .count) q (run i (zerosAhead (f ∷ fs)))
+        (λ t. let e : q .start - i ≡ suc (q .start - (i + 1)) = omega (arith, h .0) in (omega (arith, h .0), rw e (longest-after (h .1) t)))
+        (λ t. let e : i - i ≡ 0 = omega arith in (omega arith, rw e (longest-ahead (h .1) t)))
 
 -- ---- the run that is shortened
 
 by-count : (P : Run → Type 0) (r : Run) → (r .count < 2 → P (run 0 0)) → (2 ≤ r .count → P r) → P (shortening r)
-by-count P r few many = go (ltb (r .count) 2) refl
-  where
-    go : (b : Bool) → ltb (r .count) 2 ≡ b → P (cond b (run 0 0) r)
-    go true t = few (ltb-true _ _ t)
-    go false t = many (ltb-false _ _ t)
+by-count P r = by-less P (r .count) 2 (run 0 0) r
 
 longest-of : (fs : List ℕ) → Longest fs (longestFrom 0 fs .start) (longestFrom 0 fs .count)
 longest-of fs = rw (sub-zero (longestFrom 0 fs .start)) at (longest-from 0 fs .1)

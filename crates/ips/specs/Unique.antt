@@ -12,7 +12,7 @@ use lib.Seq.{length-take-le, getD-take, getD-drop, drop-cons, ext-getD}
 use Rattle.octets.specs.Numbers.{Octet, Bytes, at16, words, numbersOf, zeros, allZero}
 use Rattle.octets.specs.NumbersLaws.{bytes-getD, words-length, words-small, numbers-words, zero-zeros}
 use Rattle.octets.specs.Lists.{All}
-use Rattle.octets.specs.ListsLaws.{all-take, all-drop, all-map}
+use Rattle.octets.specs.ListsLaws.{all-right, all-take, all-drop, all-map}
 use Rattle.ips.specs.Ips.{decimal, hex, led, joined, text4, runOf, colons, around, shortened, mapped, mixed, text6}
 use Rattle.ips.specs.Claims.{Field, Fields, Zeros, Digit}
 use Rattle.ips.specs.NumeralLaws.{numeral-some, numeral-same}
@@ -98,13 +98,7 @@ module _ (Q : ℕ → Type 0) (c : ℕ) (f : ℕ → List ℕ) (some : (x : ℕ)
   joined-same [] [] r s hx hy hr hs e = (refl, e)
   joined-same [] (y ∷ ys) r s hx hy hr hs e = absurd (not-part y r (led c (map f ys) ++ s) (hy .0) hr (rw append-assoc at e))
   joined-same (x ∷ xs) [] r s hx hy hr hs e = absurd (not-part x s (led c (map f xs) ++ r) (hx .0) hs (sym (rw append-assoc at e)))
-  joined-same (x ∷ xs) (y ∷ ys) r s hx hy hr hs e =
-      let q : f x ++ (led c (map f xs) ++ r) ≡ f y ++ (led c (map f ys) ++ s) = simp append-assoc at e in
-      let k = part-same x y xs ys r s (hx .0) (hy .0) hr hs q in
-      let rest = led-same xs ys r s (hx .1) (hy .1) hr hs (k .1) in
-      let head : x ≡ y = k .0 in
-      let tail : xs ≡ ys = rest .0 in
-      (cc, rest .1)
+  joined-same (x ∷ xs) (y ∷ ys) r s hx hy hr hs e = led-same (x ∷ xs) (y ∷ ys) r s hx hy hr hs (ap (λ (l : List ℕ). c ∷ l) e)
 
 -- ---- IPv4
 
@@ -208,15 +202,11 @@ mapped-octets a h l e =
     sym (take-append-drop 10 a) ∙ ap (λ (r : List ℕ). r ++ drop 10 a) front ∙ ap (λ (r : List ℕ). zeros 10 ++ r) back
 
 -- no dot stands in fields, and one in mixed notation
-middle : (P : ℕ → Type 0) (u v : List ℕ) (c : ℕ) → All P (u ++ (c ∷ v)) → P c
-middle P [] v c h = h .0
-middle P (x ∷ u) v c h = middle P u v c (h .1)
-
 has-dot : (a : List ℕ) → length a ≡ 4 → Without 46 (text4 a) → ⊥
 unfolding text4
 has-dot [] l h = omega arith
 has-dot (x ∷ []) l h = omega arith
-has-dot (x ∷ y ∷ a) l h = middle (λ x. x ≡ 46 → ⊥) (decimal x) (decimal y ++ led 46 (map decimal a)) 46 h refl
+has-dot (x ∷ y ∷ a) l h = all-right (λ x. x ≡ 46 → ⊥) (decimal x) (46 ∷ (decimal y ++ led 46 (map decimal a))) h .0 refl
 
 mixed-not-fields : (a b : List ℕ) → Bytes b → length a ≡ 16 → mixed a ≡ shortened (runOf (words b)) (words b) → ⊥
 unfolding mixed

@@ -3,12 +3,13 @@ use mathlib.Core.Path.{_≡_, refl, sym, ap, _∙_}
 use mathlib.Core.Bool.{Bool, true, false, cond}
 use mathlib.Core.List.{List, [], _∷_, _++_, map, append-assoc, append-nil}
 use Prim.Native.Nat.{ℕ, zero, suc, _+_, _-_, _*_, _/_, _%_, _^_, _≤_, _<_}
+use native.Mathlib.Nat.{add-zero}
 use native.Mathlib.Numerals.{add-one}
 use native.Mathlib.Omega.{arith}
 use borrow.Author.Tests.{lt-ltb, le-ltb, eq-eqb, ne-eqb}
 use lib.Dec.{eqb}
 use lib.ListN.{length, getD, take, drop, length-append, take-append-drop, drop-of-length-le}
-use lib.Seq.{drop-cons, take-suc, take-all}
+use lib.Seq.{drop-cons, getD-drop, take-suc, take-all}
 use Rattle.octets.specs.Numbers.{at16, words, allZero}
 use Rattle.octets.specs.Over.{Wrote}
 use Rattle.octets.specs.OverLaws.{then}
@@ -16,7 +17,7 @@ use Rattle.ips.specs.declared.Run.{Run}
 use Rattle.ips.specs.Ips.{digit, numeral, decimal, hex, led, text4, zerosAhead, run, longer, longestFrom, shortening, runOf, colons, around, shortened, mapped, mixed, text6}
 use Rattle.ips.specs.NumeralLaws.{fewer, one-digit}
 use Rattle.ips.specs.RunLaws.{run-inside}
-use Rattle.octets.specs.NumbersLaws.{words-length}
+use Rattle.octets.specs.NumbersLaws.{words-length, words-cons}
 
 -- ---- numbers
 
@@ -77,16 +78,18 @@ one-zero f n e = rw (eq-eqb f 0 e)
 pub no-zero : (f n : ℕ) → (f ≡ 0 → ⊥) → 0 ≡ cond (eqb f 0) (n + 1) 0
 no-zero f n h = rw (ne-eqb f 0 h)
 
+pub fields-of-drop : (k : ℕ) (a : List ℕ) → words (drop (2 * k) a) ≡ drop k (words a)
+unfolding words
+fields-of-drop zero a = refl
+fields-of-drop (suc k) [] = let e : 2 * suc k ≡ suc (suc (2 * k)) = omega arith in rw e
+fields-of-drop (suc k) (x ∷ []) = let e : 2 * suc k ≡ suc (suc (2 * k)) = omega arith in rw e
+fields-of-drop (suc k) (x ∷ y ∷ a) = let e : 2 * suc k ≡ suc (suc (2 * k)) = omega arith in rw (e, fields-of-drop k a)
+
 -- the field at an index is the number of its two octets
 pub field-at : (a : List ℕ) (i : ℕ) → 2 * i + 1 < length a → getD (words a) i 0 ≡ at16 a (2 * i)
-unfolding words
-field-at [] i h = absurd (omega arith)
-field-at (x ∷ []) i h = absurd (omega arith)
-field-at (x ∷ y ∷ a) zero h = refl
-field-at (x ∷ y ∷ a) (suc i) h =
-    let e : 2 * suc i ≡ suc (suc (2 * i)) = omega arith in
-    let f : suc (suc (2 * i)) + 1 ≡ suc (suc (2 * i + 1)) = omega arith in
-    rw (e, f) (field-at a i (omega arith))
+field-at a i h =
+    rw (add-zero i) at (sym (getD-drop i (words a) 0 0))
+    ∙ ap (λ (l : List ℕ). getD l 0 0) (sym (fields-of-drop i a) ∙ words-cons a (2 * i) h)
 
 -- one field more, from the last back
 pub zeros-turn : (a : List ℕ) (i z g : ℕ) → 2 * i + 1 < length a → g ≡ at16 a (2 * i) → z ≡ zerosAhead (drop (i + 1) (words a))
@@ -116,13 +119,6 @@ fields-of-take zero a = refl
 fields-of-take (suc k) [] = let e : 2 * suc k ≡ suc (suc (2 * k)) = omega arith in rw e
 fields-of-take (suc k) (x ∷ []) = let e : 2 * suc k ≡ suc (suc (2 * k)) = omega arith in rw e
 fields-of-take (suc k) (x ∷ y ∷ a) = let e : 2 * suc k ≡ suc (suc (2 * k)) = omega arith in rw (e, fields-of-take k a)
-
-pub fields-of-drop : (k : ℕ) (a : List ℕ) → words (drop (2 * k) a) ≡ drop k (words a)
-unfolding words
-fields-of-drop zero a = refl
-fields-of-drop (suc k) [] = let e : 2 * suc k ≡ suc (suc (2 * k)) = omega arith in rw e
-fields-of-drop (suc k) (x ∷ []) = let e : 2 * suc k ≡ suc (suc (2 * k)) = omega arith in rw e
-fields-of-drop (suc k) (x ∷ y ∷ a) = let e : 2 * suc k ≡ suc (suc (2 * k)) = omega arith in rw (e, fields-of-drop k a)
 
 led-append : (xs ys : List ℕ) → led 58 (map hex (xs ++ ys)) ≡ led 58 (map hex xs) ++ led 58 (map hex ys)
 led-append [] ys = refl

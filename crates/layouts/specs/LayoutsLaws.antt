@@ -1,7 +1,7 @@
 -- How many octets a record takes in each carrier, and that a record that can be written fits its carrier. Assumes nothing.
-use mathlib.Core.Path.{_≡_, refl, sym, ap, ap₂, _∙_}
+use mathlib.Core.Path.{_≡_, refl, ap, ap₂, _∙_}
 use mathlib.Core.Bool.{Bool, true, false, cond, true≢false}
-use mathlib.Core.List.{List, [], _∷_, _++_, append-assoc, append-nil}
+use mathlib.Core.List.{List, [], _∷_, append-nil}
 use Prim.Native.Nat.{ℕ, _+_, _-_, _*_, _/_, _%_, _≤_, _<_}
 use native.Mathlib.Omega.{arith}
 use lib.ListN.{length, length-append}
@@ -11,7 +11,7 @@ use Rattle.carriers.specs.declared.Carrier.the-variants.{Dhcp4, Router}
 use Rattle.carriers.specs.declared.Form.{Form}
 use Rattle.carriers.specs.declared.Form.the-variants.{Wire, Padded, Text}
 use Rattle.carriers.specs.Carriers.{headerOf, isJoined, addressWidth, formOf, textIn, asText}
-use Rattle.carriers.specs.CarriersLaws.{headed, by-address, length-width, length-room, by-router}
+use Rattle.carriers.specs.CarriersLaws.{headed, by-address, length-width, few-addresses, length-room, by-router}
 use Rattle.texts.specs.Convert.{text-length}
 use Rattle.blocks.specs.Block.{Fields, layout, unpadded, sizeBy, FitsBy, Fits}
 use Rattle.blocks.specs.Sizes.{length-layout, layout-possible, fits-full}
@@ -51,11 +51,6 @@ pub joined-length : (rs : List Fields) → length (joinedOf rs) ≡ joinedOctets
 joined-length [] = refl
 joined-length (r ∷ rs) = length-append (instanceOf r) (joinedOf rs) ∙ ap₂ (λ (m n : ℕ). m + n) (instance-length r) (joined-length rs)
 
-pub joined-append : (rs ss : List Fields) → joinedOf (rs ++ ss) ≡ joinedOf rs ++ joinedOf ss
-joined-append [] ss = refl
-joined-append (r ∷ rs) ss =
-    ap (λ (l : List ℕ). instanceOf r ++ l) (joined-append rs ss) ∙ sym (append-assoc (instanceOf r) (joinedOf rs) (joinedOf ss))
-
 -- before the padding of carrier 3
 pub unpadded-small : (full : Bool) (n a p : ℕ) → unpadded full n a p ≤ overhead + (n + a + p)
 unpadded-small true n a p = omega arith
@@ -75,9 +70,6 @@ body-small c full n a p = go (formOf c) full
 
 whole-addresses : (c : Carrier) (n : ℕ) → 0 < n → n % addressWidth c ≡ 0 → (0 < n / addressWidth c) × (n ≡ n / addressWidth c * addressWidth c)
 whole-addresses c n h = by-address (λ w. n % w ≡ 0 → (0 < n / w) × (n ≡ n / w * w)) (λ e. (omega arith, omega arith)) (λ e. (omega arith, omega arith)) c
-
-pub few-addresses : (c : Carrier) (n : ℕ) → n % addressWidth c ≡ 0 → n / addressWidth c ≤ limit.addresses → n ≤ mostAddresses
-few-addresses c n = by-address (λ w. n % w ≡ 0 → n / w ≤ limit.addresses → n ≤ mostAddresses) (λ e h. omega arith) (λ e h. omega arith) c
 
 carried-name : (text : Bool) (r : Fields) → length (carriedAs text r .name) ≤ length (r .name)
 carried-name true r = rw text-length (omega arith)
@@ -115,7 +107,7 @@ module _ (c : Carrier) (r : Fields) (h : Writable c r) where
   writable-small = go (r .full) refl
     where
       go : (full : Bool) → r .full ≡ full → (length (r .addresses) ≤ mostAddresses) × (length (r .parameters) ≤ limit.parameters)
-      go true e = let t = h .tail e in (few-addresses c (length (r .addresses)) (t .whole) (t .few), t .short)
+      go true e = let t = h .tail e in (few-addresses c limit.addresses (length (r .addresses)) (t .whole) (t .few), t .short)
       go false e = let k = h .name-only e in rw (k .0, k .1) (omega arith, omega arith)
 
   -- so has its body

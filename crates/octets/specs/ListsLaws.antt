@@ -1,11 +1,14 @@
--- The laws of `All` and `flat`, and of parts of a list. Assumes nothing.
+-- The laws of `All` and `flat`, of parts of a list, and of walks that first skip some elements. Assumes nothing.
 use mathlib.Core.Path.{_≡_, refl, sym, ap, _∙_}
 use mathlib.Core.List.{List, [], _∷_, _++_, map, map-append, append-assoc}
 use Prim.Native.Nat.{ℕ, zero, suc, _*_, _-_, _≤_, _<_}
 use native.Mathlib.Numerals.{unary-clauses}
 use native.Mathlib.Omega.{arith}
-use lib.ListN.{length, getD, take, drop, length-append, length-drop}
+use borrow.Author.Tests.{ltb-true, ltb-false}
+use lib.Dec.{ltb}
+use lib.ListN.{length, getD, take, drop, length-append, length-drop, drop-of-length-le}
 use lib.Seq.{take-all, take-nil, take-at, drop-at}
+use Rattle.octets.specs.Cases.{by-test}
 use Rattle.octets.specs.Lists.{All, flat}
 
 module _ {A : Type 0} where
@@ -75,3 +78,24 @@ module _ {A : Type 0} where
       → length (flat (map f l)) ≤ length l * m
   flat-few f P m [] each h = omega arith
   flat-few f P m (x ∷ l) each h = omega (arith, length-append (f x) (flat (map f l)), each x (h .0), flat-few f P m l each (h .1))
+
+-- a walk F over a list, with so many elements still to be skipped
+module _ {A R : Type 0} (F : ℕ → List A → R) (step : (k : ℕ) (x : A) (xs : List A) → F (suc k) (x ∷ xs) ≡ F k xs) where
+  -- it goes on behind them where they are there
+  pub skip-within : (k : ℕ) (l : List A) → k ≤ length l → F k l ≡ F 0 (drop k l)
+  skip-within zero l h = refl
+  skip-within (suc k) [] h = absurd (omega arith)
+  skip-within (suc k) (x ∷ xs) h = step k x xs ∙ skip-within k xs (omega arith)
+
+  -- and answers r where they are not, if that is its answer at the end
+  pub skip-past : {r : R} → ((k : ℕ) → F (suc k) [] ≡ r) → (k : ℕ) (l : List A) → length l < k → F k l ≡ r
+  skip-past end zero l h = absurd (omega arith)
+  skip-past end (suc k) [] h = end k
+  skip-past end (suc k) (x ∷ xs) h = step k x xs ∙ skip-past end k xs (omega arith)
+
+  -- so it always goes on behind them if it ends alike with elements to be skipped and with none
+  pub skip-any : ((k : ℕ) → F (suc k) [] ≡ F 0 []) → (k : ℕ) (l : List A) → F k l ≡ F 0 (drop k l)
+  skip-any end k l =
+      by-test (ltb (length l) k) (λ _. F k l ≡ F 0 (drop k l))
+      (λ t. let h : length l < k = ltb-true _ _ t in skip-past end k l h ∙ ap (F 0) (sym (drop-of-length-le l {i = k} (omega arith))))
+      (λ t. skip-within k l (ltb-false _ _ t))

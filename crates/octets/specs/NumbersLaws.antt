@@ -1,5 +1,5 @@
 -- The laws of numbers as octets, over the width: what is written is read, and what is read is written. Assumes nothing.
-use mathlib.Core.Path.{_≡_, refl, sym, ap, _∙_}
+use mathlib.Core.Path.{_≡_, refl, sym, ap, ap₂, _∙_}
 use mathlib.Core.Bool.{true, false, and-eq-true-iff}
 use mathlib.Core.Logic.{_↔_}
 use mathlib.Core.List.{List, [], _∷_, _++_, append-nil}
@@ -12,7 +12,7 @@ use lib.Dec.{eqb}
 use lib.ListN.{length, getD, take, drop, length-append, length-drop, drop-of-length-le}
 use lib.Seq.{append-snoc, take-suc, drop-cons, getD-drop, take-append-le, drop-append-le, take-at, drop-at}
 use Rattle.octets.specs.Lists.{All}
-use Rattle.octets.specs.Numbers.{be, val, valFrom, at16, at32, numberAt, Octet, Bytes, words, numbersOf, zeros, allZero}
+use Rattle.octets.specs.Numbers.{be, val, valFrom, at16, at32, numberAt, Bytes, words, numbersOf, zeros, allZero}
 
 pub bytes-at : (l : List ℕ) → ((i : ℕ) → getD l i 0 < 256) → Bytes l
 bytes-at [] h = tt
@@ -130,7 +130,36 @@ words-small [] o = tt
 words-small (a ∷ []) o = tt
 words-small (a ∷ b ∷ v) o = (omega (arith, o .0, o .1 .0), words-small v (o .1 .1))
 
--- what was read is written
+-- one more, and none
+pub words-cons : (s : List ℕ) (i : ℕ) → i + 1 < length s → words (drop i s) ≡ at16 s i ∷ words (drop (i + 2) s)
+unfolding words
+words-cons s i h =
+    let a : i + 1 ≡ suc i = omega arith in
+    let b : i + 2 ≡ suc (suc i) = omega arith in
+    rw (a, b) (ap words (drop-cons s i 0 (omega arith) ∙ ap (λ (l : List ℕ). getD s i 0 ∷ l) (drop-cons s (suc i) 0 (omega arith))))
+
+words-short : (s : List ℕ) → length s ≤ 1 → words s ≡ []
+unfolding words
+words-short [] h = refl
+words-short (a ∷ []) h = refl
+words-short (a ∷ b ∷ s) h = absurd (omega arith)
+
+pub words-end : (s : List ℕ) (i : ℕ) → length s ≤ i + 1 → words (drop i s) ≡ []
+words-end s i h = words-short (drop i s) (simp length-drop (omega arith))
+
+pub length-numbers : (ws : List ℕ) → length (numbersOf ws) ≡ 2 * length ws
+length-numbers [] = refl
+length-numbers (w ∷ ws) = let i = length-numbers ws in omega arith
+
+-- what was written is read
+pub words-numbers : (ws : List ℕ) → All (λ w. w < 65536) ws → words (numbersOf ws) ≡ ws
+unfolding words
+words-numbers [] h = refl
+words-numbers (w ∷ ws) h =
+    let e : w / 256 % 256 * 256 + w % 256 ≡ w = omega (arith, h .0) in
+    ap₂ (λ (x : ℕ) (l : List ℕ). x ∷ l) e (words-numbers ws (h .1))
+
+-- and what was read is written
 pub numbers-words : (v : List ℕ) → Bytes v → length v % 2 ≡ 0 → numbersOf (words v) ≡ v
 unfolding words
 numbers-words [] o h = refl

@@ -2,13 +2,14 @@
 use mathlib.Core.Path.{_≡_, refl, sym, ap, ap₂, _∙_}
 use mathlib.Core.Bool.{true, false, cond}
 use mathlib.Core.List.{List, [], _∷_, _++_, append-nil}
-use Prim.Native.Nat.{ℕ, zero, suc, _+_, _-_, _≤_, _<_}
+use Prim.Native.Nat.{ℕ, suc, _+_, _-_, _≤_, _<_}
 use native.Mathlib.Nat.{add-zero}
 use native.Mathlib.Omega.{arith}
 use borrow.Author.Tests.{lt-ltb, le-ltb, ne-eqb}
 use lib.Dec.{ltb}
 use lib.ListN.{length, getD, take, drop, length-append, length-drop, drop-of-length-le}
 use lib.Seq.{drop-drop, getD-drop, append-snoc, take-at, drop-at}
+use Rattle.octets.specs.ListsLaws.{skip-any}
 use Rattle.octets.specs.Numbers.{at16}
 use Rattle.octets.specs.Fields.{putCounted}
 use Rattle.numbers.specs.Fault as fault
@@ -22,9 +23,7 @@ use Rattle.reading.specs.Reading.{Yield, discarded, yields, ahead, insta
 -- octets to be skipped are skipped
 pub instances-skip : (k : ℕ) (l : List ℕ) → instancesFrom k l ≡ instancesFrom 0 (drop k l)
 unfolding instancesFrom
-instances-skip zero l = refl
-instances-skip (suc k) [] = refl
-instances-skip (suc k) (x ∷ xs) = instances-skip k xs
+instances-skip = skip-any instancesFrom (λ k x xs. refl) (λ k. refl)
 
 instances-first : (l : List ℕ) → 0 < length l
     → instancesFrom 0 l

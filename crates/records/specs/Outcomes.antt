@@ -2,7 +2,7 @@
 use mathlib.Core.Path.{_≡_, refl, sym, ap, _∙_, subst⁻¹}
 use mathlib.Core.Bool.{Bool, true, false, false≢true}
 use mathlib.Core.List.{List, _++_}
-use Prim.Native.Nat.{ℕ, _+_, _*_, _/_, _≤_, _<_}
+use Prim.Native.Nat.{ℕ, _+_, _*_, _≤_, _<_}
 use native.Mathlib.Omega.{arith}
 use lib.ListN.{length}
 use Rattle.octets.specs.Numbers.{be}
@@ -10,7 +10,7 @@ use Rattle.octets.specs.Over.{Wrote}
 use Rattle.numbers.specs.Limit as limit
 use Rattle.carriers.specs.declared.Carrier.{Carrier}
 use Rattle.carriers.specs.Carriers.{addressWidth}
-use Rattle.carriers.specs.CarriersLaws.{by-address}
+use Rattle.carriers.specs.CarriersLaws.{few-addresses}
 use Rattle.texts.specs.Texts.{wireOf}
 use Rattle.texts.specs.Convert.{wire-length}
 use Rattle.addresses.specs.Addresses.{listOf, keptOf}
@@ -81,14 +81,11 @@ module _ (c : Carrier) (p : ℕ) (name : List ℕ) {j : Judged} {n : ℕ} (e : j
   pub name-only-kept : (t : ℕ) → record { fault = 0; priority = p; size = headSize + n; clean = true } ≡ examinedOf c (yieldOf c (nameOnly p t name)) true
   name-only-kept t = examined-kept c (nameOnly p t name) e z (name-only-size t) true
 
--- 63 addresses are few octets
-few-octets : (c : Carrier) (n : ℕ) → n / addressWidth c ≤ limit.addresses → n < 65536
-few-octets c n = by-address (λ w. n / w ≤ limit.addresses → n < 65536) (λ h. omega arith) (λ h. omega arith) c
-
 pub full-few : (c : Carrier) (p : ℕ) (name a q : List ℕ) {j : Judged} → j ≡ judgedIn c (whole p 0 name a q) → j .fault ≡ 0 → length a < 65536
 full-few c p name a q e z =
     let passed = fault-passed Reading c (whole p 0 name a q) (sym (same-fault c (whole p 0 name a q) e) ∙ z) in
-    few-octets c (length a) (passed .tail refl .few)
+    let tail = passed .tail refl in
+    omega (arith, few-addresses c limit.addresses (length a) (tail .whole) (tail .few))
 
 -- and of addresses of w octets, m of which stay
 module _ (c : Carrier) (p : ℕ) (name a q : List ℕ) {j : Judged} {n w m : ℕ} (e : j ≡ judgedIn c (whole p 0 name a q)) (z : j .fault ≡ 0)

@@ -5,7 +5,7 @@ use mathlib.Core.Logic.{_⊎_, inl, inr}
 use mathlib.Core.List.{List, _++_}
 use Prim.Native.Nat.{ℕ, _+_, _*_, _/_, _≤_, _<_, _-_}
 use native.Mathlib.Omega.{arith}
-use native.Mathlib.Nat.{mul-le-mul, mul-div-cancel, mul-mod-left, mul-pos, pos-of-ne-zero}
+use native.Mathlib.Nat.{mul-div-cancel, mul-mod-left, mul-pos, pos-of-ne-zero}
 use lib.Dec.{eqb}
 use lib.ListN.{length, length-append}
 use borrow.Author.Tests.{eq-eqb, ne-eqb, eqb-true, eqb-false}
@@ -15,6 +15,7 @@ use Rattle.numbers.specs.Limit as limit
 use Rattle.carriers.specs.declared.Carrier.{Carrier}
 use Rattle.carriers.specs.declared.Carrier.the-variants.{Router}
 use Rattle.carriers.specs.Carriers.{addressWidth, asText}
+use Rattle.carriers.specs.CarriersLaws.{addresses-octets}
 use Rattle.names.specs.declared.Name.the-variants.{Good}
 use Rattle.names.specs.Wire.{nameCheck}
 use Rattle.names.specs.Exact as names
@@ -147,10 +148,7 @@ kept-small c f passed = rw length-record (go (f .full) refl)
         let t = passed .tail u in
         let n = name-small c (f .name) (passed .named) in
         let s = staying-length w (f .addresses) in
-        let d = carrier-width c in
-        let wide : w ≤ 16 = omega (arith, d .is, d .one) in
-        let few : length (keptOf w (listOf w (f .addresses))) * w ≤ limit.addresses * 16 = mul-le-mul (kept-count-small w (f .addresses) (t .few)) wide in
-        omega (arith, t .short)
+        omega (arith, t .short, addresses-octets c (kept-count-small w (f .addresses) (t .few)) refl)
     go false u = let n = name-small c (f .name) (passed .named) in omega arith
 
 pub record-small : (c : Carrier) (b : List ℕ) (r : Fields) → outcomeOf c b ≡ kept r → length (recordOf c r) ≤ limit.recordSize

@@ -1,9 +1,9 @@
 -- The laws of what is accepted: each test of the definitions decides what `Accepted` says of keys and values. Assumes nothing.
-use mathlib.Core.Path.{_≡_, refl, sym, ap, ap₂, _∙_}
+use mathlib.Core.Path.{_≡_, refl, sym, ap, _∙_}
 use mathlib.Core.Bool.{Bool, true, false, not, _&&_, _||_, false≢true, and-eq-true-iff, or-true}
 use mathlib.Core.Logic.{_⊎_, inl, inr}
 use mathlib.Core.List.{List, [], _∷_, _++_}
-use Prim.Native.Nat.{ℕ, zero, suc, _+_, _*_, _/_, _%_, _≤_, _<_}
+use Prim.Native.Nat.{ℕ, zero, suc, _+_, _*_, _%_, _≤_, _<_}
 use native.Mathlib.Nat.{not-suc-le-zero}
 use native.Mathlib.Omega.{arith}
 use lib.ListN.{length, take, drop, length-drop, length-append, take-append-drop}
@@ -11,7 +11,7 @@ use lib.Seq.{drop-at, length-take-le}
 use lib.Dec.{eqb, leb}
 use borrow.Author.Tests.{le-leb, eq-eqb, ne-eqb, eqb-true, eqb-false, leb-true, leb-false, not-true}
 use Rattle.octets.specs.Numbers.{Octet, Bytes, words, numbersOf}
-use Rattle.octets.specs.NumbersLaws.{words-small, numbers-words}
+use Rattle.octets.specs.NumbersLaws.{words-small, length-numbers, words-numbers, numbers-words}
 use Rattle.svcparams.specs.Key as key
 use Rattle.svcparams.specs.Params.{Param, keys, rising, has, isHint, hasHint, allIn, mandatoryGood, stringsFrom, alpnGood, valueGood, allGood}
 use Rattle.svcparams.specs.ValueLaws.{strings-skip, strings-past, value-mandatory, value-alpn, value-no-default-alpn, value-port, value-other}
@@ -19,9 +19,6 @@ use Rattle.octets.specs.Cases.{by-test}
 use Rattle.octets.specs.Lists.{All}
 use Rattle.octets.specs.ListsLaws.{all-drop, all-map}
 use Rattle.svcparams.specs.Accepted.{Ascending, In, Fits, Hinted, Mandatory, stringsOf, Alpn, Allowed}
-
-both : (a b : Bool) → a && b ≡ true → (a ≡ true) × (b ≡ true)
-both a b e = and-eq-true-iff a b .0 e
 
 one-of : (a b : Bool) → a || b ≡ true → (a ≡ true) ⊎ (b ≡ true)
 one-of true b e = inl refl
@@ -45,7 +42,7 @@ pub rising-means : (least : ℕ) (ks : List ℕ) → rising least ks ≡ true �
 unfolding rising
 rising-means least [] e = (tt, tt)
 rising-means least (k ∷ ks) e =
-    let q = both (leb least k) (rising (k + 1) ks) e in
+    let q = and-eq-true-iff (leb least k) (rising (k + 1) ks) .0 e in
     let l : least ≤ k = leb-true _ _ (q .0) in
     let r = rising-means (k + 1) ks (q .1) in
     let a = next-above k ks (r .0) in
@@ -135,23 +132,12 @@ means-hint kvs h = in-hint (keys kvs) h
 all-each : (ws ks : List ℕ) → allIn ws ks ≡ true → All (λ w. In w ks) ws
 unfolding allIn
 all-each [] ks e = tt
-all-each (w ∷ ws) ks e = let q = both (has w ks) (allIn ws ks) e in (has-in w ks (q .0), all-each ws ks (q .1))
+all-each (w ∷ ws) ks e = let q = and-eq-true-iff (has w ks) (allIn ws ks) .0 e in (has-in w ks (q .0), all-each ws ks (q .1))
 
 each-all : (ws ks : List ℕ) → All (λ w. In w ks) ws → allIn ws ks ≡ true
 unfolding allIn
 each-all [] ks h = refl
 each-all (w ∷ ws) ks h = simp (in-has w ks (h .0), each-all ws ks (h .1))
-
-words-numbers : (ws : List ℕ) → All (λ w. w < 65536) ws → words (numbersOf ws) ≡ ws
-unfolding words
-words-numbers [] h = refl
-words-numbers (w ∷ ws) h =
-    let e : w / 256 % 256 * 256 + w % 256 ≡ w = omega (arith, h .0) in
-    ap₂ (λ (x : ℕ) (l : List ℕ). x ∷ l) e (words-numbers ws (h .1))
-
-length-numbers : (ws : List ℕ) → length (numbersOf ws) ≡ 2 * length ws
-length-numbers [] = refl
-length-numbers (w ∷ ws) = let i = length-numbers ws in omega arith
 
 mandatory-good : (ks v ws : List ℕ) → Mandatory ks v ws → mandatoryGood v ks ≡ true
 unfolding mandatoryGood
@@ -166,9 +152,9 @@ mandatory-good ks v ws m =
 good-mandatory : (ks v : List ℕ) → Bytes v → mandatoryGood v ks ≡ true → Mandatory ks v (words v)
 unfolding mandatoryGood
 good-mandatory ks v o e =
-    let q = both (not (eqb (length v) 0) && eqb (length v % 2) 0 && rising 1 (words v)) (allIn (words v) ks) e in
-    let t = both (not (eqb (length v) 0) && eqb (length v % 2) 0) (rising 1 (words v)) (q .0) in
-    let u = both (not (eqb (length v) 0)) (eqb (length v % 2) 0) (t .0) in
+    let q = and-eq-true-iff (not (eqb (length v) 0) && eqb (length v % 2) 0 && rising 1 (words v)) (allIn (words v) ks) .0 e in
+    let t = and-eq-true-iff (not (eqb (length v) 0) && eqb (length v % 2) 0) (rising 1 (words v)) .0 (q .0) in
+    let u = and-eq-true-iff (not (eqb (length v) 0)) (eqb (length v % 2) 0) .0 (t .0) in
     let z : length v ≡ 0 → ⊥ = eqb-false _ _ (not-true _ (u .0)) in
     let even : length v % 2 ≡ 0 = eqb-true _ _ (u .1) in
     let r = rising-means 1 (words v) (t .1) in
@@ -208,7 +194,7 @@ good-strings zero [] h o e = ([], refl, tt)
 good-strings zero (x ∷ xs) h o e = absurd (not-suc-le-zero h)
 good-strings (suc f) [] h o e = ([], refl, tt)
 good-strings (suc f) (x ∷ xs) h o e =
-    go (both (not (eqb x 0)) (stringsFrom x xs) e) (leb x (length xs)) refl
+    go (and-eq-true-iff (not (eqb x 0)) (stringsFrom x xs) .0 e) (leb x (length xs)) refl
     (λ q. good-strings f (drop x xs) (simp length-drop (omega arith)) (all-drop Octet x xs (o .1)) q)
   where
     go : (not (eqb x 0) ≡ true) × (stringsFrom x xs ≡ true) → (b : Bool) → leb x (length xs) ≡ b
@@ -235,7 +221,7 @@ alpn-good v (s ∷ ss) a =
 good-alpn : (v : List ℕ) → Bytes v → alpnGood v ≡ true → (ss : List (List ℕ)) × Alpn v ss
 unfolding alpnGood
 good-alpn v o e =
-    let q = both (not (eqb (length v) 0)) (stringsFrom 0 v) e in
+    let q = and-eq-true-iff (not (eqb (length v) 0)) (stringsFrom 0 v) .0 e in
     let r = good-strings (length v) v (omega arith) o (q .1) in
     (r .0, record { laid = r .1; some = some (r .0) (eqb-false _ _ (not-true _ (q .0))) (r .1); sizes = r .2 })
   where
@@ -270,7 +256,7 @@ pub values-means : (ks : List ℕ) (kvs : List Param) → All (λ (kv : Param). 
 unfolding allGood
 values-means ks [] o e = tt
 values-means ks (kv ∷ kvs) o e =
-    let q = both (valueGood (kv .key) (kv .value) ks) (allGood kvs ks) e in
+    let q = and-eq-true-iff (valueGood (kv .key) (kv .value) ks) (allGood kvs ks) .0 e in
     (good-allowed ks kv (o .0) (q .0), values-means ks kvs (o .1) (q .1))
 
 pub means-values : (ks : List ℕ) (kvs : List Param) → All (Allowed ks) kvs → allGood kvs ks ≡ true

@@ -12,7 +12,7 @@ use lib.Dec.{ltb, eqb}
 use borrow.Author.Tests.{lt-ltb, le-ltb, ltb-false, eqb-true, eqb-false}
 use Rattle.octets.specs.Cases.{by-test}
 use Rattle.octets.specs.Numbers.{at16}
-use Rattle.octets.specs.ListsLaws.{take-rest}
+use Rattle.octets.specs.ListsLaws.{take-rest, skip-within, skip-any}
 use Rattle.svcparams.specs.Params.{Param, sizeOf, first, Tiled, bad, tiled, onto, after, pairsFrom, pairs}
 use Rattle.svcparams.specs.Entries.{afterEntry, entriesFrom, entries}
 
@@ -65,15 +65,11 @@ size-head s e z = let h = sized s (λ y. z (e ∙ y)) .head in omega arith
 
 skip-pairs : (k : ℕ) (s : List ℕ) → k ≤ length s → pairsFrom k s ≡ pairs (drop k s)
 unfolding pairsFrom
-skip-pairs zero s h = refl
-skip-pairs (suc k) [] h = absurd (not-suc-le-zero h)
-skip-pairs (suc k) (x ∷ xs) h = skip-pairs k xs (le-of-suc-le-suc h)
+skip-pairs = skip-within pairsFrom (λ k x xs. refl)
 
 skip-entries : (k : ℕ) (s : List ℕ) → entriesFrom k s ≡ entries (drop k s)
 unfolding entriesFrom
-skip-entries zero s = refl
-skip-entries (suc k) [] = refl
-skip-entries (suc k) (x ∷ xs) = skip-entries k xs
+skip-entries = skip-any entriesFrom (λ k x xs. refl) (λ k. refl)
 
 pub pairs-none : pairs [] ≡ tiled []
 unfolding pairsFrom

@@ -1,35 +1,18 @@
 -- The laws of the values' checks, each with the invariant of its loop. Assumes nothing.
 use mathlib.Core.Path.{_≡_, refl, sym, ap, _∙_}
 use mathlib.Core.Bool.{Bool, true, false, not, _&&_}
-use mathlib.Core.List.{List, [], _∷_}
-use Prim.Native.Nat.{ℕ, zero, suc, _+_, _-_, _%_, _≤_, _<_}
-use native.Mathlib.Nat.{le-of-suc-le-suc, not-suc-le-zero}
+use mathlib.Core.List.{List}
+use Prim.Native.Nat.{ℕ, suc, _+_, _-_, _%_, _≤_, _<_}
 use native.Mathlib.Omega.{arith}
 use lib.ListN.{length, getD, drop, length-drop, drop-of-length-le}
 use lib.Seq.{drop-drop, drop-cons}
 use lib.Dec.{eqb}
 use borrow.Author.Tests.{le-leb, lt-leb, eq-eqb, ne-eqb, not-true, not-false}
+use Rattle.octets.specs.ListsLaws.{skip-within, skip-past}
 use Rattle.octets.specs.Numbers.{at16, words}
+use Rattle.octets.specs.NumbersLaws.{words-cons, words-end}
 use Rattle.svcparams.specs.Key as key
 use Rattle.svcparams.specs.Params.{rising, has, allIn, mandatoryGood, stringsFrom, alpnGood, valueGood}
-
--- ---- numbers of two octets
-
-pub words-cons : (m : List ℕ) (i : ℕ) → i + 1 < length m → words (drop i m) ≡ at16 m i ∷ words (drop (i + 2) m)
-unfolding words
-words-cons m i h =
-    let a : i + 1 ≡ suc i = omega arith in
-    let b : i + 2 ≡ suc (suc i) = omega arith in
-    rw (a, b) (ap words (drop-cons m i 0 (omega arith) ∙ ap (λ (l : List ℕ). getD m i 0 ∷ l) (drop-cons m (suc i) 0 (omega arith))))
-
-words-short : (s : List ℕ) → length s ≤ 1 → words s ≡ []
-unfolding words
-words-short [] h = refl
-words-short (a ∷ []) h = refl
-words-short (a ∷ b ∷ s) h = absurd (omega arith)
-
-pub words-end : (m : List ℕ) (i : ℕ) → length m ≤ i + 1 → words (drop i m) ≡ []
-words-end m i h = words-short (drop i m) (simp length-drop (omega arith))
 
 -- ---- a mandatory list rises
 
@@ -111,15 +94,11 @@ module _ (v ks : List ℕ) where
 
 pub strings-skip : (k : ℕ) (s : List ℕ) → k ≤ length s → stringsFrom k s ≡ stringsFrom 0 (drop k s)
 unfolding stringsFrom
-strings-skip zero s h = refl
-strings-skip (suc k) [] h = absurd (not-suc-le-zero h)
-strings-skip (suc k) (x ∷ xs) h = strings-skip k xs (le-of-suc-le-suc h)
+strings-skip = skip-within stringsFrom (λ k x xs. refl)
 
 pub strings-past : (k : ℕ) (s : List ℕ) → length s < k → stringsFrom k s ≡ false
 unfolding stringsFrom
-strings-past zero s h = absurd (not-suc-le-zero h)
-strings-past (suc k) [] h = refl
-strings-past (suc k) (x ∷ xs) h = strings-past k xs (le-of-suc-le-suc h)
+strings-past = skip-past stringsFrom (λ k x xs. refl) (λ k. refl)
 
 -- what is left of the value decides
 pub record Strings (v : List ℕ) (at : ℕ) : Type 0 where

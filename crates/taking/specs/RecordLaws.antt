@@ -8,6 +8,7 @@ use native.Mathlib.Omega.{arith}
 use borrow.Author.Tests.{le-ltb, eqb-true, eq-eqb}
 use lib.Dec.{eqb}
 use lib.ListN.{length}
+use Rattle.octets.specs.Cases.{by-less, by-equal}
 use Rattle.octets.specs.Numbers.{be, Bytes}
 use Rattle.octets.specs.Fields.{putCounted}
 use Rattle.octets.specs.FieldsLaws.{part-read, number-read, counted-read, part-says, number-says, counted-says}
@@ -18,7 +19,6 @@ use Rattle.blocks.specs.Block.{Fields, nameOnly, whole}
 use Rattle.records.specs.Records.{tailOf, recordOf}
 use Rattle.taking.specs.Taking.{Records, none, misplaced, fullFields, oneRecord}
 use Rattle.taking.specs.Sheet.{FitsTail, FitsRecord}
-use Rattle.taking.specs.SpotLaws.{by-less, by-equal}
 use Rattle.taking.specs.WalkLaws.{afterName}
 
 -- ---- a lifetime where none belongs

@@ -1,14 +1,15 @@
 -- Where a record's fields stand: they lie within the sheet, and each way out of the code that finds them agrees with `spotOf`.
 -- Assumes nothing.
 use mathlib.Core.Path.{_≡_, refl}
-use mathlib.Core.Bool.{Bool, true, false, cond, false≢true}
+use mathlib.Core.Bool.{cond, false≢true}
 use mathlib.Core.List.{List}
 use Prim.Native.Nat.{ℕ, _+_, _-_, _*_, _≤_, _<_}
 use native.Mathlib.Nat.{mul-le-mul}
 use native.Mathlib.Omega.{arith}
-use borrow.Author.Tests.{lt-ltb, le-ltb, ltb-true, ltb-false, eq-eqb, ne-eqb, eqb-true, eqb-false}
+use borrow.Author.Tests.{lt-ltb, le-ltb, eq-eqb, ne-eqb}
 use lib.Dec.{ltb, eqb}
 use lib.ListN.{length, getD}
+use Rattle.octets.specs.Cases.{by-less, by-equal}
 use Rattle.octets.specs.Numbers.{at16, at32, Bytes}
 use Rattle.octets.specs.NumbersLaws.{bytes-at, bytes-getD}
 use Rattle.carriers.specs.declared.Carrier.{Carrier}
@@ -17,22 +18,6 @@ use Rattle.carriers.specs.CarriersLaws.{address-width}
 use Rattle.records.specs.Records.{headSize, lifetimeAt, modeAt, nameLengthAt}
 use Rattle.taking.specs.declared.Spot.{Spot}
 use Rattle.taking.specs.Spot.{nowhere, namedAt, withParts, parametersAt, addressesAt, fullAt, byMode, spotOf, Inside, Sized}
-
--- ---- a test decides between two answers
-
-pub by-less : {A : Type 0} (P : A → Type 0) (m n : ℕ) (x y : A) → (m < n → P x) → (n ≤ m → P y) → P (cond (ltb m n) x y)
-by-less P m n x y h k = go (ltb m n) refl
-  where
-    go : (b : Bool) → ltb m n ≡ b → P (cond b x y)
-    go true t = h (ltb-true _ _ t)
-    go false t = k (ltb-false _ _ t)
-
-pub by-equal : {A : Type 0} (P : A → Type 0) (m n : ℕ) (x y : A) → (m ≡ n → P x) → ((m ≡ n → ⊥) → P y) → P (cond (eqb m n) x y)
-by-equal P m n x y h k = go (eqb m n) refl
-  where
-    go : (b : Bool) → eqb m n ≡ b → P (cond b x y)
-    go true t = h (eqb-true _ _ t)
-    go false t = k (eqb-false _ _ t)
 
 -- ---- what holds of every spot: of none, of a name, of a name with parts, and so of `spotOf`
 

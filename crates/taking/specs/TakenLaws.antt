@@ -8,6 +8,7 @@ use native.Mathlib.Omega.{arith}
 use borrow.Author.Tests.{eqb-true, eq-eqb, le-ltb}
 use lib.Dec.{ltb, eqb}
 use lib.ListN.{length, getD, take, drop}
+use Rattle.octets.specs.Cases.{by-less}
 use Rattle.octets.specs.Numbers.{at16}
 use Rattle.numbers.specs.Refusal as refusal
 use Rattle.numbers.specs.Limit as limit
@@ -18,7 +19,6 @@ use Rattle.carriers.specs.Carriers.{chosenOf}
 use Rattle.blocks.specs.Block.{Fields}
 use Rattle.sheets.specs.Sheets.{letters, edition, frontSize, versionAt, carrierAt, countAt}
 use Rattle.taking.specs.Taking.{same, Headed, refuse, head, headOf, Records, none, records, recordsFrom, Taken, sheet, takeFound, takeRecords, takeCarrier, takeHeaded, takeOf}
-use Rattle.taking.specs.SpotLaws.{by-less}
 
 -- ---- the same octets
 

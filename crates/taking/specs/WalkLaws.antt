@@ -7,9 +7,10 @@ use native.Mathlib.Omega.{arith}
 use borrow.Author.Tests.{lt-ltb, le-ltb, ltb-false, le-leb, lt-leb, leb-true, eq-eqb, ne-eqb}
 use lib.Dec.{ltb, leb, eqb}
 use lib.ListN.{length, getD, take, drop, length-drop}
-use lib.Seq.{drop-drop, drop-cons}
-use Rattle.octets.specs.Numbers.{val, at16, at32}
-use Rattle.octets.specs.NumbersLaws.{at16-val, at32-val}
+use lib.Seq.{drop-drop}
+use Rattle.octets.specs.Cases.{by-less}
+use Rattle.octets.specs.Numbers.{val, at16, at32, numberAt}
+use Rattle.octets.specs.NumbersLaws.{number-8, number-16, number-32}
 use Rattle.octets.specs.Fields.{part, number, counted}
 use Rattle.carriers.specs.declared.Carrier.{Carrier}
 use Rattle.carriers.specs.Carriers.{addressWidth}
@@ -19,7 +20,7 @@ use Rattle.taking.specs.declared.Spot.{Spot}
 use Rattle.taking.specs.Taking.{Records, none, records, onto, misplaced, fullFields, oneRecord, recordsFrom}
 use Rattle.taking.specs.Took.{some}
 use Rattle.taking.specs.Spot.{nowhere, namedAt, withParts, parametersAt, addressesAt, fullAt, byMode, spotOf, fieldsAt}
-use Rattle.taking.specs.SpotLaws.{by-less, by-full}
+use Rattle.taking.specs.SpotLaws.{by-full}
 
 -- ---- fields of what is left of s from an index on
 
@@ -56,15 +57,10 @@ module _ {R : Type 0} (stop : R) where
     number-past : (w : ℕ) (next : ℕ → List ℕ → R) → length s - at < w → number stop w (drop at s) next ≡ stop
     number-past w next h = number-short w (drop at s) next (rw length-drop h)
 
-    number-at : (w v next-at : ℕ) (next : ℕ → List ℕ → R) → v ≡ val (take w (drop at s)) → next-at ≡ at + w → w ≤ length s - at
+    number-at : (w v next-at : ℕ) (next : ℕ → List ℕ → R) → v ≡ numberAt w at s → next-at ≡ at + w → w ≤ length s - at
         → number stop w (drop at s) next ≡ next v (drop next-at s)
-    unfolding number
+    unfolding number numberAt
     number-at w v b next ev e h = part-at w b (λ x l. next (val x) l) e h ∙ ap (λ (n : ℕ). next n (drop b s)) (sym ev)
-
-    octet-val : 1 ≤ length s - at → getD s at 0 ≡ val (take 1 (drop at s))
-    octet-val h =
-        let e : drop at s ≡ getD s at 0 ∷ drop (suc at) s = drop-cons s at 0 (omega arith) in
-        rw e (omega arith)
 
 -- ---- one record
 
@@ -88,7 +84,7 @@ module _ (s : List ℕ) (p : Spot) (next : Fields → List ℕ → Records) wher
       let Is : Spot → Type 0 = λ r. number none 2 (drop b s) measured ≡ onSpot s r next in
       by-less Is (length s - b) 2 nowhere (parametersAt s p a n (b + 2) m) (λ k. number-past none s b h 2 measured k) (λ k.
       let read : number none 2 (drop b s) measured ≡ part none m (drop (b + 2) s) last =
-      number-at none s b h 2 m (b + 2) measured (at16-val s b (omega arith)) refl k in
+      number-at none s b h 2 m (b + 2) measured (number-16 s b (omega arith)) refl k in
       let inside : b + 2 ≤ length s = omega arith in
       by-less Is (length s - (b + 2)) m nowhere (withParts p a n (b + 2) m)
       (λ j. read ∙ part-past none s (b + 2) inside m last j)
@@ -113,7 +109,7 @@ module _ (s : List ℕ) (p : Spot) (next : Fields → List ℕ → Records) wher
       let Is : Spot → Type 0 = λ r. number none 1 (drop t s) counts ≡ onSpot s r next in
       by-less Is (length s - t) 1 nowhere (addressesAt s p (t + 1) n)
       (λ k. number-past none s t h 1 counts k)
-      (λ k. number-at none s t h 1 (getD s t 0) (t + 1) counts (octet-val none s t h k) refl k ∙ addresses-at (t + 1) n (omega arith))
+      (λ k. number-at none s t h 1 (getD s t 0) (t + 1) counts (number-8 s t (omega arith)) refl k ∙ addresses-at (t + 1) n (omega arith))
 
 -- the tests after the name, which leave the fields' places alone
 abbrev pub tested : Carrier → ℕ → ℕ → ℕ → Records → Records
@@ -158,10 +154,10 @@ module _ (c : Carrier) (least : ℕ) (next : Fields → List ℕ → Records) wh
         let t : ℕ = at32 s (at + lifetimeAt) in
         let m : ℕ = getD s (at + modeAt) 0 in
         let n : ℕ = getD s (at + nameLengthAt) 0 in
-        number-at none s at inside 2 p (at + lifetimeAt) _ (at16-val s at (omega arith)) refl (omega arith)
-        ∙ number-at none s (at + lifetimeAt) (omega arith) 4 t (at + modeAt) _ (at32-val s (at + lifetimeAt) (omega arith)) (omega arith) (omega arith)
-        ∙ number-at none s (at + modeAt) (omega arith) 1 m (at + nameLengthAt) _ (octet-val none s (at + modeAt) (omega arith) (omega arith)) (omega arith) (omega arith)
-        ∙ number-at none s (at + nameLengthAt) (omega arith) 1 n (at + headSize) _ (octet-val none s (at + nameLengthAt) (omega arith) (omega arith)) (omega arith) (omega arith)
+        number-at none s at inside 2 p (at + lifetimeAt) _ (number-16 s at (omega arith)) refl (omega arith)
+        ∙ number-at none s (at + lifetimeAt) (omega arith) 4 t (at + modeAt) _ (number-32 s (at + lifetimeAt) (omega arith)) (omega arith) (omega arith)
+        ∙ number-at none s (at + modeAt) (omega arith) 1 m (at + nameLengthAt) _ (number-8 s (at + modeAt) (omega arith)) (omega arith) (omega arith)
+        ∙ number-at none s (at + nameLengthAt) (omega arith) 1 n (at + headSize) _ (number-8 s (at + nameLengthAt) (omega arith)) (omega arith) (omega arith)
 
     name-at : getD s (at + nameLengthAt) 0 ≤ length s - at - headSize
         → afterName (at16 s at) (at32 s (at + lifetimeAt)) (getD s (at + modeAt) 0) (take (getD s (at + nameLengthAt) 0) (drop (at + headSize) s)) (drop (at + headSize + getD s (at + nameLengthAt) 0) s)

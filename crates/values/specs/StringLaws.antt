@@ -2,19 +2,14 @@
 use mathlib.Core.Path.{_≡_, refl, ap, _∙_}
 use mathlib.Core.Bool.{Bool, cond}
 use mathlib.Core.List.{List, [], _∷_}
-use Prim.Native.Nat.{ℕ, zero, suc, _+_, _-_, _≤_, _<_}
+use Prim.Native.Nat.{ℕ, _+_, _-_, _≤_, _<_}
 use native.Mathlib.Nat.{add-sub-cancel-left}
 use native.Mathlib.Numerals.{add-one}
 use lib.ListN.{length, getD, take, drop, length-drop, drop-of-length-le}
 use lib.Seq.{drop-cons, drop-drop}
 use borrow.Author.Tests.{lt-ltb, le-ltb}
+use Rattle.octets.specs.ListsLaws.{skip-any}
 use Rattle.values.specs.Values.{stringsFrom}
-
-skip-strings : (k : ℕ) (s : List ℕ) → stringsFrom k s ≡ stringsFrom 0 (drop k s)
-unfolding stringsFrom
-skip-strings zero s = refl
-skip-strings (suc k) [] = refl
-skip-strings (suc k) (x ∷ s) = skip-strings k s
 
 pub strings-end : (s : List ℕ) (i : ℕ) → i ≤ length s → length s ≤ i → stringsFrom 0 (drop i s) ≡ []
 unfolding stringsFrom
@@ -38,4 +33,4 @@ module _ (s : List ℕ) (i : ℕ) {n : ℕ} (h : i < length s) (e : n ≡ getD s
       rw add-sub-cancel-left
       (here
       ∙ ap (λ (b : Bool). cond b [] (take n t ∷ stringsFrom n t)) (le-ltb _ _ fits)
-      ∙ ap (λ (l : List (List ℕ)). take n t ∷ l) (skip-strings n t ∙ ap (stringsFrom 0) (drop-drop n (i + 1) s)))
+      ∙ ap (λ (l : List (List ℕ)). take n t ∷ l) (skip-any stringsFrom (λ k x xs. refl) (λ k. refl) n t ∙ ap (stringsFrom 0) (drop-drop n (i + 1) s)))

@@ -15,7 +15,7 @@ use Rattle.carriers.specs.declared.Carrier.{Carrier}
 use Rattle.carriers.specs.declared.Carrier.the-variants.{Dhcp4}
 use Rattle.carriers.specs.declared.Facts.{Facts}
 use Rattle.carriers.specs.Carriers.{factsOf, addressWidth, inEights, isJoined}
-use Rattle.carriers.specs.CarriersLaws.{eights-router}
+use Rattle.carriers.specs.CarriersLaws.{few-addresses, eights-router}
 use Rattle.names.specs.Right.{three}
 use Rattle.blocks.specs.Block.{Fields, optionSize}
 use Rattle.judge.specs.declared.Side.the-variants.{Writing}
@@ -25,7 +25,7 @@ use Rattle.judge.specs.Passed.{Passed}
 use Rattle.judge.specs.JudgeLaws.{fault-passed, written-name}
 use Rattle.layouts.specs.Writable.{overhead, optionOctets, instanceOctets}
 use Rattle.layouts.specs.Layouts.{ownOption, instanceOf, joinedOf}
-use Rattle.layouts.specs.LayoutsLaws.{header-small, own-length, instance-length, body-small, few-addresses}
+use Rattle.layouts.specs.LayoutsLaws.{header-small, own-length, instance-length, body-small}
 use Rattle.records.specs.Records.{headSize}
 use Rattle.sheets.specs.Sheets.{frontSize}
 use Rattle.taking.specs.declared.Spot.{Spot}
@@ -110,7 +110,7 @@ passed-light c r f e =
         → Passed Writing c r → Light (length (r .name)) (length (r .addresses)) (length (r .parameters))
     go h k true u t p =
         let q = p .tail u in
-        record { some = h; name = k; addresses = few-addresses c (length (r .addresses)) (q .whole) (q .few); parameters = q .short }
+        record { some = h; name = k; addresses = few-addresses c limit.addresses (length (r .addresses)) (q .whole) (q .few); parameters = q .short }
     go h k false u t p = record { some = h; name = k; addresses = rw (t .0) (omega arith); parameters = rw (t .1) (omega arith) }
 
 -- so are records that have a place in a sheet and no fault, one after another

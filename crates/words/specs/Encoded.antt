@@ -1,6 +1,6 @@
 -- A table of words as octets, the form in which the code holds it, and the lookup of a number in it. Assumes nothing: these are definitions.
 use Prim.Native.Nat.{ℕ, zero, suc}
-use mathlib.Core.Bool.{Bool, true, false, cond}
+use mathlib.Core.Bool.{Bool, true, false, cond, _&&_}
 use mathlib.Core.List.{List, [], _∷_, _++_}
 use lib.Dec.{eqb}
 use lib.ListN.{take}
@@ -34,4 +34,4 @@ plain (x ∷ xs) = cond (eqb x 10) false (plain xs)
 -- none stands in the words of a table
 unfoldable pub unbroken : List Worded → Bool
 unbroken [] = true
-unbroken (w ∷ ws) = cond (plain (w .words)) (unbroken ws) false
+unbroken (w ∷ ws) = plain (w .words) && unbroken ws

@@ -1,14 +1,15 @@
 -- The laws of a table of words as octets: walked entry by entry, it has the words that the table has. Assumes nothing.
 use mathlib.Core.Path.{_≡_, refl, sym, ap, _∙_}
-use mathlib.Core.Bool.{Bool, true, false, cond}
+use mathlib.Core.Bool.{Bool, true, false, cond, and-eq-true-iff}
 use mathlib.Core.List.{List, [], _∷_, _++_}
-use Prim.Native.Nat.{ℕ, zero, suc, _+_, _-_, _≤_, _<_}
+use Prim.Native.Nat.{ℕ, suc, _+_, _-_, _≤_, _<_}
 use native.Mathlib.Numerals.{add-one}
 use native.Mathlib.Omega.{arith}
 use lib.Dec.{eqb}
 use borrow.Author.Tests.{eq-eqb, ne-eqb}
 use lib.ListN.{length, getD, take, drop, drop-of-length-le}
 use lib.Seq.{drop-cons, drop-drop, drop-append-add, take-append-seam}
+use Rattle.octets.specs.ListsLaws.{skip-any}
 use Rattle.words.specs.Words.{Worded, unknown, wordsIn}
 use Rattle.words.specs.Encoded.{encoded, breakAt, wordsFrom, wordsAt, plain, unbroken}
 
@@ -43,9 +44,7 @@ break-after (y ∷ x) t p = go (eqb y 10) p (break-after x t)
 -- to skip octets is to begin after them
 skipped : (k j : ℕ) (t : List ℕ) → wordsFrom k j t ≡ wordsAt k (drop j t)
 unfolding wordsFrom
-skipped k zero t = refl
-skipped k (suc j) [] = refl
-skipped k (suc j) (x ∷ t) = skipped k j t
+skipped k = skip-any (wordsFrom k) (λ j x t. refl) (λ j. refl)
 
 -- what the walk finds at an index, of which `end` is where its entry's words end
 module _ (k : ℕ) (s : List ℕ) (i : ℕ) where
@@ -76,18 +75,13 @@ module _ (k : ℕ) (s : List ℕ) (i : ℕ) where
 
 -- ---- a table
 
--- the words of the first entry have no line break, and neither have those of the others
-both : (a b : Bool) → cond a b false ≡ true → (a ≡ true) × (b ≡ true)
-both true b h = (refl, h)
-both false b h = let e : _≡_ {A = ℕ} 0 1 = cc in absurd (omega arith)
-
 -- in the octets of a table every number has the words that it has in the table
 pub words-encoded : (ws : List Worded) (k : ℕ) → unbroken ws ≡ true → wordsAt k (encoded ws) ≡ wordsIn ws k
 unfolding encoded unbroken wordsFrom wordsIn
 words-encoded [] k f = refl
 words-encoded (w ∷ ws) k f =
     let t : List ℕ = w .words ++ (10 ∷ encoded ws) in
-    let q = both (plain (w .words)) (unbroken ws) f in
+    let q = and-eq-true-iff (plain (w .words)) (unbroken ws) .0 f in
     let ends : breakAt t ≡ length (w .words) = break-after (w .words) (encoded ws) (q .0) in
     let own : take (breakAt t) t ≡ w .words = ap (λ (j : ℕ). take j t) ends ∙ take-append-seam (w .words) (10 ∷ encoded ws) in
     let past : suc (breakAt t) ≡ length (w .words) + 1 = omega (arith, ends) in
