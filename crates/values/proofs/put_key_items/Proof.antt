@@ -8,7 +8,7 @@ use native.Mathlib.Omega.{arith}
 use lib.Dec.{eqb}
 use lib.ListN.{length, drop}
 use Rattle.octets.specs.Numbers.{words}
-use Rattle.svcparams.specs.ValueLaws.{words-cons, words-end}
+use Rattle.octets.specs.NumbersLaws.{words-cons, words-end}
 use Rattle.values.specs.Values.{beforeOf, quoted, keyOf, keysOf}
 use Rattle.values.specs.ListLaws.{Listed, listed-start, listed-past, listed-end}
 use Rattle.values.proofs.put_key_items.Statement.{statement}
