@@ -44,9 +44,6 @@ own-length c r = option-length c (layout c (carriedOf c r)) ∙ ap (λ (n : ℕ)
 pub instance-length : (r : Fields) → length (instanceOf r) ≡ instanceOctets (r .full) (length (r .name)) (length (r .addresses)) (length (r .parameters))
 instance-length r = rw (append-nil (layout Dhcp4 r)) (omega (arith, body-length Dhcp4 r))
 
-pub joined-none : joinedOf [] ≡ []
-joined-none = refl
-
 pub joined-length : (rs : List Fields) → length (joinedOf rs) ≡ joinedOctets rs
 joined-length [] = refl
 joined-length (r ∷ rs) = length-append (instanceOf r) (joinedOf rs) ∙ ap₂ (λ (m n : ℕ). m + n) (instance-length r) (joined-length rs)

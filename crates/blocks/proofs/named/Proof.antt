@@ -23,10 +23,9 @@ get-number-requires c κs = (omega arith, omega (arith, length-width (c .before 
 returns-2 : tie.Need-returns-2
 returns-2 c =
     let k = c .before .before .before .before in
-    let start = k .before .before in
-    (
+    let start = k .before .before in (
       name-cut _ _ (afterName (start .args .carrier)) (named-opens _ _ (start .pre)) (sym (start .pre .0)) (k .length-width .ensures) refl (omega arith)
-      (c .before .get-number .ensures .0) (omega arith),
+          (c .before .get-number .ensures .0) (omega arith),
       (tt, tt),
     )
 
