@@ -1,6 +1,6 @@
 -- What is said of each carrier (01, "Five carriers, by number", "Area walk", "Block layouts"): one table. Assumes nothing: these are definitions.
 use mathlib.Core.Bool.{Bool, true, false, cond}
-use Prim.Native.Nat.{ℕ, _+_, _%_}
+use Prim.Native.Nat.{ℕ, _+_, _*_, _/_, _%_}
 use lib.Dec.{eqb}
 use Rattle.carriers.specs.declared.Carrier.{Carrier}
 use Rattle.carriers.specs.declared.Carrier.the-variants.{Dhcp4, Dhcp6, Router, Ike4, Ike6}
@@ -10,6 +10,7 @@ use Rattle.carriers.specs.declared.Facts.{Facts}
 use Rattle.carriers.specs.declared.Form.{Form}
 use Rattle.carriers.specs.declared.Form.the-variants.{Wire, Padded, Text}
 use Rattle.carriers.specs.declared.Octets.{Octets}
+use Rattle.carriers.specs.declared.Eights.{Eights}
 
 -- the carrier of a number
 unfoldable pub chosenOf : ℕ → Chosen
@@ -95,6 +96,18 @@ textIn Text = true
 abbrev pub asText : Carrier → Bool
 asText c = textIn (formOf c)
 
--- a length in octets
+-- ---- lengths
+
+-- a length in octets, and in units of eight octets
 abbrev pub octets : ℕ → Octets
 octets n = record { 0 = n }
+
+abbrev pub eights : ℕ → Eights
+eights n = record { 0 = n }
+
+-- units of eight as octets, and how many whole units octets are
+abbrev pub octetsOf : Eights → Octets
+octetsOf e = octets (8 * e .0)
+
+abbrev pub eightsOf : Octets → Eights
+eightsOf o = eights (o .0 / 8)

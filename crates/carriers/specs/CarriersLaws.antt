@@ -1,17 +1,25 @@
--- What holds of every row of the table, and that each carrier has a number of its own. Assumes nothing.
+-- What holds of every row of the table, that each carrier has a number of its own, and that the two conversions of lengths are inverse.
+-- Assumes nothing.
 use mathlib.Core.Path.{_≡_, refl, sym, ap, _∙_}
-use mathlib.Core.Bool.{true, false, false≢true, true≢false}
+use mathlib.Core.Bool.{Bool, true, false, cond, false≢true, true≢false}
+use mathlib.Core.Logic.{inl, inr}
 use Prim.Native.Nat.{ℕ, _*_, _/_, _%_, _^_, _≤_, _<_}
 use native.Mathlib.Nat.{mul-le-mul, div-add-mod'}
 use native.Mathlib.Omega.{arith}
+use borrow.Author.Tests.{eqb-true}
+use lib.Dec.{eqb}
 use lib.ListN.{getD}
 use Rattle.octets.specs.Numbers.{be}
 use Rattle.carriers.specs.declared.Carrier.{Carrier}
 use Rattle.carriers.specs.declared.Carrier.the-variants.{Dhcp4, Dhcp6, Router, Ike4, Ike6}
-use Rattle.carriers.specs.declared.Chosen.the-variants.{Known}
+use Rattle.carriers.specs.declared.Chosen.{Chosen}
+use Rattle.carriers.specs.declared.Chosen.the-variants.{Known, Unknown}
+use Rattle.carriers.specs.declared.Eights.{Eights}
 use Rattle.carriers.specs.declared.Form.{Form}
 use Rattle.carriers.specs.declared.Form.the-variants.{Wire, Padded, Text}
-use Rattle.carriers.specs.Carriers.{chosenOf, numberOf, codeOf, headWidth, hasReserved, bareCode, inEights, isJoined, addressWidth, lengthWidth, formOf, lifetimeIn, lifetimeWidth, textIn, asText}
+use Rattle.carriers.specs.declared.Octets.{Octets}
+use Rattle.carriers.specs.Carriers.{chosenOf, numberOf, codeOf, headWidth, hasReserved, bareCode, inEights, isJoined, addressWidth, lengthWidth, formOf, lifetimeIn, lifetimeWidth, textIn, asText, octets, eights, octetsOf, eightsOf}
+use Rattle.carriers.specs.Told.{Chooses}
 
 -- a number names its carrier, and has room in one octet
 record Numbered (c : Carrier) : Type 0 where
@@ -35,6 +43,28 @@ number-room c = numbered c .octet
 -- so it is the octet that says it
 pub number-octet : (c : Carrier) → numberOf c % 256 ≡ numberOf c
 number-octet c = omega (arith, number-room c)
+
+unknown-known : {c : Carrier} → Unknown ≡ Known c → ⊥
+unknown-known e = let z : _≡_ {A = ℕ} 0 1 = cc in omega arith
+
+-- a number names at most one carrier
+pub number-chosen : (n : ℕ) (c : Carrier) → chosenOf n ≡ Known c → n ≡ numberOf c
+unfolding chosenOf
+number-chosen n c =
+    is 1 Dhcp4 refl (is 2 Dhcp6 refl (is 3 Router refl (is 4 Ike4 refl (is 5 Ike6 refl (λ e. absurd (unknown-known e))))))
+  where
+    is : (k : ℕ) (d : Carrier) → numberOf d ≡ k → {o : Chosen} → (o ≡ Known c → n ≡ numberOf c)
+        → cond (eqb n k) (Known d) o ≡ Known c → n ≡ numberOf c
+    is k d i {o} h = go (eqb n k) refl
+      where
+        go : (b : Bool) → eqb n k ≡ b → cond b (Known d) o ≡ Known c → n ≡ numberOf c
+        go true t e = let j : d ≡ c = cc in eqb-true n k t ∙ sym i ∙ ap numberOf j
+        go false t e = h e
+
+-- the carrier that was chosen has the number, or none has it, whatever number refuses
+pub chosen-chooses : (none n : ℕ) (r : Chosen) → r ≡ chosenOf n → Chooses none n r
+chosen-chooses none n (Known c) e = inl (refl, sym (number-chosen n c (sym e)))
+chosen-chooses none n Unknown e = inr (refl, λ c q. unknown-known (e ∙ ap chosenOf (sym q) ∙ chosen-number c))
 
 -- code and length have one or two octets, two but in carriers 1 and 3, in which the carrier's code has room; it has no reserved bit, and is
 -- neither padding nor an end
@@ -131,3 +161,11 @@ by-joined P a b Ike6 = b Ike6 refl
 
 pub other-joined : (c : Carrier) → (c ≡ Dhcp4 → ⊥) → isJoined c ≡ false
 other-joined = by-joined (λ c. (c ≡ Dhcp4 → ⊥) → isJoined c ≡ false) (λ n. absurd (n refl)) (λ c e n. e)
+
+-- ---- lengths: whole units are converted to and fro
+
+pub eights-octets : (e : Eights) → eightsOf (octetsOf e) ≡ e
+eights-octets e = ap eights (omega arith)
+
+pub octets-eights : (o : Octets) → o .0 % 8 ≡ 0 → octetsOf (eightsOf o) ≡ o
+octets-eights o whole = ap octets (omega arith)

@@ -2,8 +2,11 @@
 // carrier. Lengths in octets and in units of eight are two types that are never mixed (document 01, "Block layouts"); they are
 // converted here alone, each way in one function.
 ghost use mathlib.Core.Path.{_≡_};
-ghost use Prim.Native.Nat.{_*_, _/_, _<_};
-ghost use Rattle.carriers.specs.Carriers.{chosenOf, factsOf, numberOf, codeOf, headerOf, addressWidth, lengthWidth, formOf, lifetimeWidth, asText};
+ghost use Prim.Native.Nat.{_<_};
+ghost use lib.Dec.{eqb};
+ghost use Rattle.numbers.specs.Refusal as refusal;
+ghost use Rattle.carriers.specs.Told.{Chooses};
+ghost use Rattle.carriers.specs.Carriers.{octetsOf, eightsOf, chosenOf, factsOf, numberOf, codeOf, headerOf, addressWidth, lengthWidth, formOf, lifetimeWidth, asText};
 
 pub enum Carrier {
     // 1: DHCPv4 option 162 (RFC 9463 §5).
@@ -18,7 +21,7 @@ pub enum Carrier {
     Ike6,
 }
 
-// The carrier of a number, or that there is none.
+// The carrier of a number, or that there is none: 0, or 1 when read and 42 of a sheet (specs/Told).
 pub enum Chosen {
     Known(Carrier),
     Unknown,
@@ -57,13 +60,23 @@ pub struct Facts {
 // A length in octets.
 pub struct Octets(pub usize);
 
+impl Octets {
+    // Whether it is 0.
+    pub fn none(self) -> bool
+        ensures { λ r. ⌜ r ≡ eqb (self .0) 0 ⌝ }
+    {
+        let n = self.0;
+        n == 0
+    }
+}
+
 // A length in units of 8 octets, as carrier 3 has it.
 pub struct Eights(pub usize);
 
 // The one place where units of eight become octets.
 pub fn octets_of(e: Eights) -> Octets
     requires { ⌜ e .0 < 65536 ⌝ }
-    ensures { λ r. ⌜ r .0 ≡ 8 * e .0 ⌝ }
+    ensures { λ r. ⌜ r ≡ octetsOf e ⌝ }
 {
     let units = e.0;
     Octets(Carrier::UNIT * units)
@@ -71,7 +84,7 @@ pub fn octets_of(e: Eights) -> Octets
 
 // The one place where octets become units of eight.
 pub fn eights_of(o: Octets) -> Eights
-    ensures { λ r. ⌜ r .0 ≡ o .0 / 8 ⌝ }
+    ensures { λ r. ⌜ r ≡ eightsOf o ⌝ }
 {
     let n = o.0;
     Eights(n / Carrier::UNIT)
@@ -97,6 +110,7 @@ impl Carrier {
     // The carrier of a number.
     pub fn of(number: usize) -> Chosen
         ensures { λ r. ⌜ r ≡ chosenOf number ⌝ }
+        ensures { λ r. ⌜ Chooses refusal.carrier number r × Chooses refusal.sheetCarrier number r ⌝ }
     {
         if number == 1 {
             return Chosen::Known(Carrier::Dhcp4);

@@ -6,6 +6,7 @@ use lib.ListN.{length, getD, take, drop}
 use lib.Dec.{ltb, eqb}
 use Rattle.octets.specs.Numbers.{numberAt}
 use Rattle.octets.specs.Lists.{flat}
+use Rattle.numbers.specs.Refusal as refusal
 use Rattle.carriers.specs.declared.Carrier.{Carrier}
 use Rattle.carriers.specs.Carriers.{codeOf, headWidth, headerOf, hasReserved, bareCode, inEights, isJoined, octets}
 use Rattle.frames.specs.declared.Head.{Head}
@@ -44,6 +45,15 @@ firstOf c s = orMark (isJoined c) (getD s 0 0) (headIn c s)
 pub data Framed : Type 0 where
   fault : Framed
   framed : List (List ℕ) → Framed
+
+-- its number (01, Numbers given back), and the bodies, none where it cannot be framed
+abbrev pub framedNumber : Framed → ℕ
+framedNumber fault = refusal.framing
+framedNumber (framed bs) = 0
+
+abbrev pub bodiesIn : Framed → List (List ℕ)
+bodiesIn fault = []
+bodiesIn (framed bs) = bs
 
 -- an option's body in front of what follows, where the option is the carrier's own; others are skipped
 abbrev pub onto : Bool → List ℕ → Framed → Framed

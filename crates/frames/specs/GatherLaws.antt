@@ -14,26 +14,27 @@ use Rattle.frames.specs.declared.Gathered.the-variants.{Broken, Absent, 
 use Rattle.frames.specs.declared.Joined.{Joined}
 use Rattle.octets.specs.Lists.{flat}
 use Rattle.octets.specs.ListsLaws.{flat-append}
-use Rattle.frames.specs.Frame.{Framed, fault, framed, frame}
+use Rattle.frames.specs.Frame.{Framed, fault, framed, framedNumber, bodiesIn, frame}
 use Rattle.frames.specs.Step.{part, stepAt}
 use Rattle.frames.specs.Walk.{prepend, Walked}
 use Rattle.frames.specs.Gather.{Several, Tells, GatheredFrom, Joins}
-use Rattle.frames.specs.Laws.{fault-framed, step-block, step-skipped, step-body}
+use Rattle.frames.specs.Laws.{step-block, step-skipped, step-body}
 use Rattle.frames.specs.WalkLaws.{prepend-none, walked-start, walked-block, walked-skipped, walked-end, walked-fault}
+use Rattle.frames.specs.ToldLaws.{number-fault, number-framed}
 
 -- ---- how many there are
 
 -- two bodies in front of whatever follows
 several-prepend : (bs : List (List ℕ)) (f : Framed) → 2 ≤ length bs → Several (prepend bs f)
-several-prepend bs fault h = tt
-several-prepend bs (framed cs) h = omega (arith, length-append bs cs)
+several-prepend bs fault h = λ z. absurd (omega arith)
+several-prepend bs (framed cs) h = λ _. omega (arith, length-append bs cs)
 
 -- where something was found, there is a body
 found-one : (area : List ℕ) (bs : List (List ℕ)) (found : Gathered) → (found ≡ Absent → ⊥) → Tells area (framed bs) found → 1 ≤ length bs
-found-one area bs Broken more t = absurd (fault-framed (sym t))
+found-one area bs Broken more t = absurd (omega (arith, t .0))
 found-one area bs Absent more t = absurd (more refl)
-found-one area bs (One a z) more t = let one : bs ≡ part a z area ∷ [] = cc in omega (arith, ap length one)
-found-one area bs (Many from) more t = omega (arith, t .2)
+found-one area bs (One a z) more t = omega (arith, ap length (t .2 .1))
+found-one area bs (Many from) more t = omega (arith, t .2 refl)
 
 -- the bodies met before an index, at most one, and what was found of them; where something was found, none before `from`
 pub record Gathering (area : List ℕ) (at from : ℕ) (found : Gathered) : Type 0 where
@@ -43,18 +44,18 @@ pub record Gathering (area : List ℕ) (at from : ℕ) (found : Gathered) : Type
   pub first : Walked Dhcp4 area from []
 
 pub gathering-start : (area : List ℕ) → Gathering area 0 0 Absent
-gathering-start area = record { bodies = []; walked = walked-start Dhcp4 area; tells = refl; first = walked-start Dhcp4 area }
+gathering-start area = record { bodies = []; walked = walked-start Dhcp4 area; tells = (refl, refl); first = walked-start Dhcp4 area }
 
 module _ {area : List ℕ} {at start end : ℕ} (e : stepAt Dhcp4 area at ≡ Step.Block start end) where
   -- the first own option
   pub gathering-first : {from : ℕ} → Gathering area at from Absent → Gathering area end at (One start end)
   gathering-first g =
       let m = step-block Dhcp4 area at e in
-      let none : g .bodies ≡ [] = cc in
+      let none : g .bodies ≡ [] = g .tells .1 in
       record {
         bodies = g .bodies ++ (part start end area ∷ []);
         walked = walked-block Dhcp4 area (g .walked) e;
-        tells = (m .1, m .2, ap (λ (l : List (List ℕ)). framed (l ++ (part start end area ∷ []))) none);
+        tells = (m .1, m .2, (refl, ap (λ (l : List (List ℕ)). l ++ (part start end area ∷ [])) none));
         first = subst (Walked Dhcp4 area at) none (g .walked);
       }
 
@@ -77,7 +78,7 @@ module _ {area : List ℕ} {at from : ℕ} {found : Gathered} (g : Gathering are
   gathering-end e = subst⁻¹ (λ (f : Framed). Tells area f found) (walked-end Dhcp4 area (g .walked) e) (g .tells)
 
   pub gathering-fault : stepAt Dhcp4 area at ≡ Step.Fault → GatheredFrom area Broken
-  gathering-fault e = walked-fault Dhcp4 area (g .walked) e
+  gathering-fault e = let broken = walked-fault Dhcp4 area (g .walked) e in (ap framedNumber broken, ap bodiesIn broken)
 
 -- ---- the bodies one after another
 
@@ -125,17 +126,18 @@ module _ {area out : List ℕ} {at n : ℕ} {out′ : List ℕ} (j : Joining are
       record { bodies = j .bodies; walked = walked-skipped Dhcp4 area (j .walked) e; wrote = j .wrote; behind = omega (arith, j .behind) }
 
   pub joining-end : stepAt Dhcp4 area at ≡ Step.End → Joins (frame Dhcp4 area) out (Joined.Whole n) out′
-  joining-end e = subst⁻¹ (λ (f : Framed). Joins f out (Joined.Whole n) out′) (walked-end Dhcp4 area (j .walked) e) (j .wrote)
+  joining-end e =
+      subst⁻¹ (λ (f : Framed). Joins f out (Joined.Whole n) out′) (walked-end Dhcp4 area (j .walked) e) (record { number = refl; octets = λ _. j .wrote })
 
   pub joining-fault : stepAt Dhcp4 area at ≡ Step.Fault → Joins (frame Dhcp4 area) out Joined.Broken out′
-  joining-fault e = subst⁻¹ (λ (f : Framed). Joins f out Joined.Broken out′) (walked-fault Dhcp4 area (j .walked) e) tt
+  joining-fault e =
+      subst⁻¹ (λ (f : Framed). Joins f out Joined.Broken out′) (walked-fault Dhcp4 area (j .walked) e)
+      (record { number = refl; octets = λ n. absurd (omega arith) })
 
 -- what the answer tells of the area, and of the buffer
 pub joins-broken : (f : Framed) (out out′ : List ℕ) → Joins f out Joined.Broken out′ → f ≡ fault
-joins-broken fault out out′ j = refl
-joins-broken (framed bs) out out′ j = absurd j
+joins-broken f out out′ j = number-fault f (sym (j .number))
 
 pub joins-whole : (f : Framed) (out out′ : List ℕ) (n : ℕ) → Joins f out (Joined.Whole n) out′
     → (bs : List (List ℕ)) × (f ≡ framed bs) × Wrote 0 (flat bs) out n out′
-joins-whole fault out out′ n j = absurd j
-joins-whole (framed bs) out out′ n j = (bs, refl, j)
+joins-whole f out out′ n j = (bodiesIn f, number-framed f (sym (j .number), refl), j .octets refl)

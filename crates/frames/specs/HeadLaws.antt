@@ -17,6 +17,7 @@ use Rattle.frames.specs.declared.Head.{Head}
 use Rattle.frames.specs.declared.Head.the-variants.{Bad, End, Option}
 use Rattle.frames.specs.Frame.{wholeSize, codeIn, sizeIn, headIn, orMark, firstOf}
 use Rattle.frames.specs.Walk.{Apart}
+use Rattle.frames.specs.Told.{ownOf, sizeOf}
 
 bad-option : {w : Bool} {n : ℕ} → Bad ≡ Option w (octets n) → ⊥
 bad-option e = let z : _≡_ {A = ℕ} 0 1 = cc in omega arith
@@ -29,16 +30,6 @@ bad-end e = let z : _≡_ {A = ℕ} 0 1 = cc in omega arith
 
 option-end : {w : Bool} {n : ℕ} → Option w (octets n) ≡ End → ⊥
 option-end e = let z : _≡_ {A = ℕ} 0 1 = cc in omega arith
-
-abbrev ownOf : Head → Bool
-ownOf Bad = false
-ownOf End = false
-ownOf (Option own size) = own
-
-abbrev sizeOf : Head → ℕ
-sizeOf Bad = 0
-sizeOf End = 0
-sizeOf (Option own size) = size .0
 
 -- ---- a header with a code and a length
 

@@ -1,12 +1,14 @@
 pub mod Frame
 pub mod Step
+pub mod Walk
+pub mod Told
 pub mod Gather
 pub mod Skip
 pub mod HeadLaws
 pub mod Laws
 pub mod SkipLaws
-pub mod Walk
 pub mod WalkLaws
+pub mod ToldLaws
 pub mod GatherLaws
 pub mod BodyLaws
 pub mod Emit

@@ -1,18 +1,22 @@
 // The framing of an area (document 01, "Area walk"): where each option begins and ends, and which are the carrier's own. One walk
 // for all five carriers, in which lengths in octets and in units of eight are never mixed. An area where a header or a body runs
 // past the end cannot be framed. In carrier 1 the bodies are joined here (RFC 3396). Nothing here looks inside a body.
+// The number of every answer, 3 or 0, is that of specs/Told.
 ghost use mathlib.Core.Path.{_≡_};
+ghost use mathlib.Core.Logic.{_↔_};
 ghost use Prim.Native.Nat.{_+_, _*_, _≤_, _<_};
 ghost use lib.ListN.{length};
 ghost use Rattle.octets.specs.Numbers.{numberAt};
 ghost use Rattle.octets.specs.Over.{Wrote};
+ghost use Rattle.numbers.specs.Refusal as refusal;
 ghost use Rattle.carriers.specs.declared.Carrier.the-variants.{Dhcp4};
 ghost use Rattle.carriers.specs.Carriers.{headWidth, headerOf, bareCode, inEights};
 ghost use Rattle.frames.specs.Frame.{wholeSize, headIn, firstOf, frame};
 ghost use Rattle.frames.specs.Step.{stepAt};
 ghost use Rattle.frames.specs.Skip.{Skips, Passes};
 ghost use Rattle.frames.specs.Emit.{lengthSaid, headOf, CanSay};
-ghost use Rattle.frames.specs.Gather.{GatheredFrom, Joins, AtMost};
+ghost use Rattle.frames.specs.Told.{headNumber, NoHeader, NothingFirst, StepSays, joinedLength};
+ghost use Rattle.frames.specs.Gather.{GatheredFrom, Joins};
 use carriers::Carrier;
 use carriers::Eights;
 use carriers::Octets;
@@ -111,6 +115,7 @@ fn whole_size(eights: bool, header: usize, n: usize) -> Octets
 // What a header with a code and a length says.
 fn head_in(c: Carrier, s: &[u8]) -> Head
     ensures { λ r. ⌜ r ≡ headIn c (now (s .entry)) ⌝ }
+    ensures { λ r. ⌜ (headNumber r ≡ refusal.framing) ↔ NoHeader c (now (s .entry)) ⌝ }
 {
     let f = c.facts();
     let width = f.width;
@@ -120,8 +125,7 @@ fn head_in(c: Carrier, s: &[u8]) -> Head
     }
     let h = header_in(width, s);
     let size = whole_size(f.eights, header, octets::wide16(h.upper, h.lower));
-    let n = size.0;
-    if n == 0 {
+    if size.none() {
         return Head::Bad;
     }
     Head::Option {
@@ -134,6 +138,7 @@ fn head_in(c: Carrier, s: &[u8]) -> Head
 pub fn first(c: Carrier, s: &[u8]) -> Head
     requires { ⌜ 0 < length (now s) ⌝ }
     ensures { λ r. ⌜ r ≡ firstOf c (now (s .entry)) ⌝ }
+    ensures { λ r. ⌜ (headNumber r ≡ refusal.framing) ↔ NothingFirst c (now (s .entry)) ⌝ }
 {
     let f = c.facts();
     if f.joined {
@@ -156,6 +161,7 @@ pub fn first(c: Carrier, s: &[u8]) -> Head
 pub fn next_block(c: Carrier, area: &[u8], at: usize) -> Step
     requires { ⌜ at ≤ length (now area) ⌝ }
     ensures { λ r. ⌜ r ≡ stepAt c (now (area .entry)) at ⌝ }
+    ensures { λ r. ⌜ StepSays c (now (area .entry)) at r ⌝ }
 {
     if at == area.len() {
         return Step::End;
@@ -290,7 +296,7 @@ pub fn gather(area: &[u8]) -> Gathered
 pub fn join(area: &[u8], out: &mut [u8]) -> Joined
     requires { ⌜ length (now area) ≤ length (now out) ⌝ }
     ensures { λ r. ⌜ Joins (frame Dhcp4 (now (area .entry))) (now (out .entry)) r (now (out .exit)) ⌝ }
-    ensures { λ r. ⌜ AtMost (length (now (area .entry))) r ⌝ }
+    ensures { λ r. ⌜ joinedLength r ≤ length (now (area .entry)) ⌝ }
 {
     let mut at: usize = 0;
     let mut n: usize = 0;

@@ -1,6 +1,7 @@
 pub mod Names
 pub mod Automaton
 pub mod AutomatonLaws
+pub mod Told
 pub mod Wire
 pub mod Answered
 pub mod AnsweredLaws

@@ -1,5 +1,7 @@
--- What an answer of the check claims of the slice, said of the slice itself; and that a name has three octets at least. Assumes nothing.
-use mathlib.Core.Path.{_≡_, ap}
+-- What an answer of the check claims of the slice, by its number and said of the slice itself; and that a name has three octets at least.
+-- Assumes nothing.
+use mathlib.Core.Path.{_≡_, refl, ap}
+use mathlib.Core.Logic.{inl, inr}
 use Prim.Native.Nat.{ℕ, _≤_}
 use native.Mathlib.Omega.{arith}
 use lib.ListN.{length, length-append}
@@ -8,18 +10,18 @@ use Rattle.names.specs.declared.Name.{Name}
 use Rattle.names.specs.declared.Name.the-variants.{Good, Bad}
 use Rattle.names.specs.Wire.{nameCheck}
 use Rattle.octets.specs.Lists.{All}
-use Rattle.names.specs.Names.{IsName, FirstBad, wire, Label}
+use Rattle.names.specs.Names.{IsName, wire, Label}
+use Rattle.names.specs.Told.{Claims}
 use Rattle.names.specs.Complete.{wire-some}
 use Rattle.names.specs.Exact.{good, bad}
 
--- what an answer claims of the slice
+-- what an answer claims of the slice: that it is a name, or where no name can continue
 abbrev pub Right : List ℕ → Name → Type 0
-Right s Good = IsName s
-Right s (Bad p) = FirstBad IsName s p
+Right s r = Claims IsName s r
 
 pub right : (s : List ℕ) (r : Name) → r ≡ nameCheck s → Right s r
-right s Good e = good s .0 (cc)
-right s (Bad p) e = bad s p .0 (cc)
+right s Good e = inl (refl, good s .0 (cc))
+right s (Bad p) e = inr (refl, bad s p .0 (cc))
 
 wire-three : (ls : List (List ℕ)) → 1 ≤ length ls → All Label ls → 3 ≤ length (wire ls)
 wire-three [] h o = absurd (omega arith)

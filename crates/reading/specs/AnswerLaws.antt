@@ -108,7 +108,7 @@ module _ (area l l′ : List ℕ) (n : ℕ) (j : Joins (frame Dhcp4 area) l (Joi
 
   pub answer-many : (room : ℕ) → Several (frame Dhcp4 area) → readFramed Dhcp4 (frame Dhcp4 area) room ≡ readBlocks Dhcp4 (take n l′ ∷ []) room
   answer-many room g =
-      let several : 2 ≤ length (many-wrote .0) = subst Several (many-wrote .1) g in
+      let several : 2 ≤ length (many-wrote .0) = subst Several (many-wrote .1) g refl in
       answer-joined (take n l′) room (many-wrote .0) (many-wrote .1) (omega arith) many-front
 
 -- ---- the answer by a tally, test by test

@@ -16,7 +16,8 @@ use Rattle.carriers.specs.declared.Carrier.the-variants.{Dhcp4}
 use Rattle.carriers.specs.declared.Chosen.{Chosen}
 use Rattle.carriers.specs.declared.Chosen.the-variants.{Known, Unknown}
 use Rattle.carriers.specs.Carriers.{chosenOf, isJoined}
-use Rattle.frames.specs.Frame.{Framed, framed, frame, blocksOf}
+use Rattle.carriers.specs.Told.{readNumber}
+use Rattle.frames.specs.Frame.{Framed, framed, framedNumber, frame, blocksOf}
 use Rattle.frames.specs.Frame as area
 use Rattle.blocks.specs.Block.{Fields}
 use Rattle.order.specs.Order.{stableSort}
@@ -134,7 +135,7 @@ readBlocks c blocks room = readYields c (map (yieldOf c) blocks) room
 
 -- 3
 abbrev pub readFramed : Carrier → Framed → ℕ → Answer
-readFramed c area.fault room = refuse refusal.framing
+readFramed c area.fault room = refuse (framedNumber area.fault)
 readFramed c (framed bodies) room = readBlocks c (blocksOf c bodies) room
 
 -- 2
@@ -143,7 +144,7 @@ readArea c s room = cond (ltb limit.input (length s)) (refuse refusal.input) (re
 
 -- 1
 abbrev pub readChosen : Chosen → List ℕ → ℕ → Answer
-readChosen Unknown s room = refuse refusal.carrier
+readChosen Unknown s room = refuse (readNumber Unknown)
 readChosen (Known c) s room = readArea c s room
 
 -- reading under carrier number n, with an output buffer of `room` octets

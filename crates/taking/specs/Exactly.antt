@@ -2,23 +2,17 @@
 -- sheet is one of one carrier and one list of records only. Assumes nothing.
 use mathlib.Core.Path.{_≡_, refl, sym, ap, ap₂, _∙_}
 use mathlib.Core.Logic.{_↔_}
-use mathlib.Core.Bool.{Bool, true, false, cond}
 use mathlib.Core.List.{List, [], _∷_, _++_}
 use Prim.Native.Nat.{ℕ, zero, suc, _+_, _*_, _%_, _≤_, _<_}
 use native.Mathlib.Omega.{arith}
-use borrow.Author.Tests.{eqb-true}
-use lib.Dec.{eqb}
 use lib.ListN.{length, getD, drop}
 use Rattle.octets.specs.Numbers.{be, Octet, Bytes}
 use Rattle.octets.specs.Lists.{All}
 use Rattle.octets.specs.ListsLaws.{all-drop}
 use Rattle.numbers.specs.Limit as limit
 use Rattle.carriers.specs.declared.Carrier.{Carrier}
-use Rattle.carriers.specs.declared.Carrier.the-variants.{Dhcp4, Dhcp6, Router, Ike4, Ike6}
-use Rattle.carriers.specs.declared.Chosen.{Chosen}
-use Rattle.carriers.specs.declared.Chosen.the-variants.{Known}
-use Rattle.carriers.specs.Carriers.{chosenOf, numberOf}
-use Rattle.carriers.specs.CarriersLaws.{chosen-number, number-room}
+use Rattle.carriers.specs.Carriers.{numberOf}
+use Rattle.carriers.specs.CarriersLaws.{chosen-number, number-room, number-chosen}
 use Rattle.blocks.specs.Block.{Fields}
 use Rattle.records.specs.Records.{recordOf}
 use Rattle.sheets.specs.Sheets.{letters, edition, frontSize, carrierAt, countAt, frontOf, recordsOf, sheetOf}
@@ -56,20 +50,6 @@ records-says c (suc n) least l h =
     go r m f k (records rs) w = (ap (λ (l : List ℕ). recordOf c r ++ l) (w .0), ap suc (w .1), (f, w .2), (k, w .3))
 
 -- ---- the head
-
--- a number names at most one carrier
-number-chosen : (n : ℕ) (c : Carrier) → chosenOf n ≡ Known c → n ≡ numberOf c
-unfolding chosenOf
-number-chosen n c =
-    is 1 Dhcp4 refl (is 2 Dhcp6 refl (is 3 Router refl (is 4 Ike4 refl (is 5 Ike6 refl (λ e. let z : _≡_ {A = ℕ} 0 1 = cc in absurd (omega arith))))))
-  where
-    is : (k : ℕ) (d : Carrier) → numberOf d ≡ k → {o : Chosen} → (o ≡ Known c → n ≡ numberOf c)
-        → cond (eqb n k) (Known d) o ≡ Known c → n ≡ numberOf c
-    is k d i {o} h = go (eqb n k) refl
-      where
-        go : (b : Bool) → eqb n k ≡ b → cond b (Known d) o ≡ Known c → n ≡ numberOf c
-        go true t e = let j : d ≡ c = cc in eqb-true n k t ∙ sym i ∙ ap numberOf j
-        go false t e = h e
 
 -- the octets of a head before the rest, octet by octet
 abbrev fronted : ℕ → ℕ → List ℕ → List ℕ

@@ -13,6 +13,7 @@ use Rattle.carriers.specs.declared.Carrier.{Carrier}
 use Rattle.carriers.specs.declared.Chosen.{Chosen}
 use Rattle.carriers.specs.declared.Chosen.the-variants.{Known, Unknown}
 use Rattle.carriers.specs.Carriers.{chosenOf, addressWidth, lifetimeWidth}
+use Rattle.carriers.specs.Told.{sheetNumber}
 use Rattle.blocks.specs.Block.{Fields, nameOnly, whole}
 use Rattle.sheets.specs.Sheets.{letters, edition, frontSize, versionAt, carrierAt, countAt}
 
@@ -97,7 +98,7 @@ takeRecords c count l = cond (ltb limit.records count) (refuse refusal.records) 
 
 -- 42
 abbrev pub takeCarrier : Chosen → ℕ → List ℕ → Taken
-takeCarrier Unknown count l = refuse refusal.sheetCarrier
+takeCarrier Unknown count l = refuse (sheetNumber Unknown)
 takeCarrier (Known c) count l = takeRecords c count l
 
 -- 2, 40, 41

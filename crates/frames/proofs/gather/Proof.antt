@@ -26,12 +26,12 @@ abbrev μ-loop : tie.MeasureT-loop
 block : (c : tie.After-start Inv-loop μ-loop)
     → let l = c .before .before .before in
     stepAt Dhcp4 (now (l .before .before .args .area)) (l .loop .at) ≡ Step.Block (c .start .given .0 .0) (c .start .given .0 .1 .0)
-block c = sym (c .before .before .next-block .ensures) ∙ c .start .given .1
+block c = sym (c .before .before .next-block .ensures .0) ∙ c .start .given .1
 
 skipped : (c : tie.After-end Inv-loop μ-loop)
     → let l = c .before .before .before in
     stepAt Dhcp4 (now (l .before .before .args .area)) (l .loop .at) ≡ Step.Skipped (c .end .given .0 .0)
-skipped c = sym (c .before .before .next-block .ensures) ∙ c .end .given .1
+skipped c = sym (c .before .before .next-block .ensures .0) ∙ c .end .given .1
 
 -- where something was found before
 other : (c : tie.At-match2-keys2 Inv-loop μ-loop) → c .before .before .before .before .before .loop .found ≡ Absent → ⊥
@@ -61,10 +61,10 @@ loop-again-2 : tie.Need-loop-again-2 Inv-loop μ-loop
 loop-again-2 c = gathering-skipped (c .before .before .before .before .loop .inv) (skipped (c .before))
 
 returns-2 : tie.Need-returns-2 Inv-loop μ-loop
-returns-2 c = gathering-end (c .before .before .before .loop .inv) (sym (c .before .before .next-block .ensures) ∙ c .enum-told2 .given .1)
+returns-2 c = gathering-end (c .before .before .before .loop .inv) (sym (c .before .before .next-block .ensures .0) ∙ c .enum-told2 .given .1)
 
 returns-3 : tie.Need-returns-3 Inv-loop μ-loop
-returns-3 c = gathering-fault (c .before .before .before .loop .inv) (sym (c .before .before .next-block .ensures) ∙ c .enum-told3 .given .1)
+returns-3 c = gathering-fault (c .before .before .before .loop .inv) (sym (c .before .before .next-block .ensures .0) ∙ c .enum-told3 .given .1)
 
 pub gather-spec : {M : Type 1} → statement M
 gather-spec =

@@ -1,8 +1,10 @@
--- `frames::head_in` meets its contract: each return is one of the laws of `headIn`, at what the calls before it ensure. Assumes nothing.
+-- `frames::head_in` meets its contract: each return is one of the laws of `headIn`, at what the calls before it ensure, and so has its number.
+-- Assumes nothing.
 use mathlib.Core.Path.{_≡_, sym, ap, ap₂, _∙_}
 use mathlib.Core.Bool.{Bool}
 use Prim.Native.Nat.{ℕ, _+_, _≤_}
 use native.Mathlib.Omega.{arith}
+use borrow.Author.Tests.{eqb-true, eqb-false}
 use lib.ListN.{length}
 use lib.Dec.{eqb}
 use denote.Ref.{now}
@@ -13,6 +15,7 @@ use Rattle.carriers.specs.CarriersLaws.{headed}
 use Rattle.frames.specs.declared.Head.{Head}
 use Rattle.frames.specs.Frame.{wholeSize, codeIn, sizeIn}
 use Rattle.frames.specs.HeadLaws.{head-short, head-none, head-option}
+use Rattle.frames.specs.ToldLaws.{head-exactly}
 use borrow.Author.Needs.{needs}
 use Rattle.frames.proofs.head_in.Statement.{statement}
 use Rattle.frames.proofs.head_in.Tie as tie
@@ -36,18 +39,23 @@ size c =
     ∙ ap (λ (f : Facts). wholeSize (f .eights) (f .width + f .width) (numberAt (f .width) (f .width) s)) (k .facts .ensures)
 
 returns : tie.Need-returns
-returns c = let a = c .before .before .before .args in sym (head-short (a .c) (now (a .s)) (omega (arith, width (c .before))))
+returns c =
+    let a = c .before .before .before .args in
+    let e = sym (head-short (a .c) (now (a .s)) (omega (arith, width (c .before)))) in
+    (e, head-exactly (a .c) (now (a .s)) _ e)
 
 returns-2 : tie.Need-returns-2
 returns-2 c =
-    let e = c .before .before .before .before in
+    let n = c .before .before in
+    let e = n .before .before .before in
     let a = e .before .before .before .args in
-    sym (head-none (a .c) (now (a .s)) (room e) (sym (size (c .before)) ∙ c .if2 .taken))
+    let none = sym (head-none (a .c) (now (a .s)) (room e) (sym (size n) ∙ eqb-true _ _ (sym (c .before .none .ensures) ∙ c .if2 .taken))) in
+    (none, head-exactly (a .c) (now (a .s)) _ none)
 
 returns-3 : tie.Need-returns-3
 returns-3 c =
     let b = c .before in
-    let n = b .before .before in
+    let n = b .before .before .before in
     let e = n .before .before .before in
     let k = e .before in
     let f = k .facts .result in
@@ -56,8 +64,10 @@ returns-3 c =
     let code : b .bare-code .result ≡ codeIn (a .c) s =
     b .bare-code .ensures ∙ ap (bareCode (f .reserved)) (n .before .before .header-in .ensures .0)
     ∙ ap (λ (f : Facts). bareCode (f .reserved) (numberAt (f .width) 0 s)) (k .facts .ensures) in
+    let option =
     ap₂ (λ (own : Bool) (n : ℕ). Head.Option own (octets n)) (ap₂ eqb code (ap (λ (f : Facts). f .code) (k .facts .ensures))) (size n)
-    ∙ sym (head-option (a .c) s (room e) (λ z. b .before .if2 .left (size n ∙ z)))
+    ∙ sym (head-option (a .c) s (room e) (λ z. eqb-false _ _ (sym (b .before .before .none .ensures) ∙ b .before .if2 .left) (size n ∙ z))) in
+    (option, head-exactly (a .c) s _ option)
 
 pub head-in-spec : {M : Type 1} → statement M
 head-in-spec =
@@ -69,6 +79,7 @@ head-in-spec =
     (λ c κs. let w = width (c .before) in let p = headed (c .before .before .before .args .c) .some in (omega arith, omega arith, omega arith))
     (λ c κs. search needs)
     (λ c κs. omega (arith, width (c .before .before .before)))
+    (λ c κs. search needs)
     returns-2
     (λ c κs. search needs)
     returns-3)

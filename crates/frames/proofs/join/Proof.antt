@@ -24,12 +24,12 @@ abbrev μ-loop : tie.MeasureT-loop
 block : (c : tie.After-start Inv-loop μ-loop)
     → let l = c .before .before .before in
     stepAt Dhcp4 (now (l .before .before .before .args .area)) (l .loop .at) ≡ Step.Block (c .start .given .0 .0) (c .start .given .0 .1 .0)
-block c = sym (c .before .before .next-block .ensures) ∙ c .start .given .1
+block c = sym (c .before .before .next-block .ensures .0) ∙ c .start .given .1
 
 skipped : (c : tie.After-end Inv-loop μ-loop)
     → let l = c .before .before .before in
     stepAt Dhcp4 (now (l .before .before .before .args .area)) (l .loop .at) ≡ Step.Skipped (c .end .given .0 .0)
-skipped c = sym (c .before .before .next-block .ensures) ∙ c .end .given .1
+skipped c = sym (c .before .before .next-block .ensures .0) ∙ c .end .given .1
 
 loop-holds : tie.Need-loop-holds Inv-loop μ-loop
 loop-holds c = joining-start _ _
@@ -72,13 +72,13 @@ same-length c = joining-length (c .before .before .before .loop .inv)
 returns : tie.Need-returns Inv-loop μ-loop
 returns c =
     let l = c .before .before .before in
-    (joining-end (l .loop .inv) (sym (c .before .before .next-block .ensures) ∙ c .enum-told .given .1), omega (arith, l .loop .inv .behind, l .loop .inv .walked .within))
+    (joining-end (l .loop .inv) (sym (c .before .before .next-block .ensures .0) ∙ c .enum-told .given .1), omega (arith, l .loop .inv .behind, l .loop .inv .walked .within))
 
 same-length-2 : tie.Need-same-length-2 Inv-loop μ-loop
 same-length-2 c = joining-length (c .before .before .before .loop .inv)
 
 returns-2 : tie.Need-returns-2 Inv-loop μ-loop
-returns-2 c = (joining-fault (c .before .before .before .loop .inv) (sym (c .before .before .next-block .ensures) ∙ c .enum-told2 .given .1), tt)
+returns-2 c = (joining-fault (c .before .before .before .loop .inv) (sym (c .before .before .next-block .ensures .0) ∙ c .enum-told2 .given .1), omega arith)
 
 pub join-spec : {M : Type 1} → statement M
 join-spec =

@@ -1,5 +1,7 @@
 -- `frames::length_said` meets its contract. Assumes nothing.
+use mathlib.Core.Path.{ap}
 use borrow.Author.Needs.{needs}
+use Rattle.carriers.specs.declared.Eights.{Eights}
 use Rattle.frames.proofs.length_said.Statement.{statement}
 use Rattle.frames.proofs.length_said.Tie as tie
 
@@ -9,5 +11,5 @@ length-said-spec =
     (tie.spec
     (λ c. search needs)
     (λ c κs. search needs)
-    (λ c. rw (c .before .if1 .taken) (c .eights-of .ensures))
+    (λ c. rw (c .before .if1 .taken) (ap (λ (e : Eights). e .0) (c .eights-of .ensures)))
     (λ c. rw (c .if1 .left)))

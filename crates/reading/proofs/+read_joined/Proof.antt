@@ -12,6 +12,7 @@ use Rattle.frames.specs.declared.Gathered.the-variants.{One, Many}
 use Rattle.frames.specs.Frame.{Framed, frame}
 use Rattle.frames.specs.Gather.{GatheredFrom}
 use Rattle.frames.specs.GatherLaws.{part-length}
+use Rattle.frames.specs.ToldLaws.{number-fault, number-framed}
 use Rattle.reading.specs.Reading.{readFramed}
 use Rattle.reading.specs.TallyLaws.{holds-none, holds-ready, shows-none}
 use Rattle.reading.specs.AnswerLaws.{reads-as, reads-refused, answer-yields, answer-absent, answer-joined}
@@ -149,8 +150,10 @@ module _ (t : ℕ) where
   returns-4 : lts.Need-returns-4 (calls t) (at t) read-joined.Post
   returns-4 c =
       let g = c .before .before .before in
-      let broken = subst (GatheredFrom _) (c .before .enum-told .given .1) (g .gather .ensures) in
-      reads-refused _ (ap (λ (f : Framed). readFramed Dhcp4 f (length (now (g .before .before .before .args .out)))) broken) (c .refused .ensures)
+      let a = g .before .before .before .args in
+      let told = subst (GatheredFrom _) (c .before .enum-told .given .1) (g .gather .ensures) in
+      let broken = number-fault (frame Dhcp4 (now (a .area))) (told .0) in
+      reads-refused _ (ap (λ (f : Framed). readFramed Dhcp4 f (length (now (a .out)))) broken) (c .refused .ensures)
 
   same-length-4 : lts.Need-same-length-4 (calls t) (at t) read-joined.Post
   same-length-4 c = search needs
@@ -160,7 +163,9 @@ module _ (t : ℕ) where
       let s = c .before .before in
       let n = s .before .before in
       let k = n .before in
-      let absent = subst (GatheredFrom _) (k .enum-told2 .given .1) (k .before .before .gather .ensures) in
+      let g = k .before .before in
+      let told = subst (GatheredFrom _) (k .enum-told2 .given .1) (g .gather .ensures) in
+      let absent = number-framed (frame Dhcp4 (now (g .before .before .before .args .area))) told in
       reads-as (answer-absent _ absent ∙ sym (answer-yields _ _ _ (shows-none (holds-none _ _ (n .empty .ensures .0) (n .empty .ensures .1))))) (s .settle .ensures)
 
   same-length-5 : lts.Need-same-length-5 (calls t) (at t) read-joined.Post
@@ -169,8 +174,9 @@ module _ (t : ℕ) where
   returns-6 : lts.Need-returns-6 (calls t) (at t) read-joined.Post
   returns-6 c =
       let r = c .before .before in
-      let o = one (r .before .before .before .before) in
-      reads-as (answer-joined _ _ (_ ∷ []) (o .2) (omega arith) (sym (append-nil _))) (r .read-instances .ensures)
+      let k = r .before .before .before .before in
+      let alone = number-framed (frame Dhcp4 (now (k .before .before .before .before .before .args .area))) (one k .2) in
+      reads-as (answer-joined _ _ (_ ∷ []) alone (omega arith) (sym (append-nil _))) (r .read-instances .ensures)
 
   same-length-6 : lts.Need-same-length-6 (calls t) (at t) read-joined.Post
   same-length-6 c = search needs

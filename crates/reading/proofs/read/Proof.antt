@@ -8,18 +8,18 @@ use Rattle.reading.proofs.read.Tie as tie
 returns : tie.Need-returns
 returns c =
     let k = c .before in
-    reads-refused _ (read-unknown _ _ _ (sym (k .before .before .of .ensures) ∙ k .enum-told .given .1)) (c .refused .ensures)
+    reads-refused _ (read-unknown _ _ _ (sym (k .before .before .of .ensures .0) ∙ k .enum-told .given .1)) (c .refused .ensures)
 
 returns-2 : tie.Need-returns-2
 returns-2 c =
     let k = c .before .before .before in
-    reads-refused _ (read-long _ _ _ (sym (k .before .before .of .ensures) ∙ k .c .given .1) (c .before .if1 .taken)) (c .refused2 .ensures)
+    reads-refused _ (read-long _ _ _ (sym (k .before .before .of .ensures .0) ∙ k .c .given .1) (c .before .if1 .taken)) (c .refused2 .ensures)
 
 returns-3 : tie.Need-returns-3
 returns-3 c =
     let e = c .before .before .before .before in
     let k = e .before .before in
-    reads-as (read-known _ _ _ (sym (k .before .before .of .ensures) ∙ k .c .given .1) (e .if1 .left)) (c .before .before .read-area .ensures)
+    reads-as (read-known _ _ _ (sym (k .before .before .of .ensures .0) ∙ k .c .given .1) (e .if1 .left)) (c .before .before .read-area .ensures)
 
 pub read-spec : {M : Type 1} → statement M
 read-spec =

@@ -39,7 +39,7 @@ block : (c : tie.After-start Inv-loop μ-loop)
     → let l = c .before .before .before in
     let a = start l .args in
     stepAt (a .c) (now (a .area)) (l .loop .at) ≡ Step.Block (c .start .given .0 .0) (c .start .given .0 .1 .0)
-block c = sym (c .before .before .next-block .ensures) ∙ c .start .given .1
+block c = sym (c .before .before .next-block .ensures .0) ∙ c .start .given .1
 
 -- what the body's examination tells
 seen : (c : tie.After-examine Inv-loop μ-loop)
@@ -63,19 +63,19 @@ skipped : (c : tie.After-past Inv-loop μ-loop)
     → let l = c .before .before .before in
     let a = start l .args in
     stepAt (a .c) (now (a .area)) (l .loop .at) ≡ Step.Skipped (c .past .given .0 .0)
-skipped c = sym (c .before .before .next-block .ensures) ∙ c .past .given .1
+skipped c = sym (c .before .before .next-block .ensures .0) ∙ c .past .given .1
 
 ended : (c : tie.After-enum-told Inv-loop μ-loop)
     → let l = c .before .before .before in
     let a = start l .args in
     stepAt (a .c) (now (a .area)) (l .loop .at) ≡ Step.End
-ended c = sym (c .before .before .next-block .ensures) ∙ c .enum-told .given .1
+ended c = sym (c .before .before .next-block .ensures .0) ∙ c .enum-told .given .1
 
 broken : (c : tie.After-enum-told2 Inv-loop μ-loop)
     → let l = c .before .before .before in
     let a = start l .args in
     stepAt (a .c) (now (a .area)) (l .loop .at) ≡ Step.Fault
-broken c = sym (c .before .before .next-block .ensures) ∙ c .enum-told2 .given .1
+broken c = sym (c .before .before .next-block .ensures .0) ∙ c .enum-told2 .given .1
 
 loop-holds : tie.Need-loop-holds Inv-loop μ-loop
 loop-holds c = (tallying-start _ _ (holds-none _ _ (c .empty .ensures .0) (c .empty .ensures .1)), refl, c .empty .ensures .2)

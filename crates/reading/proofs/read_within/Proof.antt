@@ -7,7 +7,8 @@ use denote.Ref.{now}
 use Rattle.carriers.specs.declared.Carrier.the-variants.{Dhcp4}
 use Rattle.frames.specs.declared.Joined.{Joined}
 use Rattle.frames.specs.Frame.{Framed, frame}
-use Rattle.frames.specs.Gather.{Joins, AtMost}
+use Rattle.frames.specs.Told.{joinedLength}
+use Rattle.frames.specs.Gather.{Joins}
 use Rattle.frames.specs.GatherLaws.{joins-broken}
 use Rattle.reading.specs.Reading.{readFramed}
 use Rattle.reading.specs.AnswerLaws.{reads-as, reads-refused, many-room, many-length, answer-many}
@@ -27,7 +28,7 @@ whole : (k : tie.After-n)
 whole k = subst (λ (r : Joined). Joins (frame Dhcp4 (now (start k .args .area))) (now (start k .args .buffer)) r (joining k .join .last .1 .0)) (k .n .given .1) (joining k .join .ensures .0)
 
 short : (k : tie.After-n) → k .n .given .0 .0 ≤ length (now (start k .args .area))
-short k = subst (AtMost (length (now (start k .args .area)))) (k .n .given .1) (joining k .join .ensures .1)
+short k = subst (λ (r : Joined). joinedLength r ≤ length (now (start k .args .area))) (k .n .given .1) (joining k .join .ensures .1)
 
 slice-reshare-prefix-read-instances : tie.Need-slice-reshare-prefix-read-instances
 slice-reshare-prefix-read-instances c = many-room _ _ _ _ (whole (c .before))

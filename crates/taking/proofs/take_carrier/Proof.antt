@@ -8,14 +8,14 @@ returns : tie.Need-returns
 returns c =
     let o = c .before .before in
     let a = o .before .before .args in
-    carrier-1 (a .s .now) (a .carrier) (a .count) (o .of .ensures) (c .enum-told .given .1)
+    carrier-1 (a .s .now) (a .carrier) (a .count) (o .of .ensures .0) (c .enum-told .given .1)
 
 returns-2 : tie.Need-returns-2
 returns-2 c =
     let k = c .before .before in
     let o = k .before .before in
     let a = o .before .before .args in
-    carrier-2 (a .s .now) (a .carrier) (a .count) (o .of .ensures) (k .chosen .given .1) (c .take-records .ensures)
+    carrier-2 (a .s .now) (a .carrier) (a .count) (o .of .ensures .0) (k .chosen .given .1) (c .take-records .ensures)
 
 pub take-carrier-spec : {M : Type 1} → statement M
 take-carrier-spec =
