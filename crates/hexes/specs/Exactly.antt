@@ -1,4 +1,5 @@
--- A text is read as octets exactly where it spells them, one at least, and each of them is below 256. Assumes nothing.
+-- A text is read as octets exactly where it spells them, one at least; a text spells at most one list of octets, and each of them is
+-- below 256. Assumes nothing.
 use mathlib.Core.Path.{_≡_, refl, ap, _∙_}
 use mathlib.Core.Logic.{_↔_}
 use mathlib.Core.Bool.{Bool, true, false, _||_, false≢true}
@@ -99,3 +100,9 @@ hex-exactly t bs = (to, from)
 
     from : Spelled t bs × (1 ≤ length bs) → readHex t ≡ octets bs
     from s = ap some (spelled-read (s .0)) ∙ is-some bs (s .1)
+
+pub spelled-once : {t bs cs : List ℕ} → Spelled t bs → Spelled t cs → bs ≡ cs
+spelled-once {t} {bs} {cs} s u =
+    let e : pairs t ≡ octets bs = spelled-read s in
+    let f : pairs t ≡ octets cs = spelled-read u in
+    cc

@@ -24,6 +24,9 @@ pub record Longest (fs : List ℕ) (s n : ℕ) : Type 0 where
   pub most : (t m : ℕ) → Zeros fs t m → m ≤ n
   pub first : (t : ℕ) → Zeros fs t n → s ≤ t
 
--- a digit's character
+-- a digit's character, and any character of a text: a digit, a dot or a colon
 abbrev pub Digit : ℕ → Type 0
 Digit c = ((48 ≤ c) × (c ≤ 57)) ⊎ ((97 ≤ c) × (c ≤ 102))
+
+abbrev pub Sign : ℕ → Type 0
+Sign c = Digit c ⊎ ((c ≡ 46) ⊎ (c ≡ 58))

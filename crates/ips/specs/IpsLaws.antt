@@ -1,20 +1,21 @@
--- The laws of texts: at most 15 characters for an IPv4 address and 39 for an IPv6 address, and of which characters fields are.
--- Assumes nothing.
-use mathlib.Core.Path.{_≡_, _∙_}
+-- The laws of texts: at most 15 characters for an IPv4 address and 39 for an IPv6 address, of digits, dots and colons only, so that a
+-- text can stand in a JSON string as it is. Assumes nothing.
+use mathlib.Core.Path.{_≡_, refl, _∙_}
 use mathlib.Core.Bool.{true, false, cond}
+use mathlib.Core.Logic.{inl, inr}
 use mathlib.Core.List.{List, [], _∷_, map}
 use Prim.Native.Nat.{ℕ, suc, _+_, _-_, _*_, _≤_, _<_}
 use native.Mathlib.Nat.{mul-suc}
 use native.Mathlib.Omega.{arith}
 use lib.ListN.{length, take, drop, length-append, length-take, length-drop}
 use Rattle.octets.specs.Cases.{by-test, by-equal}
-use Rattle.octets.specs.Numbers.{words}
-use Rattle.octets.specs.NumbersLaws.{words-length}
+use Rattle.octets.specs.Numbers.{Octet, Bytes, words}
+use Rattle.octets.specs.NumbersLaws.{words-length, words-small}
 use Rattle.octets.specs.Lists.{All}
 use Rattle.octets.specs.ListsLaws.{all-append, all-take, all-drop, all-map}
 use Rattle.ips.specs.declared.Run.{Run}
 use Rattle.ips.specs.Ips.{decimal, hex, led, joined, text4, runOf, colons, around, shortened, mapped, mixed, text6}
-use Rattle.ips.specs.Claims.{Field, Fields, Digit}
+use Rattle.ips.specs.Claims.{Field, Fields, Digit, Sign}
 use Rattle.ips.specs.NumeralLaws.{numeral-length, numeral-digits}
 use Rattle.ips.specs.RunLaws.{run-inside}
 
@@ -82,6 +83,10 @@ module _ (P Q : ℕ → Type 0) (c : ℕ) (f : ℕ → List ℕ) (digits : (x : 
   joined-all [] h = tt
   joined-all (x ∷ xs) h = led-all (x ∷ xs) h .1
 
+pub text4-all : (P : ℕ → Type 0) → ((x : ℕ) → Digit x → P x) → P 46 → (a : List ℕ) → Bytes a → All P (text4 a)
+unfolding text4
+text4-all P digits dot a h = joined-all P Octet 46 decimal digits dot decimal-digits a h
+
 pub colons-all : (P : ℕ → Type 0) → ((x : ℕ) → Digit x → P x) → P 58 → (fs : List ℕ) → Fields fs → All P (colons fs)
 unfolding colons
 colons-all P digits colon fs h = joined-all P Field 58 hex digits colon hex-digits fs h
@@ -93,3 +98,25 @@ shortened-all P digits colon r fs h = by-run (All P) r fs
     (λ n. all-append P (colons (take (r .start) fs)) (58 ∷ 58 ∷ colons (drop (r .start + r .count) fs))
     (colons-all P digits colon (take (r .start) fs) (all-take Field (r .start) fs h))
     (colon, (colon, colons-all P digits colon (drop (r .start + r .count) fs) (all-drop Field (r .start + r .count) fs h))))
+
+pub text4-signs : (a : List ℕ) → Bytes a → All Sign (text4 a)
+text4-signs a h = text4-all Sign (λ x d. inl d) (inr (inl refl)) a h
+
+pub text6-signs : (a : List ℕ) → Bytes a → All Sign (text6 a)
+unfolding mixed
+text6-signs a h = by-mapped (All Sign) a
+    (λ t. (colon, (colon, (letter, (letter, (letter, (letter, (colon, text4-signs (drop 12 a) (all-drop Octet 12 a h)))))))))
+    (λ t. shortened-all Sign (λ x d. inl d) colon (runOf (words a)) (words a) (words-small a h))
+  where
+    colon : Sign 58
+    colon = inr (inr refl)
+
+    letter : Sign 102
+    letter = inl (inr (omega arith, omega arith))
+
+-- a character of a text is printable, and is neither the quotation mark nor the backslash, which a JSON string escapes (RFC 8259 §7)
+pub sign-plain : (c : ℕ) → Sign c → (32 ≤ c) × (c < 127) × (c ≡ 34 → ⊥) × (c ≡ 92 → ⊥)
+sign-plain c (inl (inl d)) = (omega arith, omega arith, λ e. omega arith, λ e. omega arith)
+sign-plain c (inl (inr d)) = (omega arith, omega arith, λ e. omega arith, λ e. omega arith)
+sign-plain c (inr (inl d)) = (omega arith, omega arith, λ e. omega arith, λ e. omega arith)
+sign-plain c (inr (inr d)) = (omega arith, omega arith, λ e. omega arith, λ e. omega arith)

@@ -1,11 +1,12 @@
--- The laws of numerals: how long they are, of which characters, and that each is of one number, in any base up to 16. Assumes nothing.
-use mathlib.Core.Path.{_≡_, sym, ap, _∙_}
+-- The laws of numerals: how long they are, of which characters, that none begins with a needless zero, and that each is of one number,
+-- in any base up to 16. Assumes nothing.
+use mathlib.Core.Path.{_≡_, refl, sym, ap, _∙_}
 use mathlib.Core.Logic.{inl, inr}
 use mathlib.Core.List.{List, [], _∷_, _++_}
-use Prim.Native.Nat.{ℕ, zero, suc, _+_, _-_, _/_, _%_, _^_, _≤_, _<_}
+use Prim.Native.Nat.{ℕ, zero, suc, _+_, _-_, _*_, _/_, _%_, _^_, _≤_, _<_}
 use native.Mathlib.Nat.{pow-suc, pow-zero, one-mul, mod-lt, div-add-mod', div-lt-iff-lt-mul}
 use native.Mathlib.Omega.{arith}
-use lib.ListN.{length, getD, length-append}
+use lib.ListN.{length, getD, length-append, List·getD-append}
 use Rattle.octets.specs.Cases.{by-less}
 use Rattle.octets.specs.Lists.{All}
 use Rattle.octets.specs.ListsLaws.{part-apart, all-append}
@@ -25,6 +26,10 @@ pub digit-same : (d e : ℕ) → d < 16 → e < 16 → digit d ≡ digit e → d
 digit-same d e h k = by-ten (λ x. x ≡ digit e → d ≡ e) d
     (λ l. by-ten (λ y. 48 + d ≡ y → d ≡ e) e (λ m q. omega arith) (λ m q. omega arith))
     (λ l. by-ten (λ y. 97 + (d - 10) ≡ y → d ≡ e) e (λ m q. omega arith) (λ m q. omega arith))
+
+zero-sign : digit 0 ≡ 48
+unfolding digit
+zero-sign = refl
 
 -- ---- numerals
 
@@ -73,6 +78,17 @@ module _ (b : ℕ) (some : 0 < b) (small : b ≤ 16) where
     where
       go : All Digit (numeral b k (n / b)) → All Digit (numeral b (suc k) n)
       go ih = by-base (All Digit) b k n (λ l. (digit-sign n (omega arith), tt)) (λ g. all-append Digit (numeral b k (n / b)) (digit (n % b) ∷ []) ih (digit-sign (n % b) (omega (arith, mod-lt n some)), tt))
+
+  -- a numeral begins with a zero only if the number is zero (RFC 5952 §4.1)
+  pub numeral-lead : (k n : ℕ) → n < b ^ suc k → getD (numeral b k n) 0 0 ≡ 48 → n ≡ 0
+  unfolding numeral
+  numeral-lead zero n h = λ e. digit-same n 0 (omega (arith, one-digit n h)) (omega arith) (e ∙ sym zero-sign)
+  numeral-lead (suc k) n h = go (numeral-lead k (n / b) (fewer k n h))
+    where
+      go : (getD (numeral b k (n / b)) 0 0 ≡ 48 → n / b ≡ 0) → getD (numeral b (suc k) n) 0 0 ≡ 48 → n ≡ 0
+      go ih = by-base (λ l. getD l 0 0 ≡ 48 → n ≡ 0) b k n (λ l e. digit-same n 0 (omega arith) (omega arith) (e ∙ sym zero-sign)) (λ g e.
+          let q : n / b ≡ 0 = ih (sym (List·getD-append (numeral b k (n / b)) (digit (n % b) ∷ []) 0 0 (numeral-some b k (n / b))) ∙ e) in
+          absurd (omega (arith, div-add-mod' n b, mod-lt n some, ap (λ (x : ℕ). x * b) q)))
 
   -- a numeral is of one number
   pub numeral-same : (k m n : ℕ) → m < b ^ suc k → n < b ^ suc k → numeral b k m ≡ numeral b k n → m ≡ n

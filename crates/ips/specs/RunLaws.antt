@@ -1,11 +1,11 @@
 -- The run that is shortened is the one that RFC 5952 §4.2 asks for: a run of zeros, with none longer, the first where several are as
--- long. Assumes nothing.
+-- long, so that the fields next to it are not zero; and none where no two zeros stand side by side. Assumes nothing.
 use mathlib.Core.Path.{_≡_, refl, ap}
 use mathlib.Core.Bool.{Bool, true, false, cond}
 use mathlib.Core.Logic.{_⊎_, inl, inr, ⊎-elim}
 use mathlib.Core.List.{List, [], _∷_}
 use Prim.Native.Nat.{ℕ, zero, suc, _+_, _-_, _≤_, _<_}
-use native.Mathlib.Nat.{zero-add, suc-add, sub-zero}
+use native.Mathlib.Nat.{add-zero, zero-add, add-suc, suc-add, sub-zero}
 use native.Mathlib.Omega.{arith}
 use borrow.Author.Tests.{eqb-true, eqb-false}
 use lib.Dec.{eqb}
@@ -109,9 +109,35 @@ none-or-longest fs = by-count (λ r. ((r ≡ run 0 0) × ((t m : ℕ) → Zeros 
 pub run-longest : (fs : List ℕ) → (runOf fs .count ≡ 0 → ⊥) → (2 ≤ runOf fs .count) × Longest fs (runOf fs .start) (runOf fs .count)
 run-longest fs h = ⊎-elim (λ n. absurd (h (ap (λ (r : Run). r .count) (n .0)))) (λ l. l) (none-or-longest fs)
 
+-- where nothing is shortened, no two zeros stand side by side
+pub run-none : (fs : List ℕ) → runOf fs .count ≡ 0 → (t m : ℕ) → Zeros fs t m → m < 2
+run-none fs e = ⊎-elim (λ n. n .1) (λ l. absurd (omega (arith, l .0))) (none-or-longest fs)
+
 -- the run lies within the fields
 pub run-inside : (fs : List ℕ) → runOf fs .start + runOf fs .count ≤ length fs
 run-inside fs = ⊎-elim (λ n. rw (n .0) (omega arith)) (λ l. l .1 .zeros .inside) (none-or-longest fs)
+
+-- ---- the longest run is whole, and is the only one
+
+-- the field before it is not zero, and neither is the one after it
+pub not-before : {s n : ℕ} {fs : List ℕ} → Longest fs (suc s) n → getD fs s 0 ≡ 0 → ⊥
+not-before {s} {n} {fs} l e = omega (arith, l .most s (suc n) (record { inside = omega (arith, l .zeros .inside); zero = at }))
+  where
+    at : (i : ℕ) → i < suc n → getD fs (s + i) 0 ≡ 0
+    at zero h = rw (add-zero s) e
+    at (suc i) h = rw (add-suc s i) (rw (suc-add s i) at (l .zeros .zero i (omega arith)))
+
+pub longest-unique : {s n t m : ℕ} {fs : List ℕ} → Longest fs s n → Longest fs t m → (s ≡ t) × (n ≡ m)
+longest-unique {s} {n} {t} {m} l k =
+    let e : n ≡ m = omega (arith, l .most t m (k .zeros), k .most s n (l .zeros)) in
+    (omega (arith, l .first t (rw e (k .zeros)), k .first s (rw e at (l .zeros))), e)
+
+-- so the longest run, if it has two fields, is what is shortened
+pub run-is : {s n : ℕ} {fs : List ℕ} → 2 ≤ n → Longest fs s n → runOf fs ≡ run s n
+run-is {s} {n} {fs} h l = ⊎-elim
+    (λ k. absurd (omega (arith, k .1 s n (l .zeros))))
+    (λ k. let e = longest-unique (k .1) l in rw (← (e .0), ← (e .1)))
+    (none-or-longest fs)
 
 -- no more zeros stand from an index on than fields
 pub ahead-few : (fs : List ℕ) (i : ℕ) → zerosAhead (drop i fs) ≤ length fs - i
