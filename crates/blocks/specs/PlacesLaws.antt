@@ -122,7 +122,8 @@ router-opens b = refl
 
 module _ (b : List ℕ) (h : 8 ≤ length b) {p t n : ℕ} (ep : p ≡ at16 b 0) (et : t ≡ at32 b 2) (en : n ≡ at16 b 6) (i : n ≤ length b - 8) where
   router-there : parse Router b ≡ pastName 8 n b (afterNamePadded p t)
-  router-there = name-there Router b afterNamePadded (router-opens b) refl refl refl h (en ∙ number-16 b 6 (omega arith)) i ep (et ∙ number-32 b 2 (omega arith))
+  router-there =
+      name-there Router b afterNamePadded (router-opens b) refl refl refl h (en ∙ number-16 b 6 (omega arith)) i ep (et ∙ number-32 b 2 (omega arith))
 
   module _ (j : length b - (8 + n) < 8) {x : Bool} (e : x ≡ isPadding (take (length b - (8 + n)) (drop (8 + n) b))) where
     pub router-alone : x ≡ true → told b (NameOnly p t 8 n) ≡ parse Router b

@@ -19,7 +19,8 @@ returns-2 c = search (needs, after-name-addresses-cut)
 returns-3 : tie.Need-returns-3
 returns-3 c =
     let k = c .before .before .before in
-    (search (needs, after-name-whole), (omega arith, whole-ranged _ (k .before .before .pre .0 .1) (no-lifetime _ (omega arith)) (sym (k .before .before .pre .0 .0)) (k .length-width .ensures) _))
+    let named = k .before .before .pre .0 in
+    (search (needs, after-name-whole), (omega arith, whole-ranged _ (named .1) (no-lifetime _ (omega arith)) (sym (named .0)) (k .length-width .ensures) _))
 
 pub after-name-spec : {M : Type 1} → statement M
 after-name-spec =

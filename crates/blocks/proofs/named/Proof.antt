@@ -15,7 +15,8 @@ returns : tie.Need-returns
 returns c =
     let k = c .before in
     let start = k .before .before in
-    (fixed-cut _ _ (afterName (start .args .carrier)) (named-opens _ _ (start .pre)) (sym (start .pre .0)) (k .length-width .ensures) refl (omega arith), (tt, tt))
+    let opens = named-opens _ _ (start .pre) in
+    (fixed-cut _ _ (afterName (start .args .carrier)) opens (sym (start .pre .0)) (k .length-width .ensures) refl (omega arith), (tt, tt))
 
 get-number-requires : tie.Need-get-number-requires
 get-number-requires c κs = (omega arith, omega (arith, length-width (c .before .before .before .before .args .carrier)))

@@ -13,8 +13,11 @@ returns : tie.Need-returns
 returns c = (fixed-cut Router _ afterNamePadded (router-opens _) refl refl refl (omega arith), (tt, tt))
 
 returns-2 : tie.Need-returns-2
-returns-2 c =
-    (name-cut Router _ afterNamePadded (router-opens _) refl refl refl (omega arith) (c .before .get162 .ensures .0 ∙ number-16 _ 6 (omega arith)) (omega arith), (tt, tt))
+returns-2 c = (
+  name-cut Router _ afterNamePadded (router-opens _) refl refl refl (omega arith) (c .before .get162 .ensures .0 ∙ number-16 _ 6 (omega arith))
+      (omega arith),
+  (tt, tt),
+)
 
 returns-3 : tie.Need-returns-3
 returns-3 c = (search (needs, router-alone), (omega arith, alone-ranged Router refl (router-numbers (omega arith) (omega arith)) refl refl))
