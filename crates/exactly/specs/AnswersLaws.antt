@@ -5,8 +5,8 @@ use mathlib.Core.Logic.{_↔_}
 use mathlib.Core.List.{List, [], _∷_, map}
 use Prim.Native.Nat.{ℕ, _≤_, _<_}
 use native.Mathlib.Omega.{arith}
-use borrow.Author.Tests.{lt-ltb, le-ltb, ltb-true, ltb-false, eqb-true}
-use lib.Dec.{ltb, eqb}
+use borrow.Author.Tests.{lt-ltb, le-ltb, ltb-true, ltb-false}
+use lib.Dec.{ltb}
 use lib.ListN.{length}
 use Rattle.octets.specs.Numbers.{Octet, Bytes}
 use Rattle.octets.specs.Lists.{All, flat}
@@ -14,13 +14,13 @@ use Rattle.octets.specs.ListsLaws.{all-append, all-map}
 use Rattle.numbers.specs.Refusal as refusal
 use Rattle.numbers.specs.Limit as limit
 use Rattle.carriers.specs.declared.Carrier.{Carrier}
-use Rattle.carriers.specs.declared.Carrier.the-variants.{Dhcp4, Dhcp6, Router, Ike4, Ike6}
+use Rattle.carriers.specs.declared.Carrier.the-variants.{Dhcp4}
 use Rattle.carriers.specs.declared.Chosen.{Chosen}
 use Rattle.carriers.specs.declared.Chosen.the-variants.{Known, Unknown}
 use Rattle.carriers.specs.declared.Form.{Form}
 use Rattle.carriers.specs.declared.Form.the-variants.{Wire, Padded, Text}
 use Rattle.carriers.specs.Carriers.{chosenOf, numberOf, formOf}
-use Rattle.carriers.specs.CarriersLaws.{by-joined, padded-router, chosen-number}
+use Rattle.carriers.specs.CarriersLaws.{by-joined, padded-router, chosen-number, number-chosen}
 use Rattle.order.specs.OrderLaws.{sort-sorted, sort-stable, sort-only, sort-length}
 use Rattle.frames.specs.Frame.{Framed, framed, frame, joined, blocksOf}
 use Rattle.frames.specs.Frame as framing
@@ -91,19 +91,6 @@ arranged-once {came} {rs} a = sort-only (λ (r : Fields). r .priority) came rs (
 
 -- ---- the carrier of a number
 
--- a number names at most one carrier
-number-chosen : (n : ℕ) (c : Carrier) → chosenOf n ≡ Known c → numberOf c ≡ n
-unfolding chosenOf
-number-chosen n c =
-    is 1 Dhcp4 refl (is 2 Dhcp6 refl (is 3 Router refl (is 4 Ike4 refl (is 5 Ike6 refl (λ e. let z : _≡_ {A = ℕ} 0 1 = cc in absurd (omega arith))))))
-  where
-    is : (k : ℕ) (d : Carrier) → numberOf d ≡ k → {o : Chosen} → (o ≡ Known c → numberOf c ≡ n) → cond (eqb n k) (Known d) o ≡ Known c → numberOf c ≡ n
-    is k d i {o} h = go (eqb n k) refl
-      where
-        go : (b : Bool) → eqb n k ≡ b → cond b (Known d) o ≡ Known c → numberOf c ≡ n
-        go true t e = let j : d ≡ c = cc in sym (ap numberOf j) ∙ i ∙ sym (eqb-true n k t)
-        go false t e = h e
-
 chosen-known : {n : ℕ} (c : Carrier) → numberOf c ≡ n → chosenOf n ≡ Known c
 chosen-known c e = ap chosenOf (sym e) ∙ chosen-number c
 
@@ -112,7 +99,7 @@ chosen-unknown n h = go (chosenOf n) refl
   where
     go : (k : Chosen) → chosenOf n ≡ k → k ≡ Unknown
     go Unknown e = refl
-    go (Known c) e = absurd (h c (number-chosen n c e))
+    go (Known c) e = absurd (h c (sym (number-chosen n c e)))
 
 -- ---- the answer
 
@@ -156,10 +143,10 @@ module _ (n : ℕ) (area : List ℕ) (room : ℕ) (octets : Bytes area) where
           (no-carrier (λ c i. let z : Known c ≡ Unknown = sym (chosen-known c i) ∙ e in let o : _≡_ {A = ℕ} 0 1 = cc in omega arith))
       go (Known c) e true l =
           let h : limit.input < length area = ltb-true _ _ l in
-          rw (read-long n area room e h) (too-long c (number-chosen n c e) h)
+          rw (read-long n area room e h) (too-long c (sym (number-chosen n c e)) h)
       go (Known c) e false l =
           let h : length area ≤ limit.input = ltb-false _ _ l in
-          rw (read-known n area room e h) (is-framed c (number-chosen n c e) h)
+          rw (read-known n area room e h) (is-framed c (sym (number-chosen n c e)) h)
 
   -- of a readable area reading settles what its blocks yield
   readable-read : (c : Carrier) {ys : List Yield} {rs : List Fields} → numberOf c ≡ n → Readable c area ys rs

@@ -1,6 +1,6 @@
 -- Demand 1, over the contract of writing: a refusal gives its number alone and leaves every octet of the buffer, and a result leaves every octet
 -- past its length. Assumes nothing.
-use mathlib.Core.Path.{_≡_, ap}
+use mathlib.Core.Path.{_≡_, sym, ap, _∙_}
 use mathlib.Core.List.{List}
 use Prim.Native.Nat.{ℕ}
 use lib.ListN.{length, drop}
@@ -11,7 +11,7 @@ use Rattle.writing.specs.Writes.{told, Writes}
 
 module _ (out out′ : List ℕ) (w : Writing) where
   pub refused-leaves : (a : Answer) → Writes a out w out′ → (w .number ≡ 0 → ⊥) → (w ≡ told (refuse (w .number))) × (out′ ≡ out)
-  refused-leaves (refuse k) writes n = (rw (ap (λ (w : Writing). w .number) (writes .numbers)) (writes .numbers), writes .leaves)
+  refused-leaves (refuse k) writes n = (writes .numbers ∙ ap (λ (k : ℕ). told (refuse k)) (sym (ap (λ (w : Writing). w .number) (writes .numbers))), writes .leaves)
   refused-leaves (written bs) writes n = absurd (n (ap (λ (w : Writing). w .number) (writes .numbers)))
 
   pub past-kept : (a : Answer) → Writes a out w out′ → drop (w .length) out′ ≡ drop (w .length) out
