@@ -152,12 +152,18 @@ printf '%s\n' "$printed" | tr ' ' : >"$work/in"
 form "colons" ''
 printf '%s\n' "$printed" | sed 's/$/\r/; s/ /\t/' >"$work/in"
 form "tabs and carriage returns" ''
+printf ' \t%s \r\n' "$area" >"$work/in"
+form "blanks around" ''
 printf '%s\n' "$area" >"$work/in"
 says "digits taken as octets" 1 '' "dnr: standard input: refused, 3: $(words 3)" "$dnr" read 2 --raw
 octets "$area" >"$work/in"
 says "octets taken as digits" 2 '' "dnr: standard input: not hexadecimal text" "$dnr" read 2 --hex
 printf '%s0' "$area" >"$work/odd"
 says "an odd digit" 2 '' "dnr: $work/odd: not hexadecimal text" "$dnr" read --hex 2 "$work/odd"
+for text in 1:2 '12 3' 1g 0x12; do
+    printf %s "$text" >"$work/in"
+    says "no pairs of digits: $text" 2 '' "dnr: standard input: not hexadecimal text" "$dnr" read 2 --hex
+done
 says "nothing" 0 "@$tests/k06-dhcp6.txt" '' "$dnr" read 2
 says "nothing, --hex" 0 "@$tests/k06-dhcp6.txt" '' "$dnr" read 2 --hex -
 says "nothing, --raw" 0 "@$tests/k06-dhcp6.txt" '' "$dnr" read 2 --raw
@@ -198,12 +204,50 @@ step "kinds is JSON" is_json "$work/out"
 cp "$work/k1.rsv" "$work/in"
 says "show of standard input" 0 "$(sed '$d' "$tests/k01-dhcp6.txt")" '' "$dnr" show
 cp "$work/k1.rsv" "$work/in"
+says "show --json of standard input" 0 "$(sed 's/.*"sheet"://; s/}$//' "$tests/k01-dhcp6.json")" '' "$dnr" show --json
+cp "$work/k1.rsv" "$work/in"
 says "write prints" 0 "$printed" '' "$dnr" write
 octets 52535600010500 >"$work/in"
 says "write of no records" 0 '' '' "$dnr" write
 octets "$area" >"$work/octets"
 cp "$work/k1.rsv" "$work/in"
 says "write -o -" 0 "@$work/octets" '' "$dnr" write -o -
+
+# address CARRIER NAME HEX TEXT: a sheet with this one address shows it so.
+address() {
+    octets "52535600010${1}01${R}0301610001${3}0000" >"$work/in"
+    says "address $4" 0 "$2 (carrier $1), 1 record
+
+a
+    priority        1
+    address         $4" '' "$dnr" show
+}
+address 1 DHCPv4 c0000201 192.0.2.1
+address 1 DHCPv4 00000000 0.0.0.0
+address 1 DHCPv4 ffffffff 255.255.255.255
+address 1 DHCPv4 0a096463 10.9.100.99
+# Examples of RFC 5952, sections 4 and 5, and the ends of each of its rules.
+while read -r hex text; do
+    address 2 DHCPv6 "$hex" "$text"
+done <<'END'
+20010db8000000000000000000000001 2001:db8::1
+20010db8000000000000000000020001 2001:db8::2:1
+20010db8000000010001000100010001 2001:db8:0:1:1:1:1:1
+20010000000000010000000000000001 2001:0:0:1::1
+20010db8000000000001000000000001 2001:db8::1:0:0:1
+20010db800000000aaaa000000000001 2001:db8::aaaa:0:0:1
+20010db800010002000300040005abcd 2001:db8:1:2:3:4:5:abcd
+00000000000000000000000000000000 ::
+00010000000000000000000000000000 1::
+fe800000000000000000000000010002 fe80::1:2
+00000001000000010000000100000100 0:1:0:1:0:1:0:100
+00000000000100010001000100000000 ::1:1:1:1:0:0
+00000000000000000000ffffc0000280 ::ffff:192.0.2.128
+00000000000000000000ffff00000000 ::ffff:0.0.0.0
+000000000000000000000000c0000280 ::c000:280
+00000000000000000001ffffc0000280 ::1:ffff:c000:280
+0064ff9b0000000000000000c0000221 64:ff9b::c000:221
+END
 
 # refused NUMBER HEX: the sheet is refused, by `write` and by `show`.
 refused() {

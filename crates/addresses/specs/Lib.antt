@@ -3,4 +3,3 @@ pub mod AddressesLaws
 pub mod CountLaws
 pub mod Ranges
 pub mod RangesLaws
-pub mod Examples

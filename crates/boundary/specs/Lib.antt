@@ -1,3 +1,5 @@
+pub mod Piece
 pub mod Table
+pub mod Test
+pub mod TestLaws
 pub mod Boundary
-pub mod Stated

@@ -1,52 +1,11 @@
 -- The boundary pieces K1 to K12 of document 01 ("Boundary pieces") as one table. Octets stand as the document prints them, in hexadecimal;
--- what it gives in words is written out. Assumes nothing: these are definitions.
-use mathlib.Core.Path.{_≡_}
-use mathlib.Core.Bool.{Bool, true, false}
+-- what it gives in words is written out, and its further sentences are claims. Assumes nothing: these are definitions.
 use mathlib.Core.List.{List, [], _∷_, _++_}
-use Prim.Native.Nat.{ℕ, _≤_, _<_}
-use lib.ListN.{length}
-use Rattle.octets.specs.Numbers.{zeros}
-use Rattle.numbers.specs.Refusal as refusal
-use Rattle.reading.specs.Reading.{Done, faultless, readOf, done}
-use Rattle.reading.specs.Reading as reading
-use Rattle.written.specs.Writing.{writeOf, written}
-use Rattle.written.specs.Writing as writing
-
--- one boundary piece: octets read under a carrier number; what the reading gives; whether writing its sheet gives the octets back
-pub record Piece : Type 0 where
-  pub carrier : ℕ
-  pub area : List ℕ
-  pub gives : Done
-  pub back : Bool
-
--- a sheet and one block found, which is discarded for a fault
-abbrev pub oneDiscarded : List ℕ → ℕ → Done
-oneDiscarded sheet fault = record { sheet = sheet; found = 1; discarded = 1; fault = fault }
-
--- ---- what is said of a piece
-
--- reading its octets with the room for its sheet, or more, is done with that sheet and these numbers; with less it is refusal 5
-pub record IsRead (p : Piece) : Type 0 where
-  pub enough : (room : ℕ) → length (p .gives .sheet) ≤ room → readOf (p .carrier) (p .area) room ≡ done (p .gives)
-  pub short : (room : ℕ) → room < length (p .gives .sheet) → readOf (p .carrier) (p .area) room ≡ reading.refuse refusal.room
-
--- writing its sheet with the room for its octets, or more, gives these octets; with less it is refusal 5
-pub record IsWritten (p : Piece) : Type 0 where
-  pub enough : (room : ℕ) → length (p .area) ≤ room → writeOf (p .gives .sheet) room ≡ written (p .area)
-  pub short : (room : ℕ) → room < length (p .area) → writeOf (p .gives .sheet) room ≡ writing.refuse refusal.room
-
--- writing its sheet gives these octets in no room: a discarded block is not in the sheet, and records stand there by rising priority
-abbrev pub IsOther : Piece → Type 0
-IsOther p = (room : ℕ) → writeOf (p .gives .sheet) room ≡ written (p .area) → ⊥
-
--- whether the octets come back
-abbrev pub Back : Bool → Piece → Type 0
-Back true p = IsWritten p
-Back false p = IsOther p
-
--- all of it: the statement of each entry
-abbrev pub Holds : Piece → Type 0
-Holds p = IsRead p × Back (p .back) p
+use Prim.Native.Nat.{ℕ}
+use Rattle.octets.specs.Numbers.{be, zeros}
+use Rattle.blocks.specs.Block.{nameOnly, whole}
+use Rattle.reading.specs.Reading.{faultless}
+use Rattle.boundary.specs.Piece.{again, others, octets, sheetOctets, partOctets, number, ends, joined, options, replaced, short, enough, Piece, oneDiscarded}
 
 -- ---- parts
 
@@ -66,6 +25,14 @@ P = 0x00 ∷ 0x01 ∷ 0x00 ∷ 0x04 ∷ 0x03 ∷ 0x64 ∷ 0x6f ∷ 0x74 ∷ []
 abbrev pub A : List ℕ
 A = 0x20 ∷ 0x01 ∷ 0x0d ∷ 0xb8 ∷ 0x01 ∷ 0x22 ∷ 0x03 ∷ 0x00 ∷ 0x00 ∷ 0x00 ∷ 0x00 ∷ 0x00 ∷ 0x00 ∷ 0x00 ∷ 0x00 ∷ 0x01 ∷ []
 
+-- 192.0.2.1
+abbrev pub A4 : List ℕ
+A4 = 0xc0 ∷ 0x00 ∷ 0x02 ∷ 0x01 ∷ []
+
+-- key 65,280 with n zero octets
+abbrev pub zeroed : ℕ → List ℕ
+zeroed n = be 2 65280 ++ (be 2 n ++ zeros n)
+
 -- a.example, b.example and c.example, by their first letter
 abbrev pub example : ℕ → List ℕ
 example letter = 0x01 ∷ letter ∷ 0x07 ∷ 0x65 ∷ 0x78 ∷ 0x61 ∷ 0x6d ∷ 0x70 ∷ 0x6c ∷ 0x65 ∷ 0x00 ∷ []
@@ -76,6 +43,7 @@ example letter = 0x01 ∷ letter ∷ 0x07 ∷ 0x65 ∷ 0x78 ∷ 0x61 ∷ 0x6d �
 -- octets: 52 53 56 00 01 02 01, 00 01 00 00 00 00 01 12, N, 01, A's 16 octets, 00 08, P.
 abbrev pub k1 : Piece
 k1 = record {
+  k = 1;
   carrier = 2;
   area =
       0x00 ∷ 0x90 ∷ 0x00 ∷ 0x30 ∷ 0x00 ∷ 0x01 ∷ 0x00 ∷ 0x12 ∷ N
@@ -88,12 +56,15 @@ k1 = record {
       ++ 0x01 ∷ A
       ++ 0x00 ∷ 0x08 ∷ P)
       1;
-  back = true;
+  records = whole 1 0 N A P ∷ [];
+  back = again;
+  says = octets 52 ∷ sheetOctets 60 ∷ partOctets N 18 ∷ partOctets A 16 ∷ short 59 ∷ enough 60 ∷ [];
 }
 
 -- K2 carrier 1, name only: a2 17 00 15 00 01 12, N. 25 octets.
 abbrev pub k2 : Piece
 k2 = record {
+  k = 2;
   carrier = 1;
   area = 0xa2 ∷ 0x17 ∷ 0x00 ∷ 0x15 ∷ 0x00 ∷ 0x01 ∷ 0x12 ∷ N;
   gives =
@@ -101,12 +72,15 @@ k2 = record {
       (0x52 ∷ 0x53 ∷ 0x56 ∷ 0x00 ∷ 0x01 ∷ 0x01 ∷ 0x01
       ∷ 0x00 ∷ 0x01 ∷ 0x00 ∷ 0x00 ∷ 0x00 ∷ 0x00 ∷ 0x00 ∷ 0x12 ∷ N)
       1;
-  back = true;
+  records = nameOnly 1 0 N ∷ [];
+  back = again;
+  says = octets 25 ∷ [];
 }
 
 -- K3 carrier 3, name only, lifetime 3,600: 90 04 00 01 00 00 0e 10 00 12, N, 00 00 00 00. 32 octets.
 abbrev pub k3 : Piece
 k3 = record {
+  k = 3;
   carrier = 3;
   area =
       0x90 ∷ 0x04 ∷ 0x00 ∷ 0x01 ∷ 0x00 ∷ 0x00 ∷ 0x0e ∷ 0x10 ∷ 0x00 ∷ 0x12 ∷ N
@@ -116,12 +90,15 @@ k3 = record {
       (0x52 ∷ 0x53 ∷ 0x56 ∷ 0x00 ∷ 0x01 ∷ 0x03 ∷ 0x01
       ∷ 0x00 ∷ 0x01 ∷ 0x00 ∷ 0x00 ∷ 0x0e ∷ 0x10 ∷ 0x00 ∷ 0x12 ∷ N)
       1;
-  back = true;
+  records = nameOnly 1 3600 N ∷ [];
+  back = again;
+  says = octets 32 ∷ [];
 }
 
 -- K4 carrier 3 with N, A, P: length octet 7, no padding. It names no priority and no lifetime: 1 and 3,600, as in K3.
 abbrev pub k4 : Piece
 k4 = record {
+  k = 4;
   carrier = 3;
   area =
       0x90 ∷ 0x07 ∷ 0x00 ∷ 0x01 ∷ 0x00 ∷ 0x00 ∷ 0x0e ∷ 0x10 ∷ 0x00 ∷ 0x12 ∷ N
@@ -134,12 +111,15 @@ k4 = record {
       ++ 0x01 ∷ A
       ++ 0x00 ∷ 0x08 ∷ P)
       1;
-  back = true;
+  records = whole 1 3600 N A P ∷ [];
+  back = again;
+  says = number 1 1 7 ∷ ends P ∷ [];
 }
 
 -- K5 carrier 5 with the same: length 44, ADN length 16. The priority is 1 here too.
 abbrev pub k5 : Piece
 k5 = record {
+  k = 5;
   carrier = 5;
   area = 0x00 ∷ 0x1c ∷ 0x00 ∷ 0x2c ∷ 0x00 ∷ 0x01 ∷ 0x01 ∷ 0x10 ∷ A ++ T ++ P;
   gives =
@@ -149,90 +129,115 @@ k5 = record {
       ++ 0x01 ∷ A
       ++ 0x00 ∷ 0x08 ∷ P)
       1;
-  back = true;
+  records = whole 1 0 N A P ∷ [];
+  back = again;
+  says = number 2 2 44 ∷ number 1 7 16 ∷ partOctets T 16 ∷ [];
 }
 
 -- K6 empty area: a 7-octet sheet with count 0, found 0. It names no carrier, so the table has all five.
 abbrev pub k6 : ℕ → Piece
 k6 carrier = record {
+  k = 6;
   carrier = carrier;
   area = [];
   gives = faultless (0x52 ∷ 0x53 ∷ 0x56 ∷ 0x00 ∷ 0x01 ∷ carrier ∷ 0x00 ∷ []) 0;
-  back = true;
+  records = [];
+  back = again;
+  says = octets 0 ∷ sheetOctets 7 ∷ [];
 }
 
 -- K7 K1 with priority 0: done, count 0, found 1, discarded 1, fault 21.
 abbrev pub k7 : Piece
 k7 = record {
+  k = 7;
   carrier = 2;
   area =
       0x00 ∷ 0x90 ∷ 0x00 ∷ 0x30 ∷ 0x00 ∷ 0x00 ∷ 0x00 ∷ 0x12 ∷ N
       ++ 0x00 ∷ 0x10 ∷ A
       ++ P;
   gives = oneDiscarded (0x52 ∷ 0x53 ∷ 0x56 ∷ 0x00 ∷ 0x01 ∷ 0x02 ∷ 0x00 ∷ []) 21;
-  back = false;
+  records = [];
+  back = others [];
+  says = replaced (k1 .area) 4 (0x00 ∷ 0x01 ∷ []) (0x00 ∷ 0x00 ∷ []) ∷ [];
 }
 
 -- K8 carrier 1, one record: priority 1, N, address 192.0.2.1, one parameter with key 65,280 and 268 zero octets. Joined data 300 octets,
 -- written as options of 255 and 45.
 abbrev pub k8 : Piece
 k8 = record {
+  k = 8;
   carrier = 1;
   area =
       0xa2 ∷ 0xff ∷ 0x01 ∷ 0x2a ∷ 0x00 ∷ 0x01 ∷ 0x12 ∷ N
-      ++ 0x04 ∷ 0xc0 ∷ 0x00 ∷ 0x02 ∷ 0x01 ∷ 0xff ∷ 0x00 ∷ 0x01 ∷ 0x0c ∷ zeros 223
+      ++ 0x04 ∷ A4
+      ++ 0xff ∷ 0x00 ∷ 0x01 ∷ 0x0c ∷ zeros 223
       ++ 0xa2 ∷ 0x2d ∷ zeros 45;
   gives =
       faultless
       (0x52 ∷ 0x53 ∷ 0x56 ∷ 0x00 ∷ 0x01 ∷ 0x01 ∷ 0x01
       ∷ 0x00 ∷ 0x01 ∷ 0x00 ∷ 0x00 ∷ 0x00 ∷ 0x00 ∷ 0x01 ∷ 0x12 ∷ N
-      ++ 0x01 ∷ 0xc0 ∷ 0x00 ∷ 0x02 ∷ 0x01 ∷ 0x01 ∷ 0x10 ∷ 0xff ∷ 0x00 ∷ 0x01 ∷ 0x0c ∷ zeros 268)
+      ++ 0x01 ∷ A4
+      ++ 0x01 ∷ 0x10 ∷ 0xff ∷ 0x00 ∷ 0x01 ∷ 0x0c ∷ zeros 268)
       1;
-  back = true;
+  records = whole 1 0 N A4 (zeroed 268) ∷ [];
+  back = again;
+  says = joined 300 ∷ options (255 ∷ 45 ∷ []) ∷ [];
 }
 
 -- K9 the same with 223 zero octets: joined data 255, one option.
 abbrev pub k9 : Piece
 k9 = record {
+  k = 9;
   carrier = 1;
   area =
       0xa2 ∷ 0xff ∷ 0x00 ∷ 0xfd ∷ 0x00 ∷ 0x01 ∷ 0x12 ∷ N
-      ++ 0x04 ∷ 0xc0 ∷ 0x00 ∷ 0x02 ∷ 0x01 ∷ 0xff ∷ 0x00 ∷ 0x00 ∷ 0xdf ∷ zeros 223;
+      ++ 0x04 ∷ A4
+      ++ 0xff ∷ 0x00 ∷ 0x00 ∷ 0xdf ∷ zeros 223;
   gives =
       faultless
       (0x52 ∷ 0x53 ∷ 0x56 ∷ 0x00 ∷ 0x01 ∷ 0x01 ∷ 0x01
       ∷ 0x00 ∷ 0x01 ∷ 0x00 ∷ 0x00 ∷ 0x00 ∷ 0x00 ∷ 0x01 ∷ 0x12 ∷ N
-      ++ 0x01 ∷ 0xc0 ∷ 0x00 ∷ 0x02 ∷ 0x01 ∷ 0x00 ∷ 0xe3 ∷ 0xff ∷ 0x00 ∷ 0x00 ∷ 0xdf ∷ zeros 223)
+      ++ 0x01 ∷ A4
+      ++ 0x00 ∷ 0xe3 ∷ 0xff ∷ 0x00 ∷ 0x00 ∷ 0xdf ∷ zeros 223)
       1;
-  back = true;
+  records = whole 1 0 N A4 (zeroed 223) ∷ [];
+  back = again;
+  says = joined 255 ∷ options (255 ∷ []) ∷ [];
 }
 
 -- K10 K1 with A replaced by ::1: fault 25.
 abbrev pub k10 : Piece
 k10 = record {
+  k = 10;
   carrier = 2;
   area =
       0x00 ∷ 0x90 ∷ 0x00 ∷ 0x30 ∷ 0x00 ∷ 0x01 ∷ 0x00 ∷ 0x12 ∷ N
       ++ 0x00 ∷ 0x10 ∷ zeros 15
       ++ 0x01 ∷ P;
   gives = oneDiscarded (0x52 ∷ 0x53 ∷ 0x56 ∷ 0x00 ∷ 0x01 ∷ 0x02 ∷ 0x00 ∷ []) 25;
-  back = false;
+  records = [];
+  back = others [];
+  says = replaced (k1 .area) 28 A (zeros 15 ++ (0x01 ∷ [])) ∷ [];
 }
 
 -- K11 K3 with a last octet 01: fault 29.
 abbrev pub k11 : Piece
 k11 = record {
+  k = 11;
   carrier = 3;
   area =
       0x90 ∷ 0x04 ∷ 0x00 ∷ 0x01 ∷ 0x00 ∷ 0x00 ∷ 0x0e ∷ 0x10 ∷ 0x00 ∷ 0x12 ∷ N
       ++ 0x00 ∷ 0x00 ∷ 0x00 ∷ 0x01 ∷ [];
   gives = oneDiscarded (0x52 ∷ 0x53 ∷ 0x56 ∷ 0x00 ∷ 0x01 ∷ 0x03 ∷ 0x00 ∷ []) 29;
-  back = false;
+  records = [];
+  back = others [];
+  says = replaced (k3 .area) 31 (0x00 ∷ []) (0x01 ∷ []) ∷ [];
 }
 
 -- K12 carrier 2, name-only options for a.example, b.example, c.example with priorities 5, 1, 5 read as 1, first 5, second 5.
 abbrev pub k12 : Piece
 k12 = record {
+  k = 12;
   carrier = 2;
   area =
       0x00 ∷ 0x90 ∷ 0x00 ∷ 0x0f ∷ 0x00 ∷ 0x05 ∷ 0x00 ∷ 0x0b ∷ example 0x61
@@ -245,7 +250,13 @@ k12 = record {
       ++ 0x00 ∷ 0x05 ∷ 0x00 ∷ 0x00 ∷ 0x00 ∷ 0x00 ∷ 0x00 ∷ 0x0b ∷ example 0x61
       ++ 0x00 ∷ 0x05 ∷ 0x00 ∷ 0x00 ∷ 0x00 ∷ 0x00 ∷ 0x00 ∷ 0x0b ∷ example 0x63)
       3;
-  back = false;
+  records = nameOnly 1 0 (example 0x62) ∷ nameOnly 5 0 (example 0x61) ∷ nameOnly 5 0 (example 0x63) ∷ [];
+  back =
+      others
+      (0x00 ∷ 0x90 ∷ 0x00 ∷ 0x0f ∷ 0x00 ∷ 0x01 ∷ 0x00 ∷ 0x0b ∷ example 0x62
+      ++ 0x00 ∷ 0x90 ∷ 0x00 ∷ 0x0f ∷ 0x00 ∷ 0x05 ∷ 0x00 ∷ 0x0b ∷ example 0x61
+      ++ 0x00 ∷ 0x90 ∷ 0x00 ∷ 0x0f ∷ 0x00 ∷ 0x05 ∷ 0x00 ∷ 0x0b ∷ example 0x63);
+  says = [];
 }
 
 -- ---- the table

@@ -14,6 +14,5 @@ pub mod BodyLaws
 pub mod Emit
 pub mod EmitLaws
 pub mod Cutting
-pub mod Examples
 pub mod Area
 pub mod AreaLaws

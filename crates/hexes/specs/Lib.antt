@@ -5,4 +5,3 @@ pub mod Exactly
 pub mod Decoding
 pub mod DecodingLaws
 pub mod Turns
-pub mod Examples

@@ -5,4 +5,3 @@ pub mod RunLaws
 pub mod IpsLaws
 pub mod Unique
 pub mod Writes
-pub mod Examples

@@ -2,4 +2,3 @@ pub mod Layouts
 pub mod Writable
 pub mod LayoutsLaws
 pub mod Writes
-pub mod Examples

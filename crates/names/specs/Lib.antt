@@ -16,4 +16,4 @@ pub mod Exact
 pub mod Outcomes
 pub mod Right
 pub mod Labels
-pub mod Examples
+pub mod Held

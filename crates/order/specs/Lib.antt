@@ -1,7 +1,6 @@
 pub mod Order
 pub mod Listed
 pub mod ListedLaws
-pub mod Examples
 pub mod OrderLaws
 pub mod ExchangeLaws
 pub mod MergeLaws

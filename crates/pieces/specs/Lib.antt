@@ -2,4 +2,3 @@ pub mod Pieces
 pub mod PiecesLaws
 pub mod Cutting
 pub mod CuttingLaws
-pub mod Examples

@@ -8,3 +8,4 @@ pub mod SlotLaws
 pub mod TallyLaws
 pub mod AnswerLaws
 pub mod LeavesLaws
+pub mod RoomLaws

@@ -2,4 +2,3 @@ pub mod Showing
 pub mod ParameterLaws
 pub mod PartLaws
 pub mod SheetLaws
-pub mod Examples

@@ -9,4 +9,3 @@ pub mod FieldLaws
 pub mod AcceptedLaws
 pub mod VerdictLaws
 pub mod Exactly
-pub mod Examples

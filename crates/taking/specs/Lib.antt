@@ -10,4 +10,3 @@ pub mod StandingLaws
 pub mod TookLaws
 pub mod RecordLaws
 pub mod Exactly
-pub mod Examples

@@ -10,4 +10,3 @@ pub mod Right
 pub mod Outcomes
 pub mod Convert
 pub mod Turns
-pub mod Examples

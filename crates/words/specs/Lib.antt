@@ -1,4 +1,3 @@
 pub mod Words
 pub mod Encoded
 pub mod EncodedLaws
-pub mod Examples

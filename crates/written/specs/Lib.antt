@@ -2,3 +2,4 @@ pub mod Writing
 pub mod Accepted
 pub mod AcceptedLaws
 pub mod DefinedLaws
+pub mod RoomLaws

@@ -32,6 +32,8 @@ impl Kind {
 pub struct Cases {
     list: Vec<(Kind, Vec<u8>)>,
     seen: HashSet<(Kind, Vec<u8>)>,
+    /// What the papers say of some of them: octets, answer, source.
+    stated: Vec<(Kind, Vec<u8>, String, &'static str)>,
 }
 
 impl Cases {
@@ -41,6 +43,31 @@ impl Cases {
         if self.seen.insert(case.clone()) {
             self.list.push(case);
         }
+    }
+
+    /// Adds a case with the answer that a paper gives.
+    pub fn state(
+        &mut self,
+        source: &'static str,
+        kind: Kind,
+        octets: impl Into<Vec<u8>>,
+        answer: impl Into<String>,
+    ) {
+        let octets = octets.into();
+        self.add(kind, octets.clone());
+        self.stated.push((kind, octets, answer.into(), source));
+    }
+
+    /// Every stated answer that the reference does not give.
+    pub fn disagreements(&self) -> Vec<String> {
+        let mut told = Vec::new();
+        for (kind, octets, stated, source) in &self.stated {
+            let asked = answer(*kind, octets);
+            if asked != *stated {
+                told.push(format!("{source}: stated {stated}, reference {asked}"));
+            }
+        }
+        told
     }
 
     pub fn count(&self, kind: Kind) -> usize {
@@ -63,20 +90,25 @@ impl Cases {
     pub fn stdout(&self) -> String {
         let mut lines = String::new();
         for (kind, octets) in &self.list {
-            let answer = match kind {
-                Kind::Wire => name_answer(check_wire(octets), || wire_to_text(octets)),
-                Kind::Text => name_answer(check_text(octets), || text_to_wire(octets)),
-                Kind::Ipv4 => address_answer(4, octets),
-                Kind::Ipv6 => address_answer(16, octets),
-                Kind::Params => params_fault(octets).to_string(),
-            };
             lines.push(kind.letter());
             lines.push(' ');
-            lines.push_str(answer.trim_end());
+            lines.push_str(&answer(*kind, octets));
             lines.push('\n');
         }
         lines
     }
+}
+
+/// What the reference answers.
+fn answer(kind: Kind, octets: &[u8]) -> String {
+    let answer = match kind {
+        Kind::Wire => name_answer(check_wire(octets), || wire_to_text(octets)),
+        Kind::Text => name_answer(check_text(octets), || text_to_wire(octets)),
+        Kind::Ipv4 => address_answer(4, octets),
+        Kind::Ipv6 => address_answer(16, octets),
+        Kind::Params => params_fault(octets).to_string(),
+    };
+    answer.trim_end().to_string()
 }
 
 fn name_answer(check: Result<(), usize>, other_form: impl Fn() -> Vec<u8>) -> String {
@@ -93,7 +125,8 @@ fn address_answer(width: usize, addresses: &[u8]) -> String {
     format!("{} {} {}", kept.len() / width, u8::from(drops), hex(&kept))
 }
 
-fn hex(octets: &[u8]) -> String {
+/// Two digits for each octet.
+pub fn hex(octets: &[u8]) -> String {
     octets.iter().fold(String::new(), |mut text, octet| {
         write!(text, "{octet:02x}").expect("a string takes any text");
         text

@@ -2,7 +2,8 @@
 //! same octets every time.
 //!
 //! - `vectors DIRECTORY`: vectors over names, addresses and parameters, one a
-//!   line, and for each the line that the reference answers.
+//!   line, and for each the line that the reference answers; what document 01
+//!   says of the first of them is stated, and the reference must confirm it.
 //! - `vectors boundaries DIRECTORY [LIST]`: boundary cases of reading and
 //!   writing, in octets, and for each the line that document 01 states and the
 //!   reference confirms. The file LIST tells the source of each line.
@@ -13,6 +14,7 @@ mod cases;
 mod names;
 mod numbers;
 mod params;
+mod stated;
 
 use cases::Cases;
 use numbers::Numbers;
@@ -21,11 +23,12 @@ use std::path::Path;
 use std::{env, fs, io, process};
 
 /// The reader of the vectors holds them whole, in 65,536 octets.
-const MAX_STDIN: usize = 60_000;
+const MAX_STDIN: usize = 64_000;
 
 fn all_cases() -> Cases {
     let mut numbers = Numbers::new(9463);
     let mut cases = Cases::default();
+    stated::add(&mut cases);
     names::add_wire(&mut cases, &mut numbers, 600);
     names::add_text(&mut cases, &mut numbers, 600);
     addresses::add_ipv4(&mut cases, &mut numbers, 150);
@@ -36,6 +39,10 @@ fn all_cases() -> Cases {
 
 fn write_files(directory: &Path) -> io::Result<()> {
     let cases = all_cases();
+    let disagreements = cases.disagreements();
+    if !disagreements.is_empty() {
+        return Err(io::Error::other(disagreements.join("\n")));
+    }
     let stdin = cases.stdin();
     assert!(stdin.len() < MAX_STDIN, "{} octets", stdin.len());
     fs::write(directory.join("stdin"), stdin)?;
@@ -86,6 +93,26 @@ mod tests {
             [600, 600, 150, 150, 900]
         );
         assert_eq!(all_cases().stdin(), stdin);
+    }
+
+    /// What document 01 says of the cases that are stated.
+    #[test]
+    fn the_reference_agrees() {
+        let disagreements = all_cases().disagreements();
+        assert!(disagreements.is_empty(), "{}", disagreements.join("\n"));
+    }
+
+    /// A statement that is wrong is found.
+    #[test]
+    fn wrong_statements_are_found() {
+        let mut cases = Cases::default();
+        cases.state("right", Kind::Params, [], "0");
+        cases.state("wrong fault", Kind::Params, [0], "0");
+        cases.state("wrong place", Kind::Wire, *b"\x03a--\0", "bad 2");
+        cases.state("wrong list", Kind::Ipv4, [127, 0, 0, 1], "1 0 7f000001");
+        let found = cases.disagreements();
+        assert_eq!(found.len(), 3);
+        assert!(found.iter().all(|told| told.starts_with("wrong")));
     }
 
     #[test]

@@ -10,7 +10,7 @@ const WIRE_DAMAGE: &[u8] = b"\x00\x01\x02\x03\x3f\x40\x80\xc0a9Z-._ /:@[`{\xff";
 const TEXT_DAMAGE: &[u8] = b"a9Z--..._ /:@[`{\x00\x01\r\x80\xff";
 
 /// A name of these label lengths, all of one letter.
-fn wire(lengths: &[usize]) -> Vec<u8> {
+pub fn wire(lengths: &[usize]) -> Vec<u8> {
     let mut name = Vec::new();
     for length in lengths {
         name.push(*length as u8);
@@ -20,12 +20,14 @@ fn wire(lengths: &[usize]) -> Vec<u8> {
     name
 }
 
-fn text(lengths: &[usize]) -> Vec<u8> {
+/// The same as text.
+pub fn text(lengths: &[usize]) -> Vec<u8> {
     let labels: Vec<String> = lengths.iter().map(|length| "n".repeat(*length)).collect();
     labels.join(".").into_bytes()
 }
 
-fn with(mut name: Vec<u8>, index: usize, octet: u8) -> Vec<u8> {
+/// A name with one octet set to another value.
+pub fn with(mut name: Vec<u8>, index: usize, octet: u8) -> Vec<u8> {
     name[index] = octet;
     name
 }

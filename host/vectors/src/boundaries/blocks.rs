@@ -143,6 +143,36 @@ fn add_discarded(table: &mut Table) {
     }
 }
 
+/// Records stand by rising priority, equal ones in the order of arrival.
+fn add_order(table: &mut Table) {
+    for carrier in 1..=5 {
+        let named = |(priority, letter): (u16, u8)| {
+            Resolver::small(carrier, priority, &letter_name(letter))
+        };
+        let arrived = [
+            (30, b'a'),
+            (10, b'b'),
+            (30, b'c'),
+            (20, b'd'),
+            (10, b'e'),
+            (5, b'f'),
+        ];
+        let ordered = [
+            (5, b'f'),
+            (10, b'b'),
+            (10, b'e'),
+            (20, b'd'),
+            (30, b'a'),
+            (30, b'c'),
+        ];
+        let found = if carrier == 1 { 1 } else { 6 };
+        let done = Done::kept(found, &sheet(carrier, &ordered.map(named)));
+        let source = format!("01 The record sheet, six by priority in carrier {carrier}");
+        let octets = area(carrier, &arrived.map(named));
+        table.read(source, carrier, ROOM, &octets, &done);
+    }
+}
+
 /// Refusals in their order: 3, 4, 5 (points S2, W7), and 5 for every room
 /// below the sheet's length.
 fn add_rooms(table: &mut Table) {
@@ -167,5 +197,6 @@ pub fn add(table: &mut Table) {
     add_short(table);
     add_framing(table);
     add_discarded(table);
+    add_order(table);
     add_rooms(table);
 }

@@ -2,7 +2,7 @@
 //! lengths of instances (01 Area walk, Block layouts; points W1 to W4, W11,
 //! B1 to B4).
 
-use super::layout::{hex, option, options_162, sheet, Resolver, A4, N};
+use super::layout::{hex, option, options_162, params_of, sheet, Resolver, A4, N};
 use super::pieces::{k2, k2_sheet, k8_joined, k8_sheet};
 use super::table::{Done, Table, ROOM};
 
@@ -64,6 +64,27 @@ fn add_large_cuts(table: &mut Table) {
     // The first option alone: its instance runs past the joined data.
     let source = "01 Numbers 20, K8's first option alone";
     table.discarded(source, 1, &option(1, &joined[..255]), 20);
+}
+
+/// Joined data at the edges of an option's 255 octets, as they are written: N,
+/// 192.0.2.1 and a parameter, 28 octets around its own.
+fn add_options(table: &mut Table) {
+    for (joined, options) in [
+        (254, 1),
+        (255, 1),
+        (256, 2),
+        (510, 2),
+        (511, 3),
+        (765, 3),
+        (766, 4),
+    ] {
+        let resolver = Resolver::full(1, N, A4, &params_of(joined - 28));
+        assert_eq!(resolver.block(1).len(), joined);
+        let octets = options_162(&resolver.block(1));
+        assert_eq!(octets.len(), joined + 2 * options);
+        let source = format!("01 Numbers given back, joined data of {joined} octets written");
+        table.goes_round(source, 1, &[resolver]);
+    }
 }
 
 /// Octets before and behind K2, and whether it is found: code 0 is one octet of
@@ -247,6 +268,7 @@ fn add_first_fault(table: &mut Table) {
 pub fn add(table: &mut Table) {
     add_cuts(table);
     add_large_cuts(table);
+    add_options(table);
     add_codes(table);
     add_framing(table);
     add_lengths(table);

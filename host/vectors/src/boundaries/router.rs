@@ -105,6 +105,10 @@ fn add_orders(table: &mut Table) {
     with(&[(47, 0)], 29);
     // Behind an address length of 15 the parameter length is 256.
     with(&[(29, 15)], 20);
+    // An address of one octet, and a parameter length of 99 with three octets
+    // left, which are no padding either.
+    let rest = hex("00 01 09 00 63 07 07 07");
+    table.discarded(source, 3, &named(14, &rest), 20);
 }
 
 /// 2,040 octets when rounded: written and read; above: 44. N, 63 addresses and
