@@ -16,4 +16,3 @@ pub mod Exact
 pub mod Outcomes
 pub mod Right
 pub mod Labels
-pub mod Held
