@@ -3,3 +3,4 @@ pub mod Accepted
 pub mod AcceptedLaws
 pub mod DefinedLaws
 pub mod RoomLaws
+pub mod Answers

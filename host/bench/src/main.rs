@@ -48,10 +48,11 @@ fn times(calls: [&mut dyn FnMut(); 3]) -> Times {
 
 fn timed_reading(carrier: u8, area: &[u8]) -> Times {
     let (mut one, mut two, mut three) = (vec![0u8; 36_775], vec![0u8; 36_775], vec![0u8; 40_960]);
-    let check = compare::read(carrier, area, &mut one);
+    let number = usize::from(carrier);
+    let check = compare::read(number, area, &mut one);
     assert_eq!(check, dnr_reference::read(carrier, area, &mut two));
     times([
-        &mut || { black_box(compare::read(carrier, black_box(area), black_box(&mut one))); },
+        &mut || { black_box(compare::read(number, black_box(area), black_box(&mut one))); },
         &mut || { black_box(dnr_reference::read(carrier, black_box(area), black_box(&mut two))); },
         &mut || { black_box(&mut three[..area.len()]).copy_from_slice(black_box(area)); },
     ])
@@ -98,7 +99,7 @@ fn row(what: &str, carrier: u8, area: &[u8], doubled: Option<&[u8]>) {
 /// The sheet that an area is read to.
 fn sheet(carrier: u8, area: &[u8]) -> Vec<u8> {
     let mut s = vec![0u8; 36_775];
-    let done = compare::read(carrier, area, &mut s);
+    let done = compare::read(usize::from(carrier), area, &mut s);
     assert_eq!(done.number, 0);
     s.truncate(done.length);
     s
