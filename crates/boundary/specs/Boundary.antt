@@ -4,6 +4,7 @@ use mathlib.Core.Bool.{true}
 use mathlib.Core.List.{[], _∷_, map}
 use Prim.Native.Nat.{ℕ, _<_}
 use lib.ListN.{length, getD}
+use Rattle.octets.specs.SameLaws.{same-self}
 use Rattle.octets.specs.Numbers.{allZero, numberAt}
 use Rattle.octets.specs.Lists.{All}
 use Rattle.octets.specs.ListsLaws.{all-at}

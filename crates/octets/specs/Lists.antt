@@ -1,5 +1,8 @@
 -- Lists that several layers speak of. Assumes nothing: these are definitions.
+use mathlib.Core.Bool.{Bool, true, false, _&&_}
 use mathlib.Core.List.{List, [], _∷_, _++_}
+use Prim.Native.Nat.{ℕ}
+use lib.Dec.{eqb}
 
 -- P holds of each element
 abbrev pub All : {A : Type 0} → (A → Type 0) → List A → Type 0
@@ -10,3 +13,10 @@ All P (x ∷ xs) = P x × All P xs
 abbrev pub flat : {A : Type 0} → List (List A) → List A
 flat [] = []
 flat (l ∷ ls) = l ++ flat ls
+
+-- whether two lists of octets are the same
+unfoldable pub same : List ℕ → List ℕ → Bool
+same [] [] = true
+same [] (y ∷ ys) = false
+same (x ∷ xs) [] = false
+same (x ∷ xs) (y ∷ ys) = eqb x y && same xs ys

@@ -1,10 +1,11 @@
-// Octets: numbers most significant octet first, and writing into a lent buffer.
+// Octets: numbers most significant octet first, whether two runs are the same, and writing into a lent buffer.
 // Every other crate reads and writes numbers through the functions here, so that the order of octets is stated in one place
 // (document 01: "All numbers are most significant octet first"). What a write leaves in the whole buffer is one record, `Wrote`.
 // Nothing here knows of carriers, records or limits.
 ghost use mathlib.Core.Path.{_≡_};
 ghost use Prim.Native.Nat.{_+_, _*_, _^_, _≤_, _<_, min};
 ghost use lib.ListN.{length, take, drop};
+ghost use Rattle.octets.specs.Lists as lists;
 ghost use Rattle.octets.specs.Numbers.{be, at16, at32, numberAt, allZero};
 ghost use Rattle.octets.specs.Over.{Wrote};
 
@@ -69,6 +70,23 @@ pub fn get32(s: &[u8], i: usize) -> usize
     ensures { λ r. ⌜ r < 4294967296 ⌝ }
 {
     get16(s, i) * 65536 + get16(s, i + 2)
+}
+
+// Whether two runs of octets are the same.
+pub fn same(a: &[u8], b: &[u8]) -> bool
+    ensures { λ r. ⌜ r ≡ lists.same (now (a .entry)) (now (b .entry)) ⌝ }
+{
+    if a.len() != b.len() {
+        return false;
+    }
+    let mut i: usize = 0;
+    while i < a.len() {
+        if a[i] != b[i] {
+            return false;
+        }
+        i += 1;
+    }
+    true
 }
 
 // Whether all octets are zero.

@@ -1,14 +1,15 @@
 -- What a sheet's head and taking a sheet may say: one of six refusals, or that every test is passed. Assumes nothing.
 use mathlib.Core.Path.{_≡_, refl}
 use mathlib.Core.Logic.{_⊎_, inl, inr}
-use mathlib.Core.Bool.{Bool, true, false, cond, not, _&&_, false≢true}
-use mathlib.Core.List.{List, [], _∷_}
+use mathlib.Core.Bool.{Bool, true, false, cond, not}
+use mathlib.Core.List.{List}
 use Prim.Native.Nat.{ℕ, _≤_}
 use native.Mathlib.Omega.{arith}
 use borrow.Author.Tests.{eqb-true, eq-eqb, le-ltb}
 use lib.Dec.{ltb, eqb}
 use lib.ListN.{length, getD, take, drop}
 use Rattle.octets.specs.Cases.{by-less}
+use Rattle.octets.specs.SameLaws.{same-true, same-self}
 use Rattle.octets.specs.Numbers.{at16}
 use Rattle.numbers.specs.Refusal as refusal
 use Rattle.numbers.specs.Limit as limit
@@ -19,24 +20,6 @@ use Rattle.carriers.specs.Carriers.{chosenOf}
 use Rattle.blocks.specs.Block.{Fields}
 use Rattle.sheets.specs.Sheets.{letters, edition, frontSize, versionAt, carrierAt, countAt}
 use Rattle.taking.specs.Taking.{same, Headed, refuse, head, headOf, Records, none, records, recordsFrom, Taken, sheet, takeFound, takeRecords, takeCarrier, takeHeaded, takeOf}
-
--- ---- the same octets
-
-pub same-true : (a b : List ℕ) → same a b ≡ true → a ≡ b
-unfolding same
-same-true [] [] e = refl
-same-true [] (y ∷ ys) e = absurd (false≢true e)
-same-true (x ∷ xs) [] e = absurd (false≢true e)
-same-true (x ∷ xs) (y ∷ ys) e = go (eqb x y) refl e (same-true xs ys)
-  where
-    go : (b : Bool) → eqb x y ≡ b → b && same xs ys ≡ true → (same xs ys ≡ true → xs ≡ ys) → x ∷ xs ≡ y ∷ ys
-    go true t e ih = let p : x ≡ y = eqb-true x y t in let q : xs ≡ ys = ih e in cc
-    go false t e ih = absurd (false≢true e)
-
-pub same-self : (a : List ℕ) → same a a ≡ true
-unfolding same
-same-self [] = refl
-same-self (x ∷ xs) = rw (eq-eqb x x refl) (same-self xs)
 
 -- ---- the head
 

@@ -1,10 +1,11 @@
 -- Taking a sheet (01, The record sheet; Numbers given back: "Writing checks 2, 40, 41, 42, 4, 43"): any octets are refused by number, or
 -- are a carrier and its records. Assumes nothing: these are definitions.
-use mathlib.Core.Bool.{Bool, true, false, cond, not, _&&_}
+use mathlib.Core.Bool.{Bool, cond, not, _&&_}
 use mathlib.Core.List.{List, [], _∷_}
 use Prim.Native.Nat.{ℕ, zero, suc, _*_}
 use lib.Dec.{ltb, eqb}
 use lib.ListN.{length, getD, take, drop}
+unfoldable pub use Rattle.octets.specs.Lists.{same}
 use Rattle.octets.specs.Numbers.{at16}
 use Rattle.octets.specs.Fields.{part, number, counted}
 use Rattle.numbers.specs.Refusal as refusal
@@ -16,13 +17,6 @@ use Rattle.carriers.specs.Carriers.{chosenOf, addressWidth, lifetimeWidth}
 use Rattle.carriers.specs.Told.{sheetNumber}
 use Rattle.blocks.specs.Block.{Fields, nameOnly, whole}
 use Rattle.sheets.specs.Sheets.{letters, edition, frontSize, versionAt, carrierAt, countAt}
-
--- the octets are the same
-unfoldable pub same : List ℕ → List ℕ → Bool
-same [] [] = true
-same [] (y ∷ ys) = false
-same (x ∷ xs) [] = false
-same (x ∷ xs) (y ∷ ys) = eqb x y && same xs ys
 
 -- ---- the head
 

@@ -1,14 +1,12 @@
 -- The ways out of the code that takes a sheet agree with `takeOf`. Assumes nothing.
 use mathlib.Core.Path.{_≡_, refl, sym, ap, _∙_}
-use mathlib.Core.Bool.{Bool, true, false, not, _&&_, false≢true}
-use mathlib.Core.List.{List, [], _∷_}
-use Prim.Native.Nat.{ℕ, suc, _+_, _≤_, _<_}
-use native.Mathlib.Numerals.{add-one}
+use mathlib.Core.Bool.{true, false, not, false≢true}
+use mathlib.Core.List.{List}
+use Prim.Native.Nat.{ℕ, _≤_, _<_}
 use native.Mathlib.Omega.{arith}
 use borrow.Author.Tests.{lt-ltb, le-ltb, eq-eqb, ne-eqb}
 use lib.Dec.{eqb}
-use lib.ListN.{length, getD, take, drop, drop-of-length-le}
-use lib.Seq.{drop-cons}
+use lib.ListN.{length, getD, take, drop}
 use Rattle.octets.specs.Numbers.{at16}
 use Rattle.numbers.specs.Refusal as refusal
 use Rattle.numbers.specs.Limit as limit
@@ -33,38 +31,6 @@ module _ (c : Carrier) (t : ℕ) {w : ℕ} (e : w ≡ lifetimeWidth c) where
 
   pub misplaced-2 : (w ≡ 0 → ⊥) → false ≡ misplaced c t
   misplaced-2 z = rw (ne-eqb (lifetimeWidth c) 0 (λ i. z (e ∙ i)))
-
--- ---- the same octets
-
-pub same-length : (a b : List ℕ) → (length a ≡ length b → ⊥) → false ≡ same a b
-unfolding same
-same-length [] [] h = absurd (h refl)
-same-length [] (y ∷ ys) h = refl
-same-length (x ∷ xs) [] h = refl
-same-length (x ∷ xs) (y ∷ ys) h = go (eqb x y) (same-length xs ys (λ e. h (ap suc e)))
-  where
-    go : (b : Bool) → false ≡ same xs ys → false ≡ (b && same xs ys)
-    go true e = e
-    go false e = refl
-
-module _ (a b : List ℕ) (i : ℕ) (even : length a ≡ length b) where
-  pub same-turn : i < length a → getD a i 0 ≡ getD b i 0 → same (drop (i + 1) a) (drop (i + 1) b) ≡ same (drop i a) (drop i b)
-  unfolding same
-  same-turn h e =
-      let k : i < length b = omega arith in
-      rw (add-one, drop-cons a i 0 h, drop-cons b i 0 k, eq-eqb (getD a i 0) (getD b i 0) e)
-
-  pub same-not : i < length a → (getD a i 0 ≡ getD b i 0 → ⊥) → false ≡ same (drop i a) (drop i b)
-  unfolding same
-  same-not h n =
-      let k : i < length b = omega arith in
-      rw (drop-cons a i 0 h, drop-cons b i 0 k, ne-eqb (getD a i 0) (getD b i 0) n)
-
-  pub same-end : length a ≤ i → true ≡ same (drop i a) (drop i b)
-  unfolding same
-  same-end h =
-      let k : length b ≤ i = omega arith in
-      rw (drop-of-length-le a h, drop-of-length-le b k)
 
 -- ---- 2, 40, 41
 

@@ -194,23 +194,6 @@ fn stand(c: Carrier, s: &[u8], count: usize) -> bool
     at == s.len()
 }
 
-// Whether two runs of octets are the same.
-fn same(a: &[u8], b: &[u8]) -> bool
-    ensures { λ r. ⌜ r ≡ taking.same (now (a .entry)) (now (b .entry)) ⌝ }
-{
-    if a.len() != b.len() {
-        return false;
-    }
-    let mut i: usize = 0;
-    while i < a.len() {
-        if a[i] != b[i] {
-            return false;
-        }
-        i += 1;
-    }
-    true
-}
-
 // The tests 2, 40, 41.
 fn head(s: &[u8]) -> Said
     ensures { λ r. ⌜ r ≡ saidOf (headOf (now (s .entry))) ⌝ }
@@ -222,7 +205,7 @@ fn head(s: &[u8]) -> Said
         return Said::Unfit(Refusal::SHEET);
     }
     let letters = sheets::LETTERS;
-    if !same(&s[..sheets::VERSION_AT], &letters) {
+    if !octets::same(&s[..sheets::VERSION_AT], &letters) {
         return Said::Unfit(Refusal::SHEET);
     }
     if octets::get16(s, sheets::VERSION_AT) != sheets::EDITION {

@@ -1,13 +1,13 @@
--- `taking::same` meets its contract: what is left of both decides, at each turn as at the start. Assumes nothing.
+-- `octets::same` meets its contract: what is left of both decides, at each turn as at the start. Assumes nothing.
 use mathlib.Core.Path.{_≡_, refl, _∙_}
 use Prim.Native.Nat.{_≤_, _-_}
 use native.Mathlib.Omega.{arith}
 use borrow.Author.Needs.{needs}
 use lib.ListN.{length, drop}
-use Rattle.taking.specs.Taking.{same}
-use Rattle.taking.specs.TookLaws.{same-length, same-turn, same-not, same-end}
-use Rattle.taking.proofs.same.Statement.{statement}
-use Rattle.taking.proofs.same.Tie as tie
+use Rattle.octets.specs.Lists.{same}
+use Rattle.octets.specs.SameLaws.{same-length, same-turn, same-not, same-end}
+use Rattle.octets.proofs.same.Statement.{statement}
+use Rattle.octets.proofs.same.Tie as tie
 
 abbrev Inv-loop : tie.InvT-loop
 Inv-loop a b i₀ i = (i ≤ length a) × (length a ≡ length b) × (same (drop i a) (drop i b) ≡ same a b)
