@@ -1,4 +1,11 @@
-// The command line, taken word by word. An argument is kept by its index; 0, the program's own name, stands for none.
+// The command line, taken word by word (docs/COMMAND.md). An argument is kept by its index; 0, the program's own name, stands for none.
+// What each word means and what is settled at the end is `arguments/Line`, which a reader can compute for any line; the system is asked only by
+// `first`, `with_argument` and `given`, of which the contracts say that their answer is what some arguments ask for.
+ghost use mathlib.Core.Path.{_≡_};
+ghost use Rattle.arguments.specs.Line.{isOption, isHelp, carrierNamed, carrierDigit, carrierOf, only, but, decided};
+ghost use Rattle.arguments.specs.Line.{withOutput, withPending, withOption, withCarrier, withInput, withWord, commandOf};
+ghost use Rattle.arguments.specs.Line.{settledJson, settledOutput, settledForm, settledOf, Argued, Begun, Given};
+use octets::same;
 use octets::wide;
 
 // What is asked for.
@@ -78,28 +85,15 @@ pub struct Asked {
     pub at: usize,
 }
 
-// Whether two words are the same.
-pub fn same(a: &[u8], b: &[u8]) -> bool {
-    if a.len() != b.len() {
-        return false;
-    }
-    let mut i = 0;
-    while i < a.len() {
-        if a[i] != b[i] {
-            return false;
-        }
-        i += 1;
-    }
-    true
-}
-
 impl Asked {
-    // A command, and nothing more yet.
-    fn only(command: usize) -> Self {
+    // A command, and nothing more yet; one that has no carrier before the file begins with one word.
+    fn only(command: usize, words: usize) -> Self
+        ensures { λ r. ⌜ r ≡ only command words ⌝ }
+    {
         Self {
             command,
             carrier: 0,
-            words: 0,
+            words,
             input: 0,
             output: 0,
             pending: false,
@@ -111,46 +105,49 @@ impl Asked {
         }
     }
 
-    // A command that has no carrier before the file.
-    fn without_carrier(command: usize) -> Self {
-        let mut a = Self::only(command);
-        a.words = 1;
-        a
-    }
-
     // Wrong, at an argument.
-    fn but(mut self, wrong: usize, at: usize) -> Self {
+    fn but(mut self, wrong: usize, at: usize) -> Self
+        ensures { λ r. ⌜ r ≡ but wrong at self ⌝ }
+    {
         self.wrong = wrong;
         self.at = at;
         self
     }
 
     // Whether no further word matters.
-    fn is_decided(self) -> bool {
-        if self.wrong != 0 {
-            return true;
+    fn is_decided(self) -> bool
+        ensures { λ r. ⌜ r ≡ decided self ⌝ }
+    {
+        if self.wrong == 0 {
+            return Command::HELP <= self.command;
         }
-        Command::HELP <= self.command
+        true
     }
 
     // With the file that is written.
-    fn with_output(mut self, i: usize) -> Self {
+    fn with_output(mut self, i: usize) -> Self
+        ensures { λ r. ⌜ r ≡ withOutput i self ⌝ }
+    {
         self.pending = false;
         self.output = i;
         self
     }
 
     // With `-o`.
-    fn with_pending(mut self, i: usize) -> Self {
-        if self.output != 0 {
-            return self.but(Wrong::OUTPUT, i);
+    fn with_pending(mut self, i: usize) -> Self
+        ensures { λ r. ⌜ r ≡ withPending i self ⌝ }
+    {
+        if self.output == 0 {
+            self.pending = true;
+            return self;
         }
-        self.pending = true;
-        self
+        self.but(Wrong::OUTPUT, i)
     }
 
     // With an option.
-    fn with_option(mut self, i: usize, word: &[u8]) -> Self {
+    fn with_option(mut self, i: usize, word: &[u8]) -> Self
+        ensures { λ r. ⌜ r ≡ withOption i (now (word .entry)) self ⌝ }
+    {
         if same(word, b"-o") {
             return self.with_pending(i);
         }
@@ -174,7 +171,9 @@ impl Asked {
     }
 
     // With a carrier.
-    fn with_carrier(mut self, i: usize, word: &[u8]) -> Self {
+    fn with_carrier(mut self, i: usize, word: &[u8]) -> Self
+        ensures { λ r. ⌜ r ≡ withCarrier i (now (word .entry)) self ⌝ }
+    {
         self.words = 1;
         self.carrier = carrier_of(word);
         if self.carrier == 0 {
@@ -184,7 +183,9 @@ impl Asked {
     }
 
     // With the file that is read.
-    fn with_input(mut self, i: usize, word: &[u8]) -> Self {
+    fn with_input(mut self, i: usize, word: &[u8]) -> Self
+        ensures { λ r. ⌜ r ≡ withInput i (now (word .entry)) self ⌝ }
+    {
         if self.words == 2 {
             return self.but(Wrong::FILE, i);
         }
@@ -197,7 +198,9 @@ impl Asked {
     }
 
     // With one word more.
-    fn with_word(self, i: usize, word: &[u8]) -> Self {
+    fn with_word(self, i: usize, word: &[u8]) -> Self
+        ensures { λ r. ⌜ r ≡ withWord i (now (word .entry)) self ⌝ }
+    {
         if is_option(word) {
             return self.with_option(i, word);
         }
@@ -208,7 +211,9 @@ impl Asked {
     }
 
     // With one argument more.
-    fn with_argument(self, i: usize) -> Self {
+    fn with_argument(self, i: usize) -> Self
+        ensures { λ r. ⌜ Argued i self r ⌝ }
+    {
         if self.is_decided() {
             return self;
         }
@@ -224,7 +229,9 @@ impl Asked {
     }
 
     // What can only be told at the end of the line.
-    fn settled(self) -> Self {
+    fn settled(self) -> Self
+        ensures { λ r. ⌜ r ≡ settledOf self ⌝ }
+    {
         if self.is_decided() {
             return self;
         }
@@ -234,42 +241,65 @@ impl Asked {
         if self.words == 0 {
             return self.but(Wrong::NO_CARRIER, 0);
         }
-        if self.hex {
-            if self.raw {
-                return self.but(Wrong::FORM, 0);
-            }
+        self.settled_form()
+    }
+
+    // Whether the input has one form.
+    fn settled_form(self) -> Self
+        ensures { λ r. ⌜ r ≡ settledForm self ⌝ }
+    {
+        if !self.hex {
+            return self.settled_output();
         }
-        if self.output != 0 {
-            if self.command == Command::SHOW {
-                return self.but(Wrong::SHOW_OUTPUT, 0);
-            }
+        if self.raw {
+            return self.but(Wrong::FORM, 0);
+        }
+        self.settled_output()
+    }
+
+    // Whether a file that is written belongs there.
+    fn settled_output(self) -> Self
+        ensures { λ r. ⌜ r ≡ settledOutput self ⌝ }
+    {
+        if self.output == 0 {
+            return self.settled_json();
+        }
+        if self.command == Command::SHOW {
+            return self.but(Wrong::SHOW_OUTPUT, 0);
         }
         self.settled_json()
     }
 
     // Whether JSON belongs there.
-    fn settled_json(self) -> Self {
-        if self.json {
-            if self.command == Command::WRITE {
-                return self.but(Wrong::WRITE_JSON, 0);
-            }
-            if self.output != 0 {
-                return self.but(Wrong::JSON_OUTPUT, 0);
-            }
+    fn settled_json(self) -> Self
+        ensures { λ r. ⌜ r ≡ settledJson self ⌝ }
+    {
+        if !self.json {
+            return self;
         }
-        self
+        if self.command == Command::WRITE {
+            return self.but(Wrong::WRITE_JSON, 0);
+        }
+        if self.output == 0 {
+            return self;
+        }
+        self.but(Wrong::JSON_OUTPUT, 0)
     }
 }
 
 // Whether a word is an option: a hyphen and more.
-fn is_option(word: &[u8]) -> bool {
+fn is_option(word: &[u8]) -> bool
+    ensures { λ r. ⌜ r ≡ isOption (now (word .entry)) ⌝ }
+{
     if word.len() < 2 {
         return false;
     }
     word[0] == b'-'
 }
 
-fn is_help(word: &[u8]) -> bool {
+fn is_help(word: &[u8]) -> bool
+    ensures { λ r. ⌜ r ≡ isHelp (now (word .entry)) ⌝ }
+{
     if same(word, b"--help") {
         return true;
     }
@@ -277,7 +307,9 @@ fn is_help(word: &[u8]) -> bool {
 }
 
 // The number of a carrier by its name, or 0.
-fn named_carrier(word: &[u8]) -> usize {
+fn carrier_named(word: &[u8]) -> usize
+    ensures { λ r. ⌜ r ≡ carrierNamed (now (word .entry)) ⌝ }
+{
     if same(word, b"dhcp4") {
         return 1;
     }
@@ -296,12 +328,10 @@ fn named_carrier(word: &[u8]) -> usize {
     0
 }
 
-// The number of a carrier by its digit or its name, or 0.
-fn carrier_of(word: &[u8]) -> usize {
-    if word.len() != 1 {
-        return named_carrier(word);
-    }
-    let digit = word[0];
+// The number of a carrier by its digit, or 0.
+fn carrier_digit(digit: u8) -> usize
+    ensures { λ r. ⌜ r ≡ carrierDigit digit ⌝ }
+{
     if digit < b'1' {
         return 0;
     }
@@ -311,38 +341,54 @@ fn carrier_of(word: &[u8]) -> usize {
     wide(digit - b'0')
 }
 
+// The number of a carrier by its digit or its name, or 0.
+fn carrier_of(word: &[u8]) -> usize
+    ensures { λ r. ⌜ r ≡ carrierOf (now (word .entry)) ⌝ }
+{
+    if word.len() == 1 {
+        return carrier_digit(word[0]);
+    }
+    carrier_named(word)
+}
+
 // The command that the first word names.
-fn command_of(word: &[u8]) -> Asked {
+fn command_of(word: &[u8]) -> Asked
+    ensures { λ r. ⌜ r ≡ commandOf (now (word .entry)) ⌝ }
+{
     if same(word, b"read") {
-        return Asked::only(Command::READ);
+        return Asked::only(Command::READ, 0);
     }
     if same(word, b"write") {
-        return Asked::without_carrier(Command::WRITE);
+        return Asked::only(Command::WRITE, 1);
     }
     if same(word, b"show") {
-        return Asked::without_carrier(Command::SHOW);
+        return Asked::only(Command::SHOW, 1);
     }
     if is_help(word) {
-        return Asked::only(Command::HELP);
+        return Asked::only(Command::HELP, 0);
     }
     if same(word, b"--version") {
-        return Asked::only(Command::VERSION);
+        return Asked::only(Command::VERSION, 0);
     }
-    Asked::only(0).but(Wrong::COMMAND, 1)
+    Asked::only(0, 0).but(Wrong::COMMAND, 1)
 }
 
 // The command of the first argument.
-fn first() -> Asked {
+fn first() -> Asked
+    ensures { λ r. ⌜ Begun r ⌝ }
+{
     let mut word = io::buffer();
     let n = os::arg(1, &mut word);
     if os::errno() != 0 {
-        return Asked::only(0).but(Wrong::LONG, 1);
+        return Asked::only(0, 0).but(Wrong::LONG, 1);
     }
     command_of(&word[..n])
 }
 
 // What the arguments ask for.
-pub fn given() -> Asked {
+pub fn given() -> Asked
+    ensures { λ r. ⌜ Given r ⌝ }
+{
     let count = os::arg_count();
     let mut a = first();
     let mut i = 2;

@@ -1,0 +1,5 @@
+pub mod Command
+pub mod Wrong
+pub mod Line
+pub mod LineLaws
+pub mod Examples

@@ -1,0 +1,50 @@
+-- What is wrong with a command line (docs/COMMAND.md, "usage error"): the same names as in src/. Assumes nothing: these are definitions.
+use Prim.Native.Nat.{ℕ}
+
+-- no such command
+abbrev pub command : ℕ
+command = 1
+
+-- no such option
+abbrev pub option : ℕ
+option = 2
+
+-- no such carrier
+abbrev pub carrier : ℕ
+carrier = 3
+
+-- a second file
+abbrev pub file : ℕ
+file = 4
+
+-- an argument that is too long to be a file's name
+abbrev pub long : ℕ
+long = 5
+
+-- `read` without a carrier
+abbrev pub noCarrier : ℕ
+noCarrier = 6
+
+-- `-o` without a name
+abbrev pub noName : ℕ
+noName = 7
+
+-- a second `-o`
+abbrev pub output : ℕ
+output = 8
+
+-- `--hex` with `--raw`
+abbrev pub form : ℕ
+form = 9
+
+-- `-o` with `show`
+abbrev pub showOutput : ℕ
+showOutput = 10
+
+-- `--json` with `write`
+abbrev pub writeJson : ℕ
+writeJson = 11
+
+-- `--json` with `-o`
+abbrev pub jsonOutput : ℕ
+jsonOutput = 12
