@@ -1,5 +1,8 @@
 // The octets that are given: a file, or standard input, read whole.
+ghost use mathlib.Core.Path.{_≡_};
 ghost use Rattle.io.specs.Counts.{Counts};
+ghost use Rattle.chars.specs.Ascii.{ascii};
+ghost use Rattle.chars.specs.Puts.{Puts};
 use crate::messages;
 use chars::put_all;
 use libc::STDIN_FILENO;
@@ -17,9 +20,10 @@ pub struct Got {
     pub length: usize,
 }
 
-// Writes the name of the input in messages.
+// Writes the name of the input in messages: that of argument i, as the system gives it.
 pub fn name(i: usize, out: &mut [u8]) -> usize
     ensures { λ r. ⌜ Counts r (now (out .exit)) ⌝ }
+    ensures { λ r. ⌜ (i ≡ 0 → Puts 0 (ascii "standard input") (now (out .entry)) r (now (out .exit))) ⌝ }
 {
     if i == 0 {
         return put_all(out, 0, b"standard input");
@@ -91,16 +95,4 @@ pub fn read(i: usize, name: &[u8], buf: &mut [u8]) -> Got
         return read_from(STDIN_FILENO, name, buf);
     }
     read_file(name, buf)
-}
-
-// Whether text has nothing in it but what may stand between pairs of digits: hexadecimal text of no octets.
-pub fn is_blank(text: &[u8]) -> bool {
-    let mut i = 0;
-    while i < text.len() {
-        if !hexes::is_separator(text[i]) {
-            return false;
-        }
-        i += 1;
-    }
-    true
 }

@@ -1,8 +1,10 @@
 // The file that a path leads to when its last name is a symbolic link, so that a file is replaced where it is and the link stays.
+ghost use mathlib.Core.Path.{_≡_};
 ghost use Prim.Native.Nat.{_≤_};
 ghost use lib.ListN.{length};
 ghost use Rattle.io.specs.Counts.{Counts};
 ghost use Rattle.libc.specs.Io.{Ended};
+ghost use Rattle.files.specs.Paths.{folderOf, placeOf};
 use chars::put_all;
 use libc::PATH_MAX;
 
@@ -23,7 +25,9 @@ fn ended(path: &[u8]) -> [u8; PATH_MAX]
 }
 
 // The index after the last slash.
-fn folder(path: &[u8]) -> usize {
+fn folder(path: &[u8]) -> usize
+    ensures { λ r. ⌜ r ≡ folderOf (now (path .entry)) ⌝ }
+{
     let mut i = path.len();
     while 0 < i {
         let before = i - 1;
@@ -36,7 +40,9 @@ fn folder(path: &[u8]) -> usize {
 }
 
 // Where what a link says is written: in its folder, or at the front if it begins with a slash.
-fn place(path: &[u8], first: u8) -> usize {
+fn place(path: &[u8], first: u8) -> usize
+    ensures { λ r. ⌜ r ≡ placeOf (now (path .entry)) first ⌝ }
+{
     if first == b'/' {
         return 0;
     }

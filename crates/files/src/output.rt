@@ -1,10 +1,7 @@
 // What is written: to standard output, or to a file, which is either replaced whole or left as it was.
-ghost use Prim.Native.Nat.{_<_};
-ghost use Rattle.io.specs.Counts.{Counts};
+ghost use Rattle.files.specs.Status.{Wrote};
 use crate::links;
 use crate::messages;
-use arguments::same;
-use chars::put;
 use chars::put_all;
 use libc::PATH_MAX;
 use libc::SEEK_END;
@@ -14,45 +11,20 @@ use libc::STDOUT_FILENO;
 const PART: usize = PATH_MAX + 8;
 
 // Prints octets.
-pub fn print(s: &[u8]) -> i32 {
+pub fn print(s: &[u8]) -> i32
+    ensures { λ r. ⌜ Wrote r ⌝ }
+{
     if io::write_all(STDOUT_FILENO, s) {
         return 0;
     }
     messages::failed(b"standard output")
 }
 
-// ---- hexadecimal text
-
-// What follows octet i of n: a line break after the sixteenth of a line and after the last, else a space.
-fn after(i: usize, n: usize) -> u8
-    requires { ⌜ i < n ⌝ }
-{
-    if i % 16 == 15 {
-        return b'\n';
-    }
-    if i + 1 == n {
-        return b'\n';
-    }
-    b' '
-}
-
-// Writes octets as hexadecimal text, as far as there is room, and returns how long it is.
-fn put_hex(out: &mut [u8], s: &[u8]) -> usize
-    ensures { λ r. ⌜ Counts r (now (out .exit)) ⌝ }
-{
-    let mut o = 0;
-    let mut i = 0;
-    while i < s.len() {
-        let next = hexes::put_octet(out, o, s[i]);
-        o = put(out, next, after(i, s.len()));
-        i += 1;
-    }
-    o
-}
-
 // Prints octets as hexadecimal text.
-pub fn print_hex(s: &[u8], text: &mut [u8]) -> i32 {
-    let n = put_hex(text, s);
+pub fn print_hex(s: &[u8], text: &mut [u8]) -> i32
+    ensures { λ r. ⌜ Wrote r ⌝ }
+{
+    let n = lines::put_hex(text, s);
     print(&text[..n])
 }
 
@@ -73,7 +45,9 @@ fn write_out(fd: i32, name: &[u8], s: &[u8]) -> bool {
 }
 
 // Writes octets to what is no regular file.
-fn write_through(fd: i32, name: &[u8], s: &[u8]) -> i32 {
+fn write_through(fd: i32, name: &[u8], s: &[u8]) -> i32
+    ensures { λ r. ⌜ Wrote r ⌝ }
+{
     if write_out(fd, name, s) {
         return 0;
     }
@@ -81,7 +55,9 @@ fn write_through(fd: i32, name: &[u8], s: &[u8]) -> i32 {
 }
 
 // Writes octets to a new file `part`, and gives it the name `path` when it is whole.
-fn replace_by(part: &[u8], path: &[u8], name: &[u8], s: &[u8]) -> i32 {
+fn replace_by(part: &[u8], path: &[u8], name: &[u8], s: &[u8]) -> i32
+    ensures { λ r. ⌜ Wrote r ⌝ }
+{
     let fd = os::create(part);
     if fd < 0 {
         return messages::failed(name);
@@ -99,7 +75,9 @@ fn replace_by(part: &[u8], path: &[u8], name: &[u8], s: &[u8]) -> i32 {
 }
 
 // Makes a file of octets at a path, or replaces it.
-fn replace_at(path: &[u8], name: &[u8], s: &[u8]) -> i32 {
+fn replace_at(path: &[u8], name: &[u8], s: &[u8]) -> i32
+    ensures { λ r. ⌜ Wrote r ⌝ }
+{
     let mut part = [0u8; PART];
     let end = put_all(&mut part, 0, path);
     let n = put_all(&mut part, end, b".part");
@@ -107,7 +85,9 @@ fn replace_at(path: &[u8], name: &[u8], s: &[u8]) -> i32 {
 }
 
 // Makes a file of octets, or replaces the one that a name leads to.
-fn replace(name: &[u8], s: &[u8]) -> i32 {
+fn replace(name: &[u8], s: &[u8]) -> i32
+    ensures { λ r. ⌜ Wrote r ⌝ }
+{
     let mut path = io::buffer();
     let n = put_all(&mut path, 0, name);
     let m = links::follow(&mut path, n);
@@ -121,8 +101,10 @@ fn is_regular(fd: i32) -> bool {
 }
 
 // Saves octets under a name.
-fn save_as(name: &[u8], s: &[u8]) -> i32 {
-    if same(name, b"-") {
+fn save_as(name: &[u8], s: &[u8]) -> i32
+    ensures { λ r. ⌜ Wrote r ⌝ }
+{
+    if octets::same(name, b"-") {
         return print(s);
     }
     let fd = os::open_append(name);
@@ -140,7 +122,9 @@ fn save_as(name: &[u8], s: &[u8]) -> i32 {
 }
 
 // Saves octets under the name that is argument i.
-pub fn save(i: usize, s: &[u8]) -> i32 {
+pub fn save(i: usize, s: &[u8]) -> i32
+    ensures { λ r. ⌜ Wrote r ⌝ }
+{
     let mut name = io::buffer();
     let n = os::arg(i, &mut name);
     save_as(&name[..n], s)

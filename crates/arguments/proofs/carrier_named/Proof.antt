@@ -16,14 +16,21 @@ returns-3 : tie.Need-returns-3
 returns-3 c =
     let p2 = c .before .before .before in
     let p1 = p2 .before .before .before in
-    simp (sym (p1 .before .same .ensures) ∙ p1 .if1 .left, sym (p2 .before .same2 .ensures) ∙ p2 .if2 .left, sym (c .before .same3 .ensures) ∙ c .if3 .taken)
+    let e1 = sym (p1 .before .same .ensures) ∙ p1 .if1 .left in
+    let e2 = sym (p2 .before .same2 .ensures) ∙ p2 .if2 .left in
+    let e3 = sym (c .before .same3 .ensures) ∙ c .if3 .taken in
+    simp (e1, e2, e3)
 
 returns-4 : tie.Need-returns-4
 returns-4 c =
     let p3 = c .before .before .before in
     let p2 = p3 .before .before .before in
     let p1 = p2 .before .before .before in
-    simp (sym (p1 .before .same .ensures) ∙ p1 .if1 .left, sym (p2 .before .same2 .ensures) ∙ p2 .if2 .left, sym (p3 .before .same3 .ensures) ∙ p3 .if3 .left, sym (c .before .same4 .ensures) ∙ c .if4 .taken)
+    let e1 = sym (p1 .before .same .ensures) ∙ p1 .if1 .left in
+    let e2 = sym (p2 .before .same2 .ensures) ∙ p2 .if2 .left in
+    let e3 = sym (p3 .before .same3 .ensures) ∙ p3 .if3 .left in
+    let e4 = sym (c .before .same4 .ensures) ∙ c .if4 .taken in
+    simp (e1, e2, e3, e4)
 
 returns-5 : tie.Need-returns-5
 returns-5 c =
@@ -31,7 +38,12 @@ returns-5 c =
     let p3 = p4 .before .before .before in
     let p2 = p3 .before .before .before in
     let p1 = p2 .before .before .before in
-    simp (sym (p1 .before .same .ensures) ∙ p1 .if1 .left, sym (p2 .before .same2 .ensures) ∙ p2 .if2 .left, sym (p3 .before .same3 .ensures) ∙ p3 .if3 .left, sym (p4 .before .same4 .ensures) ∙ p4 .if4 .left, sym (c .before .same5 .ensures) ∙ c .if5 .taken)
+    let e1 = sym (p1 .before .same .ensures) ∙ p1 .if1 .left in
+    let e2 = sym (p2 .before .same2 .ensures) ∙ p2 .if2 .left in
+    let e3 = sym (p3 .before .same3 .ensures) ∙ p3 .if3 .left in
+    let e4 = sym (p4 .before .same4 .ensures) ∙ p4 .if4 .left in
+    let e5 = sym (c .before .same5 .ensures) ∙ c .if5 .taken in
+    simp (e1, e2, e3, e4, e5)
 
 returns-6 : tie.Need-returns-6
 returns-6 c =
@@ -39,7 +51,12 @@ returns-6 c =
     let p3 = p4 .before .before .before in
     let p2 = p3 .before .before .before in
     let p1 = p2 .before .before .before in
-    simp (sym (p1 .before .same .ensures) ∙ p1 .if1 .left, sym (p2 .before .same2 .ensures) ∙ p2 .if2 .left, sym (p3 .before .same3 .ensures) ∙ p3 .if3 .left, sym (p4 .before .same4 .ensures) ∙ p4 .if4 .left, sym (c .before .same5 .ensures) ∙ c .if5 .left)
+    let e1 = sym (p1 .before .same .ensures) ∙ p1 .if1 .left in
+    let e2 = sym (p2 .before .same2 .ensures) ∙ p2 .if2 .left in
+    let e3 = sym (p3 .before .same3 .ensures) ∙ p3 .if3 .left in
+    let e4 = sym (p4 .before .same4 .ensures) ∙ p4 .if4 .left in
+    let e5 = sym (c .before .same5 .ensures) ∙ c .if5 .left in
+    simp (e1, e2, e3, e4, e5)
 
 pub carrier-named-spec : {M : Type 1} → statement M
 carrier-named-spec =

@@ -1,0 +1,4 @@
+pub mod Messages
+pub mod HexLines
+pub mod HexLinesLaws
+pub mod Examples
