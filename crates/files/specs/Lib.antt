@@ -1,3 +1,4 @@
 pub mod Status
+pub mod StatusLaws
 pub mod Paths
 pub mod PathsLaws

@@ -1,41 +1,38 @@
+-- `files::links::folder` meets its contract: what is left of the path decides, at each turn as at the start. Assumes nothing.
+use mathlib.Core.Path.{_≡_, refl, _∙_}
+use Prim.Native.Nat.{_≤_}
+use native.Mathlib.Omega.{arith}
+use borrow.Author.Needs.{needs}
+use lib.ListN.{length}
+use Rattle.files.specs.Paths.{slashIn}
+use Rattle.files.specs.PathsLaws.{slash-here, slash-before, slash-none}
 use Rattle.files.proofs.links.folder.Statement.{statement}
 use Rattle.files.proofs.links.folder.Tie as tie
-use Rattle.files.proofs.links.folder.Reads as reads
-use Rattle.files.proofs.links.folder.Lts as lts
 
 abbrev Inv-loop : tie.InvT-loop
-Inv-loop path i₀ i = ?
+Inv-loop path i₀ i = (i ≤ length path) × (slashIn i path ≡ slashIn (length path) path)
 
 abbrev μ-loop : tie.MeasureT-loop
-μ-loop path i₀ i = ?
+μ-loop path i₀ i = i
 
--- src/links.rt:32:5
 loop-holds : tie.Need-loop-holds Inv-loop μ-loop
-loop-holds c = ?
+loop-holds c = (omega arith, refl)
 
--- src/links.rt:33:22
-sub-before : tie.Need-sub-before Inv-loop μ-loop
-sub-before c = ?
-
--- src/links.rt:34:12
-shared-slice-read-if1 : tie.Need-shared-slice-read-if1 Inv-loop μ-loop
-shared-slice-read-if1 c = ?
-
--- src/links.rt:35:13
 returns : tie.Need-returns Inv-loop μ-loop
-returns c = ?
+returns c =
+    let l = c .before .before .before in
+    slash-here (l .loop .i) (l .before .args .path .now) (c .before .before .loop-test .taken) (c .if1 .taken) ∙ l .loop .inv .1
 
--- src/links.rt:32:5
-loop-less : tie.Need-loop-less Inv-loop μ-loop
-loop-less c = ?
-
--- src/links.rt:32:5
 loop-again : tie.Need-loop-again Inv-loop μ-loop
-loop-again c = ?
+loop-again c =
+    let l = c .before .before .before in
+    let turn = slash-before (l .loop .i) (l .before .args .path .now) (c .before .before .loop-test .taken) (c .if1 .left) in
+    (omega arith, turn ∙ l .loop .inv .1)
 
--- src/links.rt:28:1
 returns-2 : tie.Need-returns-2 Inv-loop μ-loop
-returns-2 c = ?
+returns-2 c =
+    let l = c .before in
+    slash-none (l .loop .i) (l .before .args .path .now) (c .loop-test .left) ∙ l .loop .inv .1
 
 pub folder-spec : {M : Type 1} → statement M
 folder-spec =
@@ -44,9 +41,9 @@ folder-spec =
     Inv-loop
     μ-loop
     loop-holds
-    sub-before
-    shared-slice-read-if1
+    (λ c. omega arith)
+    (λ c. omega arith)
     returns
-    loop-less
+    (λ c. omega arith)
     loop-again
     returns-2)
