@@ -4,13 +4,14 @@
 // the work itself is that of `reading`, `writing` and `showing`.
 mod help;
 
-ghost use Rattle.io.specs.Counts.{Counts};
+ghost use Rattle.vetting.specs.Vetting.{vetOf};
+ghost use Rattle.vetting.specs.Vetting as vetting;
+ghost use Rattle.files.specs.Status.{Wrote, Ended, Answers};
+ghost use Rattle.command.specs.Numbers.{readNumber, writeNumber, Shows};
 use arguments::Asked;
 use arguments::Command;
-use chars::put_all;
 use files::input;
 use files::messages;
-use files::messages::put_count;
 use files::output;
 use hexes::Hex;
 use libc::STDERR_FILENO;
@@ -29,54 +30,21 @@ const OCTETS: usize = Limit::INPUT;
 
 // ---- read
 
-// Writes what a reading is printed as, and returns how many octets that is.
-fn put_reading(out: &mut [u8], r: Reading, sheet: &[u8]) -> usize
-    ensures { λ n. ⌜ Counts n (now (out .exit)) ⌝ }
-{
-    let end = showing::put_sheet(out, 0, sheet, false);
-    let found = put_count(out, end, b"\nfound ", r.found);
-    let discarded = put_count(out, found, b", discarded ", r.discarded);
-    put_all(out, discarded, b"\n")
-}
-
-// Writes the numbers of a reading in JSON.
-fn put_numbers(out: &mut [u8], r: Reading) -> usize {
-    let found = put_count(out, 0, b"{\"found\":", r.found);
-    let discarded = put_count(out, found, b",\"discarded\":", r.discarded);
-    put_count(out, discarded, b",\"fault\":", r.fault)
-}
-
-// Writes a reading in JSON, and returns how many octets that is.
-fn put_json(out: &mut [u8], r: Reading, sheet: &[u8]) -> usize
-    ensures { λ n. ⌜ Counts n (now (out .exit)) ⌝ }
-{
-    let next = put_numbers(out, r);
-    let from = put_all(out, next, b",\"sheet\":");
-    let end = showing::put_sheet(out, from, sheet, true);
-    put_all(out, end, b"}\n")
-}
-
-// Writes a reading as it is asked for.
-fn put_result(out: &mut [u8], r: Reading, sheet: &[u8], json: bool) -> usize
-    ensures { λ n. ⌜ Counts n (now (out .exit)) ⌝ }
-{
-    if json {
-        return put_json(out, r, sheet);
-    }
-    put_reading(out, r, sheet)
-}
-
 // Prints a reading, or saves its sheet.
-fn give_reading(a: Asked, r: Reading, sheet: &[u8], text: &mut [u8]) -> i32 {
+fn give_reading(a: Asked, r: Reading, sheet: &[u8], text: &mut [u8]) -> i32
+    ensures { λ r. ⌜ Wrote r ⌝ }
+{
     if a.output != 0 {
         return output::save(a.output, sheet);
     }
-    let n = put_result(text, r, sheet, a.json);
+    let n = results::put(text, a.json, r.found, r.discarded, r.fault, sheet);
     output::print(&text[..n])
 }
 
 // Reads an area.
-fn read(a: Asked, name: &[u8], area: &[u8], text: &mut [u8]) -> i32 {
+fn read(a: Asked, name: &[u8], area: &[u8], text: &mut [u8]) -> i32
+    ensures { λ r. ⌜ Answers (readNumber (a .carrier) (now (area .entry))) r ⌝ }
+{
     let mut sheet = [0u8; Limit::SHEET];
     let r = reading::read(a.carrier, area, &mut sheet);
     if r.number != 0 {
@@ -93,7 +61,9 @@ fn read(a: Asked, name: &[u8], area: &[u8], text: &mut [u8]) -> i32 {
 // ---- write and show
 
 // Prints octets as hexadecimal text, or saves them.
-fn give_octets(a: Asked, s: &[u8], text: &mut [u8]) -> i32 {
+fn give_octets(a: Asked, s: &[u8], text: &mut [u8]) -> i32
+    ensures { λ r. ⌜ Wrote r ⌝ }
+{
     if a.output != 0 {
         return output::save(a.output, s);
     }
@@ -101,7 +71,9 @@ fn give_octets(a: Asked, s: &[u8], text: &mut [u8]) -> i32 {
 }
 
 // Writes the octets of a sheet.
-fn write(a: Asked, name: &[u8], sheet: &[u8], text: &mut [u8]) -> i32 {
+fn write(a: Asked, name: &[u8], sheet: &[u8], text: &mut [u8]) -> i32
+    ensures { λ r. ⌜ Answers (writeNumber (now (sheet .entry))) r ⌝ }
+{
     let mut octets = [0u8; OCTETS];
     let w = writing::write(sheet, &mut octets);
     if w.number != 0 {
@@ -112,13 +84,17 @@ fn write(a: Asked, name: &[u8], sheet: &[u8], text: &mut [u8]) -> i32 {
 }
 
 // Prints a sheet.
-fn print_sheet(sheet: &[u8], json: bool, text: &mut [u8]) -> i32 {
+fn print_sheet(sheet: &[u8], json: bool, text: &mut [u8]) -> i32
+    ensures { λ r. ⌜ Wrote r ⌝ }
+{
     let n = showing::show(sheet, text, json);
     output::print(&text[..n])
 }
 
 // Shows a sheet that writing accepts: one that passes, and of which no record is large (44).
-fn show(a: Asked, name: &[u8], sheet: &[u8], text: &mut [u8]) -> i32 {
+fn show(a: Asked, name: &[u8], sheet: &[u8], text: &mut [u8]) -> i32
+    ensures { λ r. ⌜ Shows (vetting.told (vetOf (now (sheet .entry)))) r ⌝ }
+{
     match vetting::vet(sheet) {
         Vetted::Refused(k) => messages::refused(name, k),
         Vetted::Sheet { large, .. } => {
@@ -133,13 +109,17 @@ fn show(a: Asked, name: &[u8], sheet: &[u8], text: &mut [u8]) -> i32 {
 // ---- the command
 
 // Does what is asked with the octets that were given.
-fn perform(a: Asked, name: &[u8], s: &[u8]) -> i32 {
+fn perform(a: Asked, name: &[u8], s: &[u8]) -> i32
+    ensures { λ r. ⌜ Ended r ⌝ }
+{
     let mut text = [0u8; TEXT];
     perform_in(a, name, s, &mut text)
 }
 
 // The same with room for the text. Where a long array is lent as an array, no proof computes its length.
-fn perform_in(a: Asked, name: &[u8], s: &[u8], text: &mut [u8; TEXT]) -> i32 {
+fn perform_in(a: Asked, name: &[u8], s: &[u8], text: &mut [u8; TEXT]) -> i32
+    ensures { λ r. ⌜ Ended r ⌝ }
+{
     if a.command == Command::READ {
         return read(a, name, s, text);
     }
@@ -150,8 +130,10 @@ fn perform_in(a: Asked, name: &[u8], s: &[u8], text: &mut [u8; TEXT]) -> i32 {
 }
 
 // Takes the input as octets, or as hexadecimal text that has nothing in it.
-fn perform_plain(a: Asked, name: &[u8], text: &[u8]) -> i32 {
-    if input::is_blank(text) {
+fn perform_plain(a: Asked, name: &[u8], text: &[u8]) -> i32
+    ensures { λ r. ⌜ Ended r ⌝ }
+{
+    if lines::is_blank(text) {
         return perform(a, name, &text[..0]);
     }
     if a.hex {
@@ -161,7 +143,9 @@ fn perform_plain(a: Asked, name: &[u8], text: &[u8]) -> i32 {
 }
 
 // Takes the input as hexadecimal text where it is such, unless it is to be taken as it is.
-fn perform_on(a: Asked, name: &[u8], text: &[u8]) -> i32 {
+fn perform_on(a: Asked, name: &[u8], text: &[u8]) -> i32
+    ensures { λ r. ⌜ Ended r ⌝ }
+{
     if a.raw {
         return perform(a, name, text);
     }
@@ -174,7 +158,9 @@ fn perform_on(a: Asked, name: &[u8], text: &[u8]) -> i32 {
 }
 
 // Reads the input to `text`, and does what is asked with it.
-fn run_on(a: Asked, name: &[u8], text: &mut [u8]) -> i32 {
+fn run_on(a: Asked, name: &[u8], text: &mut [u8]) -> i32
+    ensures { λ r. ⌜ Ended r ⌝ }
+{
     let got = input::read(a.input, name, text);
     if got.failed {
         return 2;
@@ -187,20 +173,26 @@ fn run_on(a: Asked, name: &[u8], text: &mut [u8]) -> i32 {
 }
 
 // The same with the name that messages give the input.
-fn run_in(a: Asked, text: &mut [u8; input::ROOM]) -> i32 {
+fn run_in(a: Asked, text: &mut [u8; input::ROOM]) -> i32
+    ensures { λ r. ⌜ Ended r ⌝ }
+{
     let mut path = io::buffer();
     let n = input::name(a.input, &mut path);
     run_on(a, &path[..n], text)
 }
 
 // The same with room for the input.
-fn run(a: Asked) -> i32 {
+fn run(a: Asked) -> i32
+    ensures { λ r. ⌜ Ended r ⌝ }
+{
     let mut text = [0u8; input::ROOM];
     run_in(a, &mut text)
 }
 
 // Prints the help that was asked for.
-fn print_help() -> i32 {
+fn print_help() -> i32
+    ensures { λ r. ⌜ Wrote r ⌝ }
+{
     if help::print(STDOUT_FILENO) {
         return 0;
     }
@@ -208,7 +200,9 @@ fn print_help() -> i32 {
 }
 
 // The command, with the arguments of the process; its answer is the exit status.
-pub fn execute() -> i32 {
+pub fn execute() -> i32
+    ensures { λ r. ⌜ Ended r ⌝ }
+{
     if os::arg_count() < 2 {
         help::print(STDERR_FILENO);
         return 2;
