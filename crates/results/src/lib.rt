@@ -38,7 +38,14 @@ fn put_json(out: &mut [u8], found: usize, discarded: usize, fault: usize, sheet:
 }
 
 // Writes a reading as it is asked for.
-pub fn put(out: &mut [u8], json: bool, found: usize, discarded: usize, fault: usize, sheet: &[u8]) -> usize
+pub fn put(
+    out: &mut [u8],
+    json: bool,
+    found: usize,
+    discarded: usize,
+    fault: usize,
+    sheet: &[u8],
+) -> usize
     ensures { λ n. ⌜ Counts n (now (out .exit)) ⌝ }
     ensures { λ n. ⌜ Puts 0 (resultOf json found discarded fault (now (sheet .entry))) (now (out .entry)) n (now (out .exit)) ⌝ }
 {

@@ -1,4 +1,4 @@
--- `command::perform_on` is safe: the octets of hexadecimal text lie within their buffer. Assumes nothing.
+-- `command::perform_on` meets its contract: the octets of hexadecimal text lie within their buffer. Assumes nothing.
 use mathlib.Core.Path.{sym}
 use Prim.Native.Nat.{_≤_}
 use native.Mathlib.Omega.{arith}
@@ -6,6 +6,7 @@ use borrow.Author.Needs.{needs}
 use lib.ListN.{length}
 use lib.Seq.{length-take-le}
 use Rattle.hexes.specs.DecodingLaws.{decoded-within}
+use Rattle.files.specs.StatusLaws.{refused-ended}
 use Rattle.command.proofs.perform_on.Statement.{statement}
 use Rattle.command.proofs.perform_on.Tie as tie
 
@@ -19,6 +20,9 @@ array-share-prefix-octets c = omega (arith, short (c .before))
 
 slice-aggregate-perform : tie.Need-slice-aggregate-perform
 slice-aggregate-perform c = sym (length-take-le _ _ (short (c .before .before)))
+
+returns-3 : tie.Need-returns-3
+returns-3 c = search (needs, refused-ended)
 
 pub perform-on-spec : {M : Type 1} → statement M
 perform-on-spec =
@@ -37,5 +41,5 @@ perform-on-spec =
     (λ c. search needs)
     (λ c κs. search needs)
     (λ c. search needs)
-    (λ c. search needs)
+    returns-3
     (λ c. search needs))

@@ -1,4 +1,4 @@
--- `command::read` is safe: the sheet that was read lies within its buffer. Assumes nothing.
+-- `command::read` meets its contract: the sheet that was read lies within its buffer, and the number decides. Assumes nothing.
 use mathlib.Core.Path.{sym}
 use Prim.Native.Nat.{_≤_}
 use native.Mathlib.Omega.{arith}
@@ -6,6 +6,7 @@ use borrow.Author.Needs.{needs}
 use lib.ListN.{length}
 use lib.Seq.{length-take-le}
 use Rattle.reading.specs.AnswerLaws.{reads-fits}
+use Rattle.command.specs.NumbersLaws.{read-refused, read-done}
 use Rattle.command.proofs.read.Statement.{statement}
 use Rattle.command.proofs.read.Tie as tie
 
@@ -18,6 +19,29 @@ array-share-prefix-sheet c = omega (arith, short (c .before .before .before))
 slice-aggregate-give-reading : tie.Need-slice-aggregate-give-reading
 slice-aggregate-give-reading c = sym (length-take-le _ _ (short (c .before .before .before .before)))
 
+returns : tie.Need-returns
+returns c =
+    let g = c .before .before .before .before in
+    let a = g .before .before .before .before .before .args in
+    let answer = read-refused (a .a .carrier) (a .area .now) _ (g .read .ensures) (search needs) (c .before .if1 .taken) in
+    search (needs, answer)
+
+returns-2 : tie.Need-returns-2
+returns-2 c =
+    let l = c .before .before .before .before .before .before .before .before in
+    let g = l .before .before .before in
+    let a = g .before .before .before .before .before .args in
+    let answer = read-done (a .a .carrier) (a .area .now) _ (g .read .ensures) (search needs) (l .if1 .left) in
+    search (needs, answer)
+
+returns-3 : tie.Need-returns-3
+returns-3 c =
+    let l = c .before .before .before .before .before .before .before in
+    let g = l .before .before .before in
+    let a = g .before .before .before .before .before .args in
+    let answer = read-done (a .a .carrier) (a .area .now) _ (g .read .ensures) (search needs) (l .if1 .left) in
+    search (needs, answer)
+
 pub read-spec : {M : Type 1} → statement M
 read-spec =
     tie.close
@@ -25,12 +49,12 @@ read-spec =
     (λ c. search needs)
     (λ c κs. search needs)
     (λ c κs. search needs)
-    (λ c. search needs)
+    returns
     array-share-prefix-sheet
     slice-aggregate-give-reading
     (λ c κs. search needs)
     (λ c κs. search needs)
     (λ c. search needs)
+    returns-2
     (λ c. search needs)
-    (λ c. search needs)
-    (λ c. search needs))
+    returns-3)
