@@ -1,4 +1,4 @@
--- `vectors::put_kept` is safe: what is kept of at most 4,096 octets fits the buffer. Assumes nothing.
+-- `vectors::put_kept` meets its contract: what is kept of at most 4,096 octets fits the buffer. Assumes nothing.
 use borrow.Author.Needs.{needs}
 use native.Mathlib.Omega.{arith}
 use mathlib.Core.Path.{ap}
@@ -9,6 +9,9 @@ use native.Mathlib.Nat.{mul-le-mul-right, div-mul-le-self}
 use Rattle.octets.specs.Lists.{flat}
 use Rattle.addresses.specs.Addresses.{keptOf, listOf}
 use Rattle.addresses.specs.AddressesLaws.{flat-length, kept-wide, list-wide, kept-few, list-length}
+use Rattle.octets.specs.OverLaws.{wrote-front}
+use Rattle.chars.specs.PutsLaws.{puts-as}
+use Rattle.vectors.specs.Answers.{hexText}
 use Rattle.vectors.proofs.put_kept.Statement.{statement}
 use Rattle.vectors.proofs.put_kept.Tie as tie
 
@@ -28,6 +31,11 @@ put-kept-requires c κs =
 slice-aggregate-put-hex : tie.Need-slice-aggregate-put-hex
 slice-aggregate-put-hex c = simp length-take (omega arith)
 
+returns : tie.Need-returns
+returns c =
+    let p = c .before .before in
+    puts-as (ap hexText (wrote-front (p .before .before .before .before .put-kept .ensures))) (p .put-hex .ensures)
+
 pub put-kept-spec : {M : Type 1} → statement M
 put-kept-spec =
     tie.close
@@ -39,4 +47,4 @@ put-kept-spec =
     slice-aggregate-put-hex
     (λ c κs. search needs)
     (λ c. search needs)
-    (λ c. search needs))
+    returns)

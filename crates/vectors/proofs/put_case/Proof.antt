@@ -1,0 +1,20 @@
+-- `vectors::put_case` meets its contract: its parts one after another. Assumes nothing.
+use borrow.Author.Needs.{needs}
+use Rattle.chars.specs.PutsLaws.{puts-then}
+use Rattle.vectors.proofs.put_case.Statement.{statement}
+use Rattle.vectors.proofs.put_case.Tie as tie
+
+returns : tie.Need-returns
+returns c =
+    let q = c .before .before in
+    let p = q .before .before .before .before in
+    puts-then (p .put .ensures .1) (q .answer .ensures)
+
+pub put-case-spec : {M : Type 1} → statement M
+put-case-spec =
+    tie.close
+    (tie.spec
+    (λ c κs. search needs)
+    (λ c κs. search needs)
+    (λ c. search needs)
+    returns)
