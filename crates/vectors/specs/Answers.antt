@@ -1,9 +1,9 @@
 -- What the program answers to a line (host/README.md), as text. Assumes nothing: these are definitions.
 use mathlib.Core.Bool.{Bool, true, false, cond}
 use mathlib.Core.List.{List, [], _∷_, _++_}
-use Prim.Native.Nat.{ℕ}
+use Prim.Native.Nat.{ℕ, zero, suc}
 use lib.Dec.{ltb, leb, eqb}
-use lib.ListN.{length, getD, drop}
+use lib.ListN.{length, getD, take, drop}
 use Rattle.octets.specs.Lists.{flat}
 use Rattle.names.specs.declared.Name.{Name}
 use Rattle.names.specs.declared.Name.the-variants.{Good, Bad}
@@ -15,6 +15,7 @@ use Rattle.svcparams.specs.Params.{paramsFault}
 use Rattle.hexes.specs.Hexes.{hexOf}
 use Rattle.hexes.specs.Decoding.{Answer, written, noRoom, other, decodeOf}
 use Rattle.chars.specs.Ascii.{ascii, decimalOf}
+use Rattle.words.specs.Encoded.{breakAt}
 
 -- a number after a space
 abbrev pub numberText : ℕ → List ℕ
@@ -74,3 +75,14 @@ decodedText letter other = 63 ∷ []
 
 unfoldable pub lineText : List ℕ → List ℕ
 lineText line = cond (leb (length line) 2) (caseText (letterOf line) []) (decodedText (letterOf line) (decodeOf (drop 2 line) 4096))
+
+-- ---- the lines of the input
+
+-- the answers from the line on that begins after j octets, each ended by a line break
+unfoldable pub answersFrom : ℕ → List ℕ → List ℕ
+answersFrom j [] = []
+answersFrom zero (x ∷ t) = lineText (take (breakAt (x ∷ t)) (x ∷ t)) ++ (10 ∷ answersFrom (breakAt (x ∷ t)) t)
+answersFrom (suc j) (x ∷ t) = answersFrom j t
+
+abbrev pub answersText : List ℕ → List ℕ
+answersText s = answersFrom 0 s

@@ -10,8 +10,8 @@ use libc::STDIN_FILENO;
 use libc::STDOUT_FILENO;
 use names::Name;
 ghost use mathlib.Core.Path.{_≡_};
-ghost use Prim.Native.Nat.{_≤_};
-ghost use lib.ListN.{length};
+ghost use Prim.Native.Nat.{_+_, _≤_};
+ghost use lib.ListN.{length, drop};
 ghost use Rattle.io.specs.Counts.{Counts};
 ghost use Rattle.chars.specs.Puts.{Puts};
 ghost use Rattle.names.specs.Names.{IsName};
@@ -20,8 +20,9 @@ ghost use Rattle.texts.specs.Texts.{IsText, textOf, wireOf};
 ghost use Rattle.texts.specs.TextCheck.{textCheck};
 ghost use Rattle.addresses.specs.Addresses.{Width};
 ghost use Rattle.hexes.specs.Decoding.{decodeOf};
+ghost use Rattle.words.specs.Encoded.{breakAt};
 ghost use Rattle.vectors.specs.Answers.{numberText, hexText, goodText, badText, nameText, dropsOf, keptText, addressesText};
-ghost use Rattle.vectors.specs.Answers.{answerText, caseText, letterOf, decodedText, lineText};
+ghost use Rattle.vectors.specs.Answers.{answerText, caseText, letterOf, decodedText, lineText, answersText};
 ghost use Rattle.vectors.specs.Answers as answers;
 
 // Writes x in decimal, after a space.
@@ -225,7 +226,7 @@ fn put_line(out: &mut [u8], at: usize, line: &[u8]) -> usize
 // The index of the first line end of s from `at` on, or the length of s.
 fn line_end(s: &[u8], at: usize) -> usize
     requires { ⌜ at ≤ length (now s) ⌝ }
-    ensures { λ r. ⌜ (at ≤ r) × (r ≤ length (now (s .entry))) ⌝ }
+    ensures { λ r. ⌜ (r ≡ at + breakAt (drop at (now (s .entry)))) × (r ≤ length (now (s .entry))) ⌝ }
 {
     let mut end = at;
     while end < s.len() {
@@ -240,6 +241,7 @@ fn line_end(s: &[u8], at: usize) -> usize
 // Writes the answer of each line of s, and returns how many octets that is.
 fn run(s: &[u8], out: &mut [u8]) -> usize
     ensures { λ r. ⌜ Counts r (now (out .exit)) ⌝ }
+    ensures { λ r. ⌜ Puts 0 (answersText (now (s .entry))) (now (out .entry)) r (now (out .exit)) ⌝ }
 {
     let mut at = 0;
     let mut o = 0;
