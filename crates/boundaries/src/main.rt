@@ -17,7 +17,7 @@ ghost use Prim.Native.Nat.{_+_, _≤_, _<_};
 ghost use lib.ListN.{length};
 ghost use Rattle.io.specs.Counts.{Counts};
 ghost use Rattle.boundaries.specs.Filling.{allFilled};
-ghost use Rattle.boundaries.specs.Cases.{endOf, Past};
+ghost use Rattle.boundaries.specs.Cases.{endOf, readEnd, caseEnd, Past};
 
 // How many octets are read.
 const MOST: usize = 1048576;
@@ -169,6 +169,7 @@ fn end_of(s: &[u8], at: usize) -> End
 // Runs the case of reading that stands from its carrier, at `at`, on.
 fn read_case(s: &[u8], at: usize, out: &mut [u8]) -> End
     requires { ⌜ at ≤ length (now s) ⌝ }
+    ensures { λ r. ⌜ r ≡ readEnd (now (s .entry)) at ⌝ }
     ensures { λ r. ⌜ Past at (now (s .entry)) r ⌝ }
 {
     if s.len() == at {
@@ -187,6 +188,7 @@ fn read_case(s: &[u8], at: usize, out: &mut [u8]) -> End
 // Runs the case of writing that stands from its room, at `at`, on.
 fn write_case(s: &[u8], at: usize, out: &mut [u8]) -> End
     requires { ⌜ at ≤ length (now s) ⌝ }
+    ensures { λ r. ⌜ r ≡ endOf (now (s .entry)) at ⌝ }
     ensures { λ r. ⌜ Past at (now (s .entry)) r ⌝ }
 {
     let End::At(end) = end_of(s, at) else {
@@ -201,13 +203,16 @@ fn write_case(s: &[u8], at: usize, out: &mut [u8]) -> End
 // Runs the case that stands from its letter, at `at`, on.
 fn run_case(s: &[u8], at: usize, out: &mut [u8]) -> End
     requires { ⌜ at < length (now s) ⌝ }
+    ensures { λ r. ⌜ r ≡ caseEnd (now (s .entry)) at ⌝ }
     ensures { λ r. ⌜ Past (at + 1) (now (s .entry)) r ⌝ }
 {
-    match s[at] {
-        b'r' => read_case(s, at + 1, out),
-        b'w' => write_case(s, at + 1, out),
-        _ => End::Nowhere,
+    if s[at] == b'r' {
+        return read_case(s, at + 1, out);
     }
+    if s[at] == b'w' {
+        return write_case(s, at + 1, out);
+    }
+    End::Nowhere
 }
 
 // Runs the cases of s with buffers that are parts of `out`.

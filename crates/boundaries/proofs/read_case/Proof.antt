@@ -1,7 +1,8 @@
 -- `boundaries::read_case` meets its contract: the octets of the case stand from after its sizes to its end. Assumes nothing.
 use borrow.Author.Needs.{needs}
+use borrow.Author.Tests.{eq-eqb, ne-eqb}
 use native.Mathlib.Omega.{arith}
-use mathlib.Core.Path.{subst}
+use mathlib.Core.Path.{subst, sym, _∙_}
 use Prim.Native.Nat.{_+_}
 use lib.ListN.{length-take}
 use denote.Ref.{now}
@@ -29,19 +30,31 @@ part-run-read-end c = let e = ended (c .before .before .before .before) in omega
 slice-aggregate-run-read : tie.Need-slice-aggregate-run-read
 slice-aggregate-run-read c = simp length-take (omega arith)
 
+returns : tie.Need-returns
+returns c = (simp (eq-eqb _ _ (c .if1 .taken)), tt)
+
+returns-2 : tie.Need-returns-2
+returns-2 c =
+    let k = c .before .before in
+    (simp (ne-eqb _ _ (k .before .if1 .left)) (sym (c .enum-told .given .1) ∙ k .end-of .ensures .0), tt)
+
 returns-3 : tie.Need-returns-3
-returns-3 c = let e = ended (c .before .before .before .before .before .before .before .before .before) in (omega arith, omega arith)
+returns-3 c =
+    let n = c .before .before .before .before .before .before .before .before .before in
+    let k = n .before .before in
+    let e = ended n in
+    (simp (ne-eqb _ _ (k .before .if1 .left)) (sym (n .end .given .1) ∙ k .end-of .ensures .0), (omega arith, omega arith))
 
 pub read-case-spec : {M : Type 1} → statement M
 read-case-spec =
     tie.close
     (tie.spec
-    (λ c. search needs)
+    returns
     (λ c. search needs)
     (λ c κs. search needs)
     (λ c. search needs)
     (λ c. search needs)
-    (λ c. search needs)
+    returns-2
     get32-requires
     (λ c κs. search needs)
     (λ c. search needs)

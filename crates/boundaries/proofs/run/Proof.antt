@@ -19,7 +19,7 @@ loop-holds c = refl
 
 loop-less : tie.Need-loop-less Inv-loop μ-loop
 loop-less c =
-    let e = subst (Past _ _) (c .before .end .given .1) (c .before .before .before .before .before .run-case .ensures) in
+    let e = subst (Past _ _) (c .before .end .given .1) (c .before .before .before .before .before .run-case .ensures .1) in
     omega arith
 
 pub run-spec : {M : Type 1} → statement M

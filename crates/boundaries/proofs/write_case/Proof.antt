@@ -1,7 +1,7 @@
 -- `boundaries::write_case` meets its contract: the octets of the case stand from after its sizes to its end. Assumes nothing.
 use borrow.Author.Needs.{needs}
 use native.Mathlib.Omega.{arith}
-use mathlib.Core.Path.{subst}
+use mathlib.Core.Path.{subst, sym, _∙_}
 use Prim.Native.Nat.{_+_}
 use lib.ListN.{length-take}
 use denote.Ref.{now}
@@ -29,8 +29,14 @@ part-run-write-end c = let e = ended (c .before .before .before) in omega arith
 slice-aggregate-run-write : tie.Need-slice-aggregate-run-write
 slice-aggregate-run-write c = simp length-take (omega arith)
 
+returns : tie.Need-returns
+returns c = (sym (c .enum-told .given .1) ∙ c .before .before .end-of .ensures .0, tt)
+
 returns-2 : tie.Need-returns-2
-returns-2 c = let e = ended (c .before .before .before .before .before .before .before .before) in (omega arith, omega arith)
+returns-2 c =
+    let n = c .before .before .before .before .before .before .before .before in
+    let e = ended n in
+    (sym (n .end .given .1) ∙ n .before .before .end-of .ensures .0, (omega arith, omega arith))
 
 pub write-case-spec : {M : Type 1} → statement M
 write-case-spec =
@@ -39,7 +45,7 @@ write-case-spec =
     (λ c κs. search needs)
     (λ c. search needs)
     (λ c. search needs)
-    (λ c. search needs)
+    returns
     get32-requires
     (λ c κs. search needs)
     (λ c. search needs)
