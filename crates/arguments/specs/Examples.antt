@@ -10,7 +10,7 @@ use Rattle.chars.specs.Ascii.{ascii}
 use Rattle.arguments.specs.declared.Asked.{Asked}
 use Rattle.arguments.specs.Command as command
 use Rattle.arguments.specs.Wrong as wrong
-use Rattle.arguments.specs.Line.{only, carried, Argument, word, long, withRest, settledJson, settledOutput, settledForm, askedOf}
+use Rattle.arguments.specs.Line.{only, carried, word, long, withRest, settledJson, settledOutput, settledForm, askedOf}
 
 -- ---- a line as a text: its words, with a blank between
 

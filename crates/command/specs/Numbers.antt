@@ -11,7 +11,7 @@ use Rattle.vetting.specs.declared.Vetted.{Vetted}
 use Rattle.vetting.specs.declared.Vetted.the-variants.{Refused, Sheet}
 use Rattle.written.specs.Writing.{writeOf}
 use Rattle.writing.specs.Writes as writing
-use Rattle.files.specs.Status.{Wrote, refused}
+use Rattle.files.specs.Status.{Delivered, refused}
 
 -- the number that reading an area answers, with room for any sheet
 abbrev pub readNumber : ℕ → List ℕ → ℕ
@@ -24,7 +24,7 @@ writeNumber sheet = writing.told (writeOf sheet limit.input) .number
 -- a sheet is shown when writing would accept it: one that passes, and of which no record is large (44)
 abbrev pub Fitting : Bool → ℤ → Type 0
 Fitting true r = r ≡ pos refused
-Fitting false r = Wrote r
+Fitting false r = Delivered r
 
 abbrev pub Shows : Vetted → ℤ → Type 0
 Shows (Refused k) r = r ≡ pos refused

@@ -16,8 +16,8 @@ use Rattle.written.specs.Writing.{writeOf}
 use Rattle.writing.specs.declared.Writing.{Writing}
 use Rattle.writing.specs.Writes.{Writes}
 use Rattle.writing.specs.Writes as writing
-use Rattle.files.specs.Status.{Wrote, Ended, Answers, refused}
-use Rattle.files.specs.StatusLaws.{wrote-ended, refused-ended, answers-done, answers-refused}
+use Rattle.files.specs.Status.{Delivered, Exited, Answers, refused}
+use Rattle.files.specs.StatusLaws.{delivered-exited, refused-exited, answers-done, answers-refused}
 use Rattle.command.specs.Numbers.{readNumber, writeNumber, Fitting, Shows}
 
 answers-as : {m n : ℕ} {x : ℤ} → m ≡ n → Answers m x → Answers n x
@@ -34,7 +34,7 @@ module _ (carrier : ℕ) (area out : List ℕ) {out′ : List ℕ} {r : Reading}
   pub read-refused : (r .number ≡ 0 → ⊥) → (x : ℤ) → x ≡ pos refused → Answers (readNumber carrier area) x
   read-refused z x i = answers-as read-number (answers-refused (r .number) x z i)
 
-  pub read-done : r .number ≡ 0 → (x : ℤ) → Wrote x → Answers (readNumber carrier area) x
+  pub read-done : r .number ≡ 0 → (x : ℤ) → Delivered x → Answers (readNumber carrier area) x
   read-done z x w = answers-as read-number (answers-done (r .number) x z w)
 
 -- ---- writing
@@ -46,7 +46,7 @@ module _ (sheet out : List ℕ) {out′ : List ℕ} {r : Writing} (h : Writes (w
   pub write-refused : (r .number ≡ 0 → ⊥) → (x : ℤ) → x ≡ pos refused → Answers (writeNumber sheet) x
   write-refused z x i = answers-as write-number (answers-refused (r .number) x z i)
 
-  pub write-done : r .number ≡ 0 → (x : ℤ) → Wrote x → Answers (writeNumber sheet) x
+  pub write-done : r .number ≡ 0 → (x : ℤ) → Delivered x → Answers (writeNumber sheet) x
   write-done z x w = answers-as write-number (answers-done (r .number) x z w)
 
 -- ---- showing
@@ -59,13 +59,13 @@ module _ {v w : Vetted} (e : v ≡ w) where
     pub shows-large : large ≡ true → (x : ℤ) → x ≡ pos refused → Shows w x
     shows-large l x h = subst (λ (u : Vetted). Shows u x) (sym i ∙ e) (subst (λ (b : Bool). Fitting b x) (sym l) h)
 
-    pub shows-fitting : large ≡ false → (x : ℤ) → Wrote x → Shows w x
+    pub shows-fitting : large ≡ false → (x : ℤ) → Delivered x → Shows w x
     shows-fitting l x h = subst (λ (u : Vetted). Shows u x) (sym i ∙ e) (subst (λ (b : Bool). Fitting b x) (sym l) h)
 
-fitting-ended : (large : Bool) (r : ℤ) → Fitting large r → Ended r
-fitting-ended true r e = refused-ended r e
-fitting-ended false r w = wrote-ended r w
+fitting-exited : (large : Bool) (r : ℤ) → Fitting large r → Exited r
+fitting-exited true r e = refused-exited r e
+fitting-exited false r w = delivered-exited r w
 
-pub shows-ended : (v : Vetted) (r : ℤ) → Shows v r → Ended r
-shows-ended (Refused k) r e = refused-ended r e
-shows-ended (Sheet c n large size) r h = fitting-ended large r h
+pub shows-exited : (v : Vetted) (r : ℤ) → Shows v r → Exited r
+shows-exited (Refused k) r e = refused-exited r e
+shows-exited (Sheet c n large size) r h = fitting-exited large r h

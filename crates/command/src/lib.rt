@@ -6,7 +6,7 @@ mod help;
 
 ghost use Rattle.vetting.specs.Vetting.{vetOf};
 ghost use Rattle.vetting.specs.Vetting as vetting;
-ghost use Rattle.files.specs.Status.{Wrote, Ended, Answers};
+ghost use Rattle.files.specs.Status.{Delivered, Exited, Answers};
 ghost use Rattle.command.specs.Numbers.{readNumber, writeNumber, Shows};
 use arguments::Asked;
 use arguments::Command;
@@ -32,7 +32,7 @@ const OCTETS: usize = Limit::INPUT;
 
 // Prints a reading, or saves its sheet.
 fn give_reading(a: Asked, r: Reading, sheet: &[u8], text: &mut [u8]) -> i32
-    ensures { λ r. ⌜ Wrote r ⌝ }
+    ensures { λ r. ⌜ Delivered r ⌝ }
 {
     if a.output != 0 {
         return output::save(a.output, sheet);
@@ -62,7 +62,7 @@ fn read(a: Asked, name: &[u8], area: &[u8], text: &mut [u8]) -> i32
 
 // Prints octets as hexadecimal text, or saves them.
 fn give_octets(a: Asked, s: &[u8], text: &mut [u8]) -> i32
-    ensures { λ r. ⌜ Wrote r ⌝ }
+    ensures { λ r. ⌜ Delivered r ⌝ }
 {
     if a.output != 0 {
         return output::save(a.output, s);
@@ -85,7 +85,7 @@ fn write(a: Asked, name: &[u8], sheet: &[u8], text: &mut [u8]) -> i32
 
 // Prints a sheet.
 fn print_sheet(sheet: &[u8], json: bool, text: &mut [u8]) -> i32
-    ensures { λ r. ⌜ Wrote r ⌝ }
+    ensures { λ r. ⌜ Delivered r ⌝ }
 {
     let n = showing::show(sheet, text, json);
     output::print(&text[..n])
@@ -110,7 +110,7 @@ fn show(a: Asked, name: &[u8], sheet: &[u8], text: &mut [u8]) -> i32
 
 // Does what is asked with the octets that were given.
 fn perform(a: Asked, name: &[u8], s: &[u8]) -> i32
-    ensures { λ r. ⌜ Ended r ⌝ }
+    ensures { λ r. ⌜ Exited r ⌝ }
 {
     let mut text = [0u8; TEXT];
     perform_in(a, name, s, &mut text)
@@ -118,7 +118,7 @@ fn perform(a: Asked, name: &[u8], s: &[u8]) -> i32
 
 // The same with room for the text. Where a long array is lent as an array, no proof computes its length.
 fn perform_in(a: Asked, name: &[u8], s: &[u8], text: &mut [u8; TEXT]) -> i32
-    ensures { λ r. ⌜ Ended r ⌝ }
+    ensures { λ r. ⌜ Exited r ⌝ }
 {
     if a.command == Command::READ {
         return read(a, name, s, text);
@@ -131,7 +131,7 @@ fn perform_in(a: Asked, name: &[u8], s: &[u8], text: &mut [u8; TEXT]) -> i32
 
 // Takes the input as octets, or as hexadecimal text that has nothing in it.
 fn perform_plain(a: Asked, name: &[u8], text: &[u8]) -> i32
-    ensures { λ r. ⌜ Ended r ⌝ }
+    ensures { λ r. ⌜ Exited r ⌝ }
 {
     if lines::is_blank(text) {
         return perform(a, name, &text[..0]);
@@ -144,7 +144,7 @@ fn perform_plain(a: Asked, name: &[u8], text: &[u8]) -> i32
 
 // Takes the input as hexadecimal text where it is such, unless it is to be taken as it is.
 fn perform_on(a: Asked, name: &[u8], text: &[u8]) -> i32
-    ensures { λ r. ⌜ Ended r ⌝ }
+    ensures { λ r. ⌜ Exited r ⌝ }
 {
     if a.raw {
         return perform(a, name, text);
@@ -159,7 +159,7 @@ fn perform_on(a: Asked, name: &[u8], text: &[u8]) -> i32
 
 // Reads the input to `text`, and does what is asked with it.
 fn run_on(a: Asked, name: &[u8], text: &mut [u8]) -> i32
-    ensures { λ r. ⌜ Ended r ⌝ }
+    ensures { λ r. ⌜ Exited r ⌝ }
 {
     let got = input::read(a.input, name, text);
     if got.failed {
@@ -174,7 +174,7 @@ fn run_on(a: Asked, name: &[u8], text: &mut [u8]) -> i32
 
 // The same with the name that messages give the input.
 fn run_in(a: Asked, text: &mut [u8; input::ROOM]) -> i32
-    ensures { λ r. ⌜ Ended r ⌝ }
+    ensures { λ r. ⌜ Exited r ⌝ }
 {
     let mut path = io::buffer();
     let n = input::name(a.input, &mut path);
@@ -183,7 +183,7 @@ fn run_in(a: Asked, text: &mut [u8; input::ROOM]) -> i32
 
 // The same with room for the input.
 fn run(a: Asked) -> i32
-    ensures { λ r. ⌜ Ended r ⌝ }
+    ensures { λ r. ⌜ Exited r ⌝ }
 {
     let mut text = [0u8; input::ROOM];
     run_in(a, &mut text)
@@ -191,7 +191,7 @@ fn run(a: Asked) -> i32
 
 // Prints the help that was asked for.
 fn print_help() -> i32
-    ensures { λ r. ⌜ Wrote r ⌝ }
+    ensures { λ r. ⌜ Delivered r ⌝ }
 {
     if help::print(STDOUT_FILENO) {
         return 0;
@@ -201,7 +201,7 @@ fn print_help() -> i32
 
 // The command, with the arguments of the process; its answer is the exit status.
 pub fn execute() -> i32
-    ensures { λ r. ⌜ Ended r ⌝ }
+    ensures { λ r. ⌜ Exited r ⌝ }
 {
     if os::arg_count() < 2 {
         help::print(STDERR_FILENO);

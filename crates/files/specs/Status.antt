@@ -24,14 +24,14 @@ oneOf ks (pos k) = among k ks
 oneOf ks (negsuc k) = false
 
 -- what was to be written is, or it is said why not
-abbrev pub Wrote : ℤ → Type 0
-Wrote r = oneOf (done ∷ failed ∷ []) r ≡ true
+abbrev pub Delivered : ℤ → Type 0
+Delivered r = oneOf (done ∷ failed ∷ []) r ≡ true
 
 -- what was to be done is, or is refused by a number, or it is said why not
-abbrev pub Ended : ℤ → Type 0
-Ended r = oneOf (done ∷ refused ∷ failed ∷ []) r ≡ true
+abbrev pub Exited : ℤ → Type 0
+Exited r = oneOf (done ∷ refused ∷ failed ∷ []) r ≡ true
 
 -- what was asked of a call that answers a number: a refusal, exactly where the number is not 0
 pub record Answers (number : ℕ) (r : ℤ) : Type 0 where
-  pub done : number ≡ 0 → Wrote r
+  pub done : number ≡ 0 → Delivered r
   pub refuses : (number ≡ 0 → ⊥) → r ≡ pos refused

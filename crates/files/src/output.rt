@@ -1,5 +1,5 @@
 // What is written: to standard output, or to a file, which is either replaced whole or left as it was.
-ghost use Rattle.files.specs.Status.{Wrote};
+ghost use Rattle.files.specs.Status.{Delivered};
 use crate::links;
 use crate::messages;
 use chars::put_all;
@@ -12,7 +12,7 @@ const PART: usize = PATH_MAX + 8;
 
 // Prints octets.
 pub fn print(s: &[u8]) -> i32
-    ensures { λ r. ⌜ Wrote r ⌝ }
+    ensures { λ r. ⌜ Delivered r ⌝ }
 {
     if io::write_all(STDOUT_FILENO, s) {
         return 0;
@@ -22,7 +22,7 @@ pub fn print(s: &[u8]) -> i32
 
 // Prints octets as hexadecimal text.
 pub fn print_hex(s: &[u8], text: &mut [u8]) -> i32
-    ensures { λ r. ⌜ Wrote r ⌝ }
+    ensures { λ r. ⌜ Delivered r ⌝ }
 {
     let n = lines::put_hex(text, s);
     print(&text[..n])
@@ -46,7 +46,7 @@ fn write_out(fd: i32, name: &[u8], s: &[u8]) -> bool {
 
 // Writes octets to what is no regular file.
 fn write_through(fd: i32, name: &[u8], s: &[u8]) -> i32
-    ensures { λ r. ⌜ Wrote r ⌝ }
+    ensures { λ r. ⌜ Delivered r ⌝ }
 {
     if write_out(fd, name, s) {
         return 0;
@@ -56,7 +56,7 @@ fn write_through(fd: i32, name: &[u8], s: &[u8]) -> i32
 
 // Writes octets to a new file `part`, and gives it the name `path` when it is whole.
 fn replace_by(part: &[u8], path: &[u8], name: &[u8], s: &[u8]) -> i32
-    ensures { λ r. ⌜ Wrote r ⌝ }
+    ensures { λ r. ⌜ Delivered r ⌝ }
 {
     let fd = os::create(part);
     if fd < 0 {
@@ -76,7 +76,7 @@ fn replace_by(part: &[u8], path: &[u8], name: &[u8], s: &[u8]) -> i32
 
 // Makes a file of octets at a path, or replaces it.
 fn replace_at(path: &[u8], name: &[u8], s: &[u8]) -> i32
-    ensures { λ r. ⌜ Wrote r ⌝ }
+    ensures { λ r. ⌜ Delivered r ⌝ }
 {
     let mut part = [0u8; PART];
     let end = put_all(&mut part, 0, path);
@@ -86,7 +86,7 @@ fn replace_at(path: &[u8], name: &[u8], s: &[u8]) -> i32
 
 // Makes a file of octets, or replaces the one that a name leads to.
 fn replace(name: &[u8], s: &[u8]) -> i32
-    ensures { λ r. ⌜ Wrote r ⌝ }
+    ensures { λ r. ⌜ Delivered r ⌝ }
 {
     let mut path = io::buffer();
     let n = put_all(&mut path, 0, name);
@@ -102,7 +102,7 @@ fn is_regular(fd: i32) -> bool {
 
 // Saves octets under a name.
 fn save_as(name: &[u8], s: &[u8]) -> i32
-    ensures { λ r. ⌜ Wrote r ⌝ }
+    ensures { λ r. ⌜ Delivered r ⌝ }
 {
     if octets::same(name, b"-") {
         return print(s);
@@ -123,7 +123,7 @@ fn save_as(name: &[u8], s: &[u8]) -> i32
 
 // Saves octets under the name that is argument i.
 pub fn save(i: usize, s: &[u8]) -> i32
-    ensures { λ r. ⌜ Wrote r ⌝ }
+    ensures { λ r. ⌜ Delivered r ⌝ }
 {
     let mut name = io::buffer();
     let n = os::arg(i, &mut name);

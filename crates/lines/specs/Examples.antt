@@ -1,7 +1,6 @@
 -- Messages and lines of hexadecimal text as docs/COMMAND.md has them, by computation. Assumes nothing.
 use mathlib.Core.Path.{_≡_, refl}
-use mathlib.Core.List.{List, [], _∷_}
-use Prim.Native.Nat.{ℕ, zero, suc}
+use mathlib.Core.List.{[], _∷_}
 use Rattle.chars.specs.Ascii.{ascii}
 use Rattle.ips.specs.Ips.{numeral, digit}
 use Rattle.hexes.specs.Hexes.{digitOf}

@@ -1,17 +1,17 @@
 -- `command::execute` meets its contract. Assumes nothing.
 use borrow.Author.Needs.{needs}
-use Rattle.files.specs.StatusLaws.{failed-ended, wrote-ended}
+use Rattle.files.specs.StatusLaws.{failed-exited, delivered-exited}
 use Rattle.command.proofs.execute.Statement.{statement}
 use Rattle.command.proofs.execute.Tie as tie
 
 returns-2 : tie.Need-returns-2
-returns-2 c = search (needs, failed-ended)
+returns-2 c = search (needs, failed-exited)
 
 returns-3 : tie.Need-returns-3
-returns-3 c = search (needs, wrote-ended)
+returns-3 c = search (needs, delivered-exited)
 
 returns-4 : tie.Need-returns-4
-returns-4 c = search (needs, wrote-ended)
+returns-4 c = search (needs, delivered-exited)
 
 pub execute-spec : {M : Type 1} → statement M
 execute-spec =

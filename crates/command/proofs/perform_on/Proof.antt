@@ -6,7 +6,7 @@ use borrow.Author.Needs.{needs}
 use lib.ListN.{length}
 use lib.Seq.{length-take-le}
 use Rattle.hexes.specs.DecodingLaws.{decoded-within}
-use Rattle.files.specs.StatusLaws.{refused-ended}
+use Rattle.files.specs.StatusLaws.{refused-exited}
 use Rattle.command.proofs.perform_on.Statement.{statement}
 use Rattle.command.proofs.perform_on.Tie as tie
 
@@ -22,7 +22,7 @@ slice-aggregate-perform : tie.Need-slice-aggregate-perform
 slice-aggregate-perform c = sym (length-take-le _ _ (short (c .before .before)))
 
 returns-3 : tie.Need-returns-3
-returns-3 c = search (needs, refused-ended)
+returns-3 c = search (needs, refused-exited)
 
 pub perform-on-spec : {M : Type 1} → statement M
 perform-on-spec =

@@ -1,11 +1,11 @@
 -- `command::print_help` meets its contract. Assumes nothing.
 use borrow.Author.Needs.{needs}
-use Rattle.files.specs.StatusLaws.{failed-wrote}
+use Rattle.files.specs.StatusLaws.{failed-delivered}
 use Rattle.command.proofs.print_help.Statement.{statement}
 use Rattle.command.proofs.print_help.Tie as tie
 
 returns-2 : tie.Need-returns-2
-returns-2 c = search (needs, failed-wrote)
+returns-2 c = search (needs, failed-delivered)
 
 pub print-help-spec : {M : Type 1} → statement M
 print-help-spec =

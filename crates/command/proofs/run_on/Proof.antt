@@ -1,11 +1,11 @@
 -- `command::run_on` meets its contract. Assumes nothing.
 use borrow.Author.Needs.{needs}
-use Rattle.files.specs.StatusLaws.{refused-ended}
+use Rattle.files.specs.StatusLaws.{refused-exited}
 use Rattle.command.proofs.run_on.Statement.{statement}
 use Rattle.command.proofs.run_on.Tie as tie
 
 returns-2 : tie.Need-returns-2
-returns-2 c = search (needs, refused-ended)
+returns-2 c = search (needs, refused-exited)
 
 pub run-on-spec : {M : Type 1} → statement M
 run-on-spec =

@@ -1,8 +1,6 @@
 -- `lines::put_culprit` meets its contract: by what is wrong. Assumes nothing.
-use mathlib.Core.Path.{sym}
 use borrow.Author.Needs.{needs}
 use borrow.Author.Tests.{le-leb, lt-leb}
-use Rattle.chars.specs.PutsLaws.{puts-as}
 use Rattle.lines.proofs.put_culprit.Statement.{statement}
 use Rattle.lines.proofs.put_culprit.Tie as tie
 

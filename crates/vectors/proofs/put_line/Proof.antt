@@ -8,7 +8,7 @@ use borrow.Author.Tests.{le-leb, lt-leb}
 use Rattle.octets.specs.ListsLaws.{take-rest}
 use Rattle.hexes.specs.Decoding.{decodeOf}
 use Rattle.chars.specs.PutsLaws.{puts-as}
-use Rattle.vectors.specs.Answers.{caseText, decodedText, letterOf, lineText}
+use Rattle.vectors.specs.Answers.{caseText, decodedText, lineText}
 use Rattle.vectors.proofs.put_line.Statement.{statement}
 use Rattle.vectors.proofs.put_line.Tie as tie
 

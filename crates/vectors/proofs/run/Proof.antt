@@ -23,8 +23,7 @@ loop-again : tie.Need-loop-again Inv-loop μ-loop
 loop-again c =
     let q = c .before .before in
     let p = q .before .before .before .before in
-    let e = p .before .before .before in
-    (
+    let e = p .before .before .before in (
       omega arith,
       answering-line (e .before .before .loop .inv .1) (e .before .loop-test .taken) (e .line-end .ensures .0) (p .put-line .ensures) (q .put .ensures .1),
     )

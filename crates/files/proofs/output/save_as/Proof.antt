@@ -1,11 +1,11 @@
 -- `files::output::save_as` meets its contract. Assumes nothing.
 use borrow.Author.Needs.{needs}
-use Rattle.files.specs.StatusLaws.{failed-wrote}
+use Rattle.files.specs.StatusLaws.{failed-delivered}
 use Rattle.files.proofs.output.save_as.Statement.{statement}
 use Rattle.files.proofs.output.save_as.Tie as tie
 
 returns-3 : tie.Need-returns-3
-returns-3 c = search (needs, failed-wrote)
+returns-3 c = search (needs, failed-delivered)
 
 pub save-as-spec : {M : Type 1} → statement M
 save-as-spec =
