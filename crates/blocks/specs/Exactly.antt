@@ -21,7 +21,8 @@ use Rattle.carriers.specs.declared.Form.{Form}
 use Rattle.carriers.specs.declared.Form.the-variants.{Wire, Padded, Text}
 use Rattle.carriers.specs.Carriers.{lengthWidth, formOf, lifetimeIn, lifetimeWidth, addressWidth}
 use Rattle.carriers.specs.CarriersLaws.{padded-router, length-width, address-width}
-use Rattle.blocks.specs.Block.{Fields, Parsed, bad, fields, nameOnly, whole, short, opening, afterName, isPadding, padded, afterNamePadded, attribute, parseBy, parse, putOpening, putAfterName, paddingAfter, putAfterNamePadded, putAttribute, layoutBy, layout, FitsNamed, FitsRouter, FitsAttribute, FitsBy, Fits, PossibleBy, Possible}
+use Rattle.blocks.specs.Block.{Fields, nameOnly, whole, putOpening, putAfterName, paddingAfter, putAfterNamePadded, putAttribute, layoutBy, layout, FitsNamed, FitsRouter, FitsAttribute, FitsBy, Fits, PossibleBy, Possible}
+use Rattle.blocks.specs.Parse.{Parsed, bad, fields, short, opening, afterName, isPadding, padded, afterNamePadded, attribute, parseBy, parse}
 
 -- ---- laid out, then split
 

@@ -16,7 +16,8 @@ use Rattle.carriers.specs.declared.Form.{Form}
 use Rattle.carriers.specs.declared.Form.the-variants.{Wire, Padded, Text}
 use Rattle.carriers.specs.Carriers.{lengthWidth, formOf, lifetimeWidth, addressWidth}
 use Rattle.carriers.specs.CarriersLaws.{padded-router}
-use Rattle.blocks.specs.Block.{Fields, Parsed, bad, fields, short, opening, afterName, isPadding, padded, afterNamePadded, attribute, parseBy, parse}
+use Rattle.blocks.specs.Block.{Fields}
+use Rattle.blocks.specs.Parse.{Parsed, bad, fields, short, opening, afterName, isPadding, padded, afterNamePadded, attribute, parseBy, parse}
 
 -- what holds of `short` and of all fields, and in carrier 3 of the fault of padding, holds of every answer
 module _ (Q : Parsed → Type 0) (stop : Q short) (good : (f : Fields) → Q (fields f)) where

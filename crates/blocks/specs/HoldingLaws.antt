@@ -21,7 +21,8 @@ use Rattle.carriers.specs.declared.Form.{Form}
 use Rattle.carriers.specs.declared.Form.the-variants.{Wire, Padded, Text}
 use Rattle.carriers.specs.Carriers.{formOf, lifetimeIn, lifetimeWidth}
 use Rattle.carriers.specs.CarriersLaws.{padded-router}
-use Rattle.blocks.specs.Block.{Fields, Parsed, bad, fields, nameOnly, whole, short, opening, isPadding, padded, afterNamePadded, parse, Tail, Possible}
+use Rattle.blocks.specs.Block.{Fields, nameOnly, whole, Tail, Possible}
+use Rattle.blocks.specs.Parse.{Parsed, bad, fields, short, opening, isPadding, padded, afterNamePadded, parse}
 use Rattle.blocks.specs.Exactly.{opening-read, opening-says, parse-layout, parse-iff}
 use Rattle.blocks.specs.Faults.{parse-fault}
 use Rattle.blocks.specs.Holding.{Laid, Padding, putTail, Follows, HoldsPadded, HoldsBy, Holds, Short, Misfilled}

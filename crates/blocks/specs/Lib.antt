@@ -7,3 +7,4 @@ pub mod Together
 pub mod PlacesLaws
 pub mod Holding
 pub mod HoldingLaws
+pub mod Parse

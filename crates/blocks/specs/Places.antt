@@ -8,7 +8,8 @@ use Rattle.carriers.specs.declared.Carrier.{Carrier}
 use Rattle.carriers.specs.Carriers.{lengthWidth, lifetimeWidth, addressWidth, asText}
 use Rattle.blocks.specs.declared.Places.{Places}
 use Rattle.blocks.specs.declared.Places.the-variants.{Bad, NameOnly, Full}
-use Rattle.blocks.specs.Block.{Parsed, bad, fields, nameOnly, whole}
+use Rattle.blocks.specs.Block.{nameOnly, whole}
+use Rattle.blocks.specs.Parse.{Parsed, bad, fields}
 
 -- the fields at the offsets
 abbrev pub told : List ℕ → Places → Parsed

@@ -7,7 +7,7 @@ ghost use Prim.Native.Nat.{_+_, _≤_, _<_};
 ghost use lib.ListN.{length};
 ghost use Rattle.carriers.specs.Carriers.{lengthWidth, asText};
 ghost use Rattle.carriers.specs.declared.Carrier.the-variants.{Router};
-ghost use Rattle.blocks.specs.Block.{isPadding, afterName, afterNamePadded, parse};
+ghost use Rattle.blocks.specs.Parse.{isPadding, afterName, afterNamePadded, parse};
 ghost use Rattle.blocks.specs.Places.{Named, pastName, told, Inside, Ranged};
 use carriers::Carrier;
 

@@ -4,7 +4,6 @@ use mathlib.Core.Bool.{true}
 use mathlib.Core.List.{[], _∷_, map}
 use Prim.Native.Nat.{ℕ, _<_}
 use lib.ListN.{length, getD}
-use Rattle.octets.specs.SameLaws.{same-self}
 use Rattle.octets.specs.Numbers.{allZero, numberAt}
 use Rattle.octets.specs.Lists.{All}
 use Rattle.octets.specs.ListsLaws.{all-at}
@@ -17,17 +16,21 @@ use Rattle.names.specs.Wire.{nameCheck}
 use Rattle.texts.specs.TextCheck.{textCheck}
 use Rattle.texts.specs.Texts.{run, wireFrom, wireOf, dotsFrom, textOf}
 use Rattle.addresses.specs.Addresses.{unusable4, unusable16, unusable, listOf, keptOf, hasOf}
-use Rattle.svcparams.specs.Params.{paramsFault, pairsFrom, sizeOf, keys, rising, has, hasHint, stringsFrom, alpnGood, valueGood, allGood}
+use Rattle.svcparams.specs.Params.{paramsFault, pairsFrom, sizeOf, rising, has, hasHint, stringsFrom, alpnGood, valueGood, allGood}
+use Rattle.svcparams.specs.Param.{keys}
 use Rattle.frames.specs.Frame.{frameFrom}
-use Rattle.blocks.specs.Block.{isPadding, parse, layout}
+use Rattle.blocks.specs.Block.{layout}
+use Rattle.blocks.specs.Parse.{isPadding, parse}
 use Rattle.judge.specs.Judge.{tailFault, judgedOf}
-use Rattle.records.specs.Records.{outcomeOf, recordOf}
+use Rattle.records.specs.Records.{recordOf}
+use Rattle.records.specs.Yielded.{outcomeOf}
 use Rattle.sheets.specs.Sheets.{frontOf, sheetOf}
 use Rattle.reading.specs.Reading.{instancesFrom, joinedYield, readOf}
 use Rattle.taking.specs.Taking.{same, headOf, recordsFrom, takeOf}
 use Rattle.pieces.specs.Pieces.{pieces, cutOf}
 use Rattle.vetting.specs.Vetting.{firstFault, vetOf, anyLarge}
-use Rattle.written.specs.Writing.{octetsOf, writeOf}
+use Rattle.written.specs.Writing.{writeOf}
+use Rattle.written.specs.Octets.{octetsOf}
 use Rattle.boundary.specs.Piece.{Piece, Holds}
 use Rattle.boundary.specs.Table.{table}
 use Rattle.boundary.specs.Test.{every, good}

@@ -15,12 +15,14 @@ use Rattle.carriers.specs.Carriers.{chosenOf}
 use Rattle.frames.specs.Frame.{Framed, framed, frame}
 use Rattle.frames.specs.Frame as area
 use Rattle.blocks.specs.Block.{Fields}
-use Rattle.reading.specs.Reading.{Done, readOf, done}
-use Rattle.reading.specs.Reading as reading
+use Rattle.reading.specs.Reading.{readOf}
+use Rattle.reading.specs.Result.{Done, done}
+use Rattle.reading.specs.Result as reading
 use Rattle.taking.specs.Taking.{Taken, takeOf}
 use Rattle.taking.specs.Taking as taking
-use Rattle.written.specs.Writing.{writeOf, written}
-use Rattle.written.specs.Writing as writing
+use Rattle.written.specs.Writing.{writeOf}
+use Rattle.written.specs.Octets.{written}
+use Rattle.written.specs.Octets as writing
 
 -- ---- an entry
 

@@ -4,7 +4,7 @@ use mathlib.Core.List.{List, [], _∷_, _++_}
 use Prim.Native.Nat.{ℕ}
 use Rattle.octets.specs.Numbers.{be, zeros}
 use Rattle.blocks.specs.Block.{nameOnly, whole}
-use Rattle.reading.specs.Reading.{faultless}
+use Rattle.reading.specs.Result.{faultless}
 use Rattle.boundary.specs.Piece.{again, others, octets, sheetOctets, partOctets, number, ends, joined, options, replaced, short, enough, Piece, oneDiscarded}
 
 -- ---- parts

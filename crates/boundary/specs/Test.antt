@@ -10,12 +10,14 @@ use Rattle.octets.specs.Over.{over}
 use Rattle.numbers.specs.Refusal as refusal
 use Rattle.carriers.specs.Carriers.{chosenOf, numberOf}
 use Rattle.blocks.specs.Block.{Fields}
-use Rattle.reading.specs.Reading.{Done, readOf, done}
-use Rattle.reading.specs.Reading as reading
+use Rattle.reading.specs.Reading.{readOf}
+use Rattle.reading.specs.Result.{Done, done}
+use Rattle.reading.specs.Result as reading
 use Rattle.taking.specs.Taking.{same, Taken, takeOf}
 use Rattle.taking.specs.Taking as taking
-use Rattle.written.specs.Writing.{writeOf, written}
-use Rattle.written.specs.Writing as writing
+use Rattle.written.specs.Writing.{writeOf}
+use Rattle.written.specs.Octets.{written}
+use Rattle.written.specs.Octets as writing
 use Rattle.boundary.specs.Piece.{Back, again, others, Claim, octets, sheetOctets, partOctets, number, ends, joined, options, replaced, short, enough, Piece, dataOf, lastOf, sheetIn}
 
 -- whether each passes

@@ -15,13 +15,15 @@ use Rattle.carriers.specs.declared.Chosen.the-variants.{Known}
 use Rattle.carriers.specs.Carriers.{chosenOf, numberOf}
 use Rattle.carriers.specs.CarriersLaws.{chosen-number}
 use Rattle.blocks.specs.Block.{Fields, headWith, fieldsOf}
-use Rattle.reading.specs.Reading.{Done, readOf, done}
-use Rattle.reading.specs.Reading as reading
+use Rattle.reading.specs.Reading.{readOf}
+use Rattle.reading.specs.Result.{Done, done}
+use Rattle.reading.specs.Result as reading
 use Rattle.taking.specs.Taking.{same, Taken}
 use Rattle.taking.specs.Taking as taking
-use Rattle.taking.specs.TakenLaws.{same-true, same-self}
-use Rattle.written.specs.Writing.{writeOf, written}
-use Rattle.written.specs.Writing as writing
+use Rattle.octets.specs.SameLaws.{same-true, same-self}
+use Rattle.written.specs.Writing.{writeOf}
+use Rattle.written.specs.Octets.{written}
+use Rattle.written.specs.Octets as writing
 use Rattle.reading.specs.RoomLaws as readRoom
 use Rattle.written.specs.RoomLaws as writeRoom
 use Rattle.boundary.specs.Piece.{Back, again, others, Claim, octets, sheetOctets, partOctets, number, ends, joined, options, replaced, short, enough, Piece, Means, IsRead, IsWritten, IsOther, Returns, Holds}

@@ -5,7 +5,7 @@ use mathlib.Core.List.{List}
 use Prim.Native.Nat.{ℕ}
 use lib.IntN.{ℤ, pos}
 use Rattle.numbers.specs.Limit as limit
-use Rattle.reading.specs.Reading as reading
+use Rattle.reading.specs.Result as reading
 use Rattle.reading.specs.Reading.{readOf}
 use Rattle.vetting.specs.declared.Vetted.{Vetted}
 use Rattle.vetting.specs.declared.Vetted.the-variants.{Refused, Sheet}

@@ -8,8 +8,9 @@ use lib.IntN.{ℤ, pos}
 use Rattle.numbers.specs.Limit as limit
 use Rattle.carriers.specs.declared.Carrier.{Carrier}
 use Rattle.reading.specs.declared.Reading.{Reading}
-use Rattle.reading.specs.Reading.{readOf, Reads}
-use Rattle.reading.specs.Reading as reading
+use Rattle.reading.specs.Reading.{readOf}
+use Rattle.reading.specs.Result.{Reads}
+use Rattle.reading.specs.Result as reading
 use Rattle.vetting.specs.declared.Vetted.{Vetted}
 use Rattle.vetting.specs.declared.Vetted.the-variants.{Refused, Sheet}
 use Rattle.written.specs.Writing.{writeOf}

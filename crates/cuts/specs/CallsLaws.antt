@@ -16,9 +16,11 @@ use Rattle.blocks.specs.Block.{Fields}
 use Rattle.sheets.specs.Sheets.{carrierAt, sheetOf}
 use Rattle.taking.specs.Sheet.{IsSheet}
 use Rattle.reading.specs.declared.Reading.{Reading}
-use Rattle.reading.specs.Reading.{Answer, readOf, Reads}
-use Rattle.written.specs.Writing.{written, writeOf}
-use Rattle.written.specs.Accepted.{Defined}
+use Rattle.reading.specs.Reading.{readOf}
+use Rattle.reading.specs.Result.{Answer, Reads}
+use Rattle.written.specs.Writing.{writeOf}
+use Rattle.written.specs.Octets.{written}
+use Rattle.written.specs.Defined.{Defined}
 use Rattle.written.specs.DefinedLaws.{written-defined, defined-sheet}
 use Rattle.writing.specs.declared.Writing.{Writing}
 use Rattle.writing.specs.Writes.{Writes}

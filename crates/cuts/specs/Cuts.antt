@@ -12,8 +12,9 @@ use Rattle.carriers.specs.Carriers.{numberOf}
 use Rattle.blocks.specs.Block.{Fields}
 use Rattle.sheets.specs.Sheets.{sheetOf}
 use Rattle.reading.specs.declared.Reading.{Reading}
-use Rattle.reading.specs.Reading.{faultless, Answer, refuse, done, readOf, Reads}
-use Rattle.written.specs.Writing.{octetsOf}
+use Rattle.reading.specs.Reading.{readOf}
+use Rattle.reading.specs.Result.{faultless, Answer, refuse, done, Reads}
+use Rattle.written.specs.Octets.{octetsOf}
 
 -- the octets defined for a sheet are cut after n of them, and the part before the cut is read under the sheet's carrier number
 abbrev pub readCut : Carrier → List ℕ → ℕ → ℕ → Answer

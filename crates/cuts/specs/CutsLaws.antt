@@ -22,9 +22,10 @@ use Rattle.frames.specs.Emit.{optionsOf}
 use Rattle.frames.specs.Cutting.{cut-at-end, cut-elsewhere}
 use Rattle.blocks.specs.Block.{Fields}
 use Rattle.sheets.specs.Sheets.{sheetOf}
-use Rattle.reading.specs.Reading.{faultless, refuse, done, readFramed, readOf}
+use Rattle.reading.specs.Reading.{readFramed, readOf}
+use Rattle.reading.specs.Result.{faultless, refuse, done}
 use Rattle.reading.specs.AnswerLaws.{read-known}
-use Rattle.written.specs.Writing.{octetsOf}
+use Rattle.written.specs.Octets.{octetsOf}
 use Rattle.written.specs.Accepted.{Sound, Accepted}
 use Rattle.roundtrip.specs.Returns.{bodyOf, bodiesOf, answerKept}
 use Rattle.roundtrip.specs.RecordReturns.{kept-room, kept-no-room, blocks-answer}

@@ -2,7 +2,8 @@
 // holds the header against this file and the structs it returns. A slice crosses as a pointer and a length; a null pointer goes with
 // length 0.
 ghost use lib.ListN.{length};
-ghost use Rattle.reading.specs.Reading.{readOf, Reads};
+ghost use Rattle.reading.specs.Reading.{readOf};
+ghost use Rattle.reading.specs.Result.{Reads};
 ghost use Rattle.written.specs.Writing.{writeOf};
 ghost use Rattle.writing.specs.Writes.{Writes};
 use reading::Reading;

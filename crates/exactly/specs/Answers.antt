@@ -13,15 +13,14 @@ use Rattle.carriers.specs.declared.Carrier.{Carrier}
 use Rattle.carriers.specs.declared.Carrier.the-variants.{Dhcp4}
 use Rattle.carriers.specs.Carriers.{numberOf, isJoined}
 use Rattle.order.specs.Order.{Sorted, keep}
-use Rattle.frames.specs.Frame.{blocksOf}
-use Rattle.frames.specs.Area.{Area}
+use Rattle.frames.specs.Area.{blocksOf, Area}
 use Rattle.blocks.specs.Block.{Fields}
 use Rattle.blocks.specs.Holding.{Laid, Short, Misfilled}
 use Rattle.judge.specs.declared.Side.the-variants.{Reading}
 use Rattle.judge.specs.Allowed.{Allowed, FirstBroken}
 use Rattle.records.specs.Records.{Outcome, faulty, kept, keepOf}
 use Rattle.sheets.specs.Sheets.{sheetOf}
-use Rattle.reading.specs.Reading.{Yield, discarded, yields, single, arrivals, discardedIn, firstFault, Done, Answer, refuse, done}
+use Rattle.reading.specs.Result.{Yield, discarded, yields, single, arrivals, discardedIn, firstFault, Done, Answer, refuse, done}
 
 -- ---- a body (in carrier 1 one instance)
 

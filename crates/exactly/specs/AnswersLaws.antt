@@ -22,15 +22,16 @@ use Rattle.carriers.specs.declared.Form.the-variants.{Wire, Padded, Text}
 use Rattle.carriers.specs.Carriers.{chosenOf, numberOf, formOf}
 use Rattle.carriers.specs.CarriersLaws.{by-joined, padded-router, chosen-number, number-chosen}
 use Rattle.order.specs.OrderLaws.{sort-sorted, sort-stable, sort-only, sort-length}
-use Rattle.frames.specs.Frame.{Framed, framed, frame, joined, blocksOf}
+use Rattle.frames.specs.Frame.{Framed, framed, frame}
+use Rattle.frames.specs.Area.{joined, blocksOf, Area}
 use Rattle.frames.specs.Frame as framing
-use Rattle.frames.specs.Area.{Area}
 use Rattle.frames.specs.AreaLaws.{frame-exactly, fault-exactly}
 use Rattle.frames.specs.BodyLaws.{bodies-bytes, bodies-units}
 use Rattle.blocks.specs.Block.{Fields, PossibleBy, Possible}
 use Rattle.sheets.specs.Sheets.{sheetOf}
 use Rattle.reading.specs.declared.Reading.{Reading}
-use Rattle.reading.specs.Reading.{Yield, yieldOf, arrivals, inOrder, Answer, refuse, done, settle, readYields, readFramed, readOf, Reads}
+use Rattle.reading.specs.Reading.{yieldOf, inOrder, settle, readYields, readFramed, readOf}
+use Rattle.reading.specs.Result.{Yield, arrivals, Answer, refuse, done, Reads}
 use Rattle.reading.specs.AnswerLaws.{read-unknown, read-long, read-known, reads-as}
 use Rattle.exactly.specs.Answers.{BlocksAre, none, more, Arranged, Readable, gives, Answers, no-carrier, too-long, unframed, too-many, no-room, is-done}
 use Rattle.exactly.specs.BlockLaws.{block-is}

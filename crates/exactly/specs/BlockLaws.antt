@@ -22,9 +22,11 @@ use Rattle.blocks.specs.HoldingLaws.{short-exactly, misfilled-exactly, parsed-a
 use Rattle.judge.specs.declared.Side.the-variants.{Reading}
 use Rattle.judge.specs.Judge.{faultOf}
 use Rattle.judge.specs.AllowedLaws.{allowed-exactly, broken-exactly}
-use Rattle.records.specs.Records.{Outcome, faulty, kept, outcomeOf, keepOf}
+use Rattle.records.specs.Records.{Outcome, faulty, kept, keepOf}
+use Rattle.records.specs.Yielded.{outcomeOf}
 use Rattle.records.specs.RecordsLaws.{yield-kept, yield-faulty, outcome-bad, outcome-fields}
-use Rattle.reading.specs.Reading.{Yield, discarded, yields, single, ahead, instancesFrom, joinedYield, yieldOf}
+use Rattle.reading.specs.Reading.{ahead, instancesFrom, joinedYield, yieldOf}
+use Rattle.reading.specs.Result.{Yield, discarded, yields, single}
 use Rattle.reading.specs.InstanceLaws.{instance-past, instance-ahead, joined-none, joined-some}
 use Rattle.exactly.specs.PartsLaws.{counted-left, counted-right, parameters-bytes}
 use Rattle.exactly.specs.Answers.{BodyIs, short, misfilled, broken, keeps, Begins, Instances, none, past, first-faulty, later-faulty, one-more, BlockIs, one-body, no-instance, instances}

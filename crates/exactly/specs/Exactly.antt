@@ -16,8 +16,10 @@ use Rattle.carriers.specs.CarriersLaws.{other-joined}
 use Rattle.blocks.specs.Block.{Fields, layout, Fits, Possible}
 use Rattle.judge.specs.declared.Side.the-variants.{Reading}
 use Rattle.judge.specs.Allowed.{Allowed}
-use Rattle.records.specs.Records.{Outcome, faulty, kept, outcomeOf, keepOf}
-use Rattle.reading.specs.Reading.{Yield, yields, single, yieldOf}
+use Rattle.records.specs.Records.{Outcome, faulty, kept, keepOf}
+use Rattle.records.specs.Yielded.{outcomeOf}
+use Rattle.reading.specs.Reading.{yieldOf}
+use Rattle.reading.specs.Result.{Yield, yields, single}
 use Rattle.reading.specs.InstanceLaws.{counted-ahead}
 use Rattle.layouts.specs.Layouts.{joinedOf}
 use Rattle.exactly.specs.Answers.{BodyIs, keeps, Instances, none, one-more, BlockIs, one-body, no-instance, instances}

@@ -19,14 +19,17 @@ use Rattle.carriers.specs.declared.Chosen.{Chosen}
 use Rattle.carriers.specs.declared.Chosen.the-variants.{Known, Unknown}
 use Rattle.carriers.specs.Carriers.{chosenOf}
 use Rattle.carriers.specs.CarriersLaws.{by-joined}
-use Rattle.frames.specs.Frame.{Framed, framed, frame, blocksOf}
+use Rattle.frames.specs.Frame.{Framed, framed, frame}
+use Rattle.frames.specs.Area.{blocksOf}
 use Rattle.frames.specs.Frame as area
 use Rattle.blocks.specs.Block.{Fields}
-use Rattle.records.specs.Records.{Outcome, faulty, kept, outcomeOf, recordOf}
+use Rattle.records.specs.Records.{Outcome, faulty, kept, recordOf}
+use Rattle.records.specs.Yielded.{outcomeOf}
 use Rattle.records.specs.RecordsLaws.{record-small}
 use Rattle.sheets.specs.Sheets.{sheetOf}
 use Rattle.sheets.specs.SheetsLaws.{length-sheet}
-use Rattle.reading.specs.Reading.{Yield, discarded, yields, single, ahead, instance, instancesFrom, joinedYield, yieldOf, recordsIn, arrivals, discardedIn, firstFault, inOrder, Done, Answer, refuse, done, settle, readYields, readFramed, readChosen, readOf}
+use Rattle.reading.specs.Reading.{ahead, instance, instancesFrom, joinedYield, yieldOf, inOrder, settle, readYields, readFramed, readChosen, readOf}
+use Rattle.reading.specs.Result.{Yield, discarded, yields, single, recordsIn, arrivals, discardedIn, firstFault, Done, Answer, refuse, done}
 use Rattle.reading.specs.ListLaws.{sort-laid}
 
 -- ---- what a block yields

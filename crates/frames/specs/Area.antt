@@ -1,10 +1,11 @@
 -- An area as the run of options that it is (01, Area walk), without a walk: `frame` gives the bodies of this run, and a fault where there is
 -- none (`frame-exactly`, `fault-exactly`). Assumes nothing: these are definitions.
 use mathlib.Core.Path.{_≡_}
-use mathlib.Core.Bool.{Bool, true, false}
+use mathlib.Core.Bool.{Bool, true, false, cond}
 use mathlib.Core.List.{List, [], _∷_, _++_}
 use Prim.Native.Nat.{ℕ, _+_, _*_, _^_, _<_}
 use lib.ListN.{length}
+use Rattle.octets.specs.Lists.{flat}
 use Rattle.octets.specs.Numbers.{be}
 use Rattle.carriers.specs.declared.Carrier.{Carrier}
 use Rattle.carriers.specs.Carriers.{codeOf, headWidth, headerOf, hasReserved, bareCode, inEights, isJoined}
@@ -36,3 +37,13 @@ pub data Area (c : Carrier) : List ℕ → List (List ℕ) → Type 0 where
       → Area c (option ++ area) (body ∷ bodies)
   foreign : {code : ℕ} {option body area : List ℕ} {bodies : List (List ℕ)} → IsOption c option code body → (code ≡ codeOf c → ⊥) → Area c area bodies
       → Area c (option ++ area) bodies
+
+-- ---- blocks
+
+-- the blocks of a framed area: each own option is one; in carrier 1 the data of all of them, joined, are one (RFC 3396)
+abbrev pub joined : List (List ℕ) → List (List ℕ)
+joined [] = []
+joined (b ∷ bs) = flat (b ∷ bs) ∷ []
+
+abbrev pub blocksOf : Carrier → List (List ℕ) → List (List ℕ)
+blocksOf c bs = cond (isJoined c) (joined bs) bs

@@ -14,7 +14,8 @@ use Rattle.carriers.specs.declared.Carrier.{Carrier}
 use Rattle.carriers.specs.declared.Carrier.the-variants.{Router}
 use Rattle.carriers.specs.Carriers.{headerOf, isJoined, octets}
 use Rattle.frames.specs.declared.Head.{Head}
-use Rattle.frames.specs.Frame.{firstOf, Framed, fault, framed, onto, after, frameFrom, frame, blocksOf}
+use Rattle.frames.specs.Frame.{firstOf, Framed, fault, framed, onto, after, frameFrom, frame}
+use Rattle.frames.specs.Area.{blocksOf}
 use Rattle.octets.specs.Lists.{All}
 use Rattle.octets.specs.ListsLaws.{all-take, all-drop}
 use Rattle.frames.specs.Walk.{Plain}

@@ -5,7 +5,6 @@ use mathlib.Core.List.{List, [], _∷_}
 use lib.ListN.{length, getD, take, drop}
 use lib.Dec.{ltb, eqb}
 use Rattle.octets.specs.Numbers.{numberAt}
-use Rattle.octets.specs.Lists.{flat}
 use Rattle.numbers.specs.Refusal as refusal
 use Rattle.carriers.specs.declared.Carrier.{Carrier}
 use Rattle.carriers.specs.Carriers.{codeOf, headWidth, headerOf, hasReserved, bareCode, inEights, isJoined, octets}
@@ -76,13 +75,3 @@ frameFrom c (suc k) (x ∷ xs) = frameFrom c k xs
 
 abbrev pub frame : Carrier → List ℕ → Framed
 frame c s = frameFrom c 0 s
-
--- ---- blocks
-
--- the blocks of a framed area: each own option is one; in carrier 1 the data of all of them, joined, are one (RFC 3396)
-abbrev pub joined : List (List ℕ) → List (List ℕ)
-joined [] = []
-joined (b ∷ bs) = flat (b ∷ bs) ∷ []
-
-abbrev pub blocksOf : Carrier → List (List ℕ) → List (List ℕ)
-blocksOf c bs = cond (isJoined c) (joined bs) bs

@@ -15,7 +15,7 @@ use Rattle.names.specs.Names.{IsName}
 use Rattle.texts.specs.Texts.{IsText}
 use Rattle.addresses.specs.Addresses.{listOf}
 use Rattle.addresses.specs.Ranges.{Unusable}
-use Rattle.svcparams.specs.Params.{Param, keys}
+use Rattle.svcparams.specs.Param.{Param, keys}
 use Rattle.svcparams.specs.Accepted.{Ordered, Hinted, Accepted}
 use Rattle.svcparams.specs.Accepted as value
 use Rattle.blocks.specs.Block.{Fields}

@@ -25,7 +25,8 @@ use Rattle.addresses.specs.Addresses.{Width, unusable, listOf, hasOf, anyOf, no
 use Rattle.addresses.specs.AddressesLaws.{list-wide, none-has}
 use Rattle.addresses.specs.Ranges.{Unusable}
 use Rattle.addresses.specs.RangesLaws.{unusable-exactly}
-use Rattle.svcparams.specs.Params.{Param, keys, paramsFault}
+use Rattle.svcparams.specs.Params.{paramsFault}
+use Rattle.svcparams.specs.Param.{Param, keys}
 use Rattle.svcparams.specs.Accepted.{Ordered, Hinted}
 use Rattle.svcparams.specs.Accepted as value
 use Rattle.svcparams.specs.VerdictLaws.{allowed-fault, Verdict, unordered, hinted, forbidden, accepted, verdict}

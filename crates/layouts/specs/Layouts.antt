@@ -7,7 +7,7 @@ use Rattle.octets.specs.Lists.{flat}
 use Rattle.octets.specs.Fields.{putCounted}
 use Rattle.carriers.specs.declared.Carrier.{Carrier}
 use Rattle.carriers.specs.declared.Carrier.the-variants.{Dhcp4}
-use Rattle.carriers.specs.Carriers.{asText}
+use Rattle.carriers.specs.Carriers.{isJoined, asText}
 use Rattle.texts.specs.Texts.{textOf}
 use Rattle.blocks.specs.Block.{Fields, layout}
 use Rattle.frames.specs.Emit.{optionOf}
@@ -37,3 +37,7 @@ instanceOf r = putCounted 2 (layout Dhcp4 r) []
 -- the instances of the records one after another
 abbrev pub joinedOf : List Fields → List ℕ
 joinedOf rs = flat (map instanceOf rs)
+
+-- the records one after another, in sheet order: in carrier 1 the instances joined, else an option or attribute each
+abbrev pub streamOf : Carrier → List Fields → List ℕ
+streamOf c rs = cond (isJoined c) (joinedOf rs) (flat (map (ownOption c) rs))

@@ -9,8 +9,9 @@ use Rattle.octets.specs.Numbers.{Bytes}
 use Rattle.carriers.specs.declared.Carrier.{Carrier}
 use Rattle.blocks.specs.Block.{Fields}
 use Rattle.taking.specs.Sheet.{IsSheet}
-use Rattle.written.specs.Writing.{written, writeOf, numberIn}
-use Rattle.written.specs.Accepted.{Accepting, Defined}
+use Rattle.written.specs.Writing.{writeOf}
+use Rattle.written.specs.Octets.{written, numberIn}
+use Rattle.written.specs.Defined.{Accepting, Defined}
 use Rattle.written.specs.DefinedLaws.{written-defined, defined-sheet}
 use Rattle.writing.specs.declared.Writing.{Writing}
 use Rattle.writing.specs.Writes.{Writes}

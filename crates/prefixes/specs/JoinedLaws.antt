@@ -20,9 +20,9 @@ use Rattle.blocks.specs.Block.{Fields}
 use Rattle.taking.specs.Sheet.{IsSheet}
 use Rattle.pieces.specs.Pieces.{pieces, cutOf}
 use Rattle.pieces.specs.PiecesLaws.{pieces-fit, pieces-flat}
-use Rattle.vetting.specs.Vetting.{streamOf}
-use Rattle.written.specs.Writing.{octetsOf}
-use Rattle.written.specs.Accepted.{Defined}
+use Rattle.layouts.specs.Layouts.{streamOf}
+use Rattle.written.specs.Octets.{octetsOf}
+use Rattle.written.specs.Defined.{Defined}
 use Rattle.written.specs.DefinedLaws.{defined-sheet}
 use Rattle.prefixes.specs.Prefix.{IsJoined}
 

@@ -24,10 +24,9 @@ use Rattle.frames.specs.Walk.{Plain}
 use Rattle.frames.specs.WalkLaws.{apart-false, false-apart}
 use Rattle.frames.specs.HeadLaws.{header-pos}
 use Rattle.frames.specs.EmitLaws.{option-length}
-use Rattle.layouts.specs.Layouts.{carriedOf, ownOption, instanceOf}
+use Rattle.layouts.specs.Layouts.{carriedOf, ownOption, instanceOf, streamOf}
 use Rattle.layouts.specs.LayoutsLaws.{writable-fits, writable-body, writable-emits}
-use Rattle.vetting.specs.Vetting.{streamOf}
-use Rattle.written.specs.Writing.{octetsOf}
+use Rattle.written.specs.Octets.{octetsOf}
 use Rattle.written.specs.Accepted.{Sound, Accepted}
 use Rattle.written.specs.AcceptedLaws.{writable}
 use Rattle.prefixes.specs.Prefix.{Leading, SelfDelimiting}

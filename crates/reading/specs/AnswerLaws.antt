@@ -20,7 +20,8 @@ use Rattle.carriers.specs.declared.Chosen.the-variants.{Known, Unknown}
 use Rattle.carriers.specs.Carriers.{chosenOf, isJoined}
 use Rattle.carriers.specs.CarriersLaws.{other-joined}
 use Rattle.octets.specs.Lists.{flat}
-use Rattle.frames.specs.Frame.{Framed, framed, frame, joined}
+use Rattle.frames.specs.Frame.{Framed, framed, frame}
+use Rattle.frames.specs.Area.{joined}
 use Rattle.frames.specs.declared.Joined.{Joined}
 use Rattle.frames.specs.Gather.{Several, Joins}
 use Rattle.frames.specs.GatherLaws.{joins-whole}
@@ -28,11 +29,13 @@ use Rattle.frames.specs.declared.Step.{Step}
 use Rattle.frames.specs.Step.{stepAt}
 use Rattle.frames.specs.WalkLaws.{walked-end, walked-fault}
 use Rattle.blocks.specs.Block.{Fields}
-use Rattle.records.specs.Records.{outcomeOf, recordOf}
+use Rattle.records.specs.Records.{recordOf}
+use Rattle.records.specs.Yielded.{outcomeOf}
 use Rattle.sheets.specs.Sheets.{frontSize, sheetOf}
 use Rattle.sheets.specs.SheetsLaws.{length-sheet}
 use Rattle.reading.specs.declared.Reading.{Reading}
-use Rattle.reading.specs.Reading.{Yield, single, joinedYield, yieldOf, arrivals, inOrder, Done, Answer, refuse, done, readYields, readBlocks, readFramed, readArea, readChosen, readOf, told, left, Reads}
+use Rattle.reading.specs.Reading.{joinedYield, yieldOf, inOrder, readYields, readBlocks, readFramed, readArea, readChosen, readOf}
+use Rattle.reading.specs.Result.{Yield, single, arrivals, Done, Answer, refuse, done, told, left, Reads}
 use Rattle.reading.specs.Tally.{recordsAt, Tally, Shows, answerOf}
 use Rattle.reading.specs.ListLaws.{sort-laid}
 use Rattle.reading.specs.Walks.{Tallying}

@@ -16,9 +16,11 @@ use Rattle.numbers.specs.Fault as fault
 use Rattle.carriers.specs.declared.Carrier.the-variants.{Dhcp4}
 use Rattle.frames.specs.Step.{part}
 use Rattle.blocks.specs.Block.{Fields}
-use Rattle.records.specs.Records.{kept, outcomeOf}
+use Rattle.records.specs.Records.{kept}
+use Rattle.records.specs.Yielded.{outcomeOf}
 use Rattle.reading.specs.Walks.{before}
-use Rattle.reading.specs.Reading.{Yield, discarded, yields, ahead, instancesFrom, joinedYield}
+use Rattle.reading.specs.Reading.{ahead, instancesFrom, joinedYield}
+use Rattle.reading.specs.Result.{Yield, discarded, yields}
 
 -- octets to be skipped are skipped
 pub instances-skip : (k : ℕ) (l : List ℕ) → instancesFrom k l ≡ instancesFrom 0 (drop k l)

@@ -6,7 +6,7 @@ use Prim.Native.Nat.{ℕ}
 use lib.ListN.{length, drop}
 use Rattle.octets.specs.OverLaws.{over-past}
 use Rattle.reading.specs.declared.Reading.{Reading}
-use Rattle.reading.specs.Reading.{Answer, refuse, done, told, Reads}
+use Rattle.reading.specs.Result.{Answer, refuse, done, told, Reads}
 
 module _ (out out′ : List ℕ) (r : Reading) where
   pub refused-leaves : (a : Answer) → Reads a out r out′ → (r .number ≡ 0 → ⊥) → (r ≡ told (refuse (r .number))) × (out′ ≡ out)

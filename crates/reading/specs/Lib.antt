@@ -9,3 +9,4 @@ pub mod TallyLaws
 pub mod AnswerLaws
 pub mod LeavesLaws
 pub mod RoomLaws
+pub mod Result

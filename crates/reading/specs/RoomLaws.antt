@@ -13,11 +13,13 @@ use Rattle.carriers.specs.declared.Carrier.{Carrier}
 use Rattle.carriers.specs.declared.Chosen.{Chosen}
 use Rattle.carriers.specs.declared.Chosen.the-variants.{Known, Unknown}
 use Rattle.carriers.specs.Carriers.{chosenOf}
-use Rattle.frames.specs.Frame.{Framed, framed, frame, blocksOf}
+use Rattle.frames.specs.Frame.{Framed, framed, frame}
+use Rattle.frames.specs.Area.{blocksOf}
 use Rattle.frames.specs.Frame as area
 use Rattle.blocks.specs.Block.{Fields}
 use Rattle.sheets.specs.Sheets.{sheetOf}
-use Rattle.reading.specs.Reading.{Yield, yieldOf, arrivals, discardedIn, firstFault, inOrder, Done, Answer, refuse, done, settle, readYields, readFramed, readArea, readChosen, readOf}
+use Rattle.reading.specs.Reading.{yieldOf, inOrder, settle, readYields, readFramed, readArea, readChosen, readOf}
+use Rattle.reading.specs.Result.{Yield, arrivals, discardedIn, firstFault, Done, Answer, refuse, done}
 
 -- what a reading that is done with d in one room answers in another
 abbrev pub inRoom : Done → ℕ → Answer

@@ -21,7 +21,8 @@ use Rattle.order.specs.OrderLaws.{sort-length}
 use Rattle.order.specs.MapLaws.{each-sort, sort-map-on}
 use Rattle.order.specs.Listed.{rank, none, listed, OrderedFrom}
 use Rattle.records.specs.declared.Examined.{Examined}
-use Rattle.records.specs.Records.{Outcome, faulty, kept, outcomeOf, recordOf}
+use Rattle.records.specs.Records.{Outcome, faulty, kept, recordOf}
+use Rattle.records.specs.Yielded.{outcomeOf}
 use Rattle.records.specs.Examined.{Clean, Kept, octetsIn, examinedOf}
 use Rattle.sheets.specs.Sheets.{frontOf, recordsOf, sheetOf}
 use Rattle.sheets.specs.SheetsLaws.{length-front, length-sheet}

@@ -18,11 +18,13 @@ use Rattle.order.specs.declared.Slots.{Slots}
 use Rattle.octets.specs.Lists.{All}
 use Rattle.order.specs.Listed.{listed}
 use Rattle.records.specs.declared.Examined.{Examined}
-use Rattle.records.specs.Records.{Outcome, faulty, kept, outcomeOf}
+use Rattle.records.specs.Records.{Outcome, faulty, kept}
+use Rattle.records.specs.Yielded.{outcomeOf}
 use Rattle.records.specs.Examined.{examinedOf, Clean, Kept}
 use Rattle.sheets.specs.Sheets.{frontSize, sheetOf}
 use Rattle.reading.specs.declared.Counts.{Counts}
-use Rattle.reading.specs.Reading.{Yield, single, arrivals, discardedIn, firstFault, inOrder, Answer, refuse, done}
+use Rattle.reading.specs.Reading.{inOrder}
+use Rattle.reading.specs.Result.{Yield, single, arrivals, discardedIn, firstFault, Answer, refuse, done}
 
 -- ---- buffers
 

@@ -25,12 +25,14 @@ use Rattle.octets.specs.Lists.{All}
 use Rattle.octets.specs.ListsLaws.{flat-map-append, all-append}
 use Rattle.order.specs.Listed.{listed}
 use Rattle.records.specs.declared.Examined.{Examined}
-use Rattle.records.specs.Records.{Outcome, faulty, kept, outcomeOf, recordOf}
+use Rattle.records.specs.Records.{Outcome, faulty, kept, recordOf}
+use Rattle.records.specs.Yielded.{outcomeOf}
 use Rattle.records.specs.Examined.{examinedOf}
 use Rattle.records.specs.RecordsLaws.{fault-some}
 use Rattle.sheets.specs.Sheets.{frontSize, recordsOf, sheetOf}
 use Rattle.sheets.specs.SheetsLaws.{length-sheet}
-use Rattle.reading.specs.Reading.{Yield, discarded, yields, single, arrivals, ahead, instancesFrom, joinedYield}
+use Rattle.reading.specs.Reading.{ahead, instancesFrom, joinedYield}
+use Rattle.reading.specs.Result.{Yield, discarded, yields, single, arrivals}
 use Rattle.reading.specs.Tally.{Good, recordAt, slotOf, Held, heldOf, Seen, Grown, Holds, Tally, tallyOf, Shows, Open, alone, Ready}
 use Rattle.reading.specs.YieldLaws.{arrivals-more, discarded-more, discarded-few, first-yields, first-discarded, first-stays}
 use Rattle.reading.specs.InstanceLaws.{instance-short, instance-past, instance-whole, instances-end, before-none, before-ahead, joined-some}

@@ -11,9 +11,10 @@ use Rattle.carriers.specs.declared.Carrier.the-variants.{Dhcp4}
 use Rattle.frames.specs.Walk.{Walked}
 use Rattle.blocks.specs.Block.{Fields}
 use Rattle.order.specs.declared.Slot.{Slot}
-use Rattle.records.specs.Records.{outcomeOf}
+use Rattle.records.specs.Yielded.{outcomeOf}
 use Rattle.records.specs.Examined.{octetsIn}
-use Rattle.reading.specs.Reading.{Yield, discarded, yields, instancesFrom, joinedYield}
+use Rattle.reading.specs.Reading.{instancesFrom, joinedYield}
+use Rattle.reading.specs.Result.{Yield, discarded, yields}
 use Rattle.reading.specs.Tally.{bodyAt, Held, Holds, Tally, Shows, alone}
 
 -- ---- the blocks of an area

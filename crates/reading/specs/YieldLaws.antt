@@ -5,7 +5,7 @@ use Prim.Native.Nat.{ℕ, _+_, _≤_}
 use native.Mathlib.Omega.{arith}
 use lib.ListN.{length}
 use Rattle.blocks.specs.Block.{Fields}
-use Rattle.reading.specs.Reading.{Yield, discarded, yields, recordsIn, arrivals, discards, discardedIn, orFault, firstFault}
+use Rattle.reading.specs.Result.{Yield, discarded, yields, recordsIn, arrivals, discards, discardedIn, orFault, firstFault}
 
 pub arrivals-more : (ys : List Yield) (y : Yield) → arrivals (ys ++ (y ∷ [])) ≡ arrivals ys ++ recordsIn y
 arrivals-more [] y = append-nil (recordsIn y)

@@ -12,7 +12,8 @@ use Rattle.carriers.specs.declared.Carrier.{Carrier}
 use Rattle.carriers.specs.Carriers.{addressWidth}
 use Rattle.addresses.specs.Addresses.{unusable, listOf, keptOf}
 use Rattle.addresses.specs.AddressesLaws.{list-nil, list-length, flat-list, kept-few}
-use Rattle.blocks.specs.Block.{Fields, fields, parse}
+use Rattle.blocks.specs.Block.{Fields}
+use Rattle.blocks.specs.Parse.{fields, parse}
 use Rattle.records.specs.Records.{staying}
 use Rattle.records.specs.Examined.{Clean}
 

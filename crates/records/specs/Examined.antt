@@ -6,7 +6,8 @@ use Prim.Native.Nat.{ℕ}
 use lib.ListN.{length}
 use Rattle.carriers.specs.declared.Carrier.{Carrier}
 use Rattle.carriers.specs.Carriers.{addressWidth}
-use Rattle.blocks.specs.Block.{Fields, fields, parse}
+use Rattle.blocks.specs.Block.{Fields}
+use Rattle.blocks.specs.Parse.{fields, parse}
 use Rattle.records.specs.declared.Examined.{Examined}
 use Rattle.records.specs.Records.{Outcome, faulty, kept, recordOf, staying}
 

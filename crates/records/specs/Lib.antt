@@ -7,3 +7,4 @@ pub mod GivenLaws
 pub mod CleanLaws
 pub mod Outcomes
 pub mod PlacesLaws
+pub mod Yielded

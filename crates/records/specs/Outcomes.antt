@@ -21,7 +21,8 @@ use Rattle.judge.specs.declared.Judged.{Judged}
 use Rattle.judge.specs.Judge.{judgedOf, faultOf}
 use Rattle.judge.specs.JudgeLaws.{carrier-width, fault-passed}
 use Rattle.records.specs.declared.Examined.{Examined}
-use Rattle.records.specs.Records.{staying, nameAs, keepOf, headSize, tailSize, recordOf, yieldOf}
+use Rattle.records.specs.Records.{staying, nameAs, keepOf, headSize, tailSize, recordOf}
+use Rattle.records.specs.Yielded.{yieldOf}
 use Rattle.records.specs.Examined.{examinedOf}
 use Rattle.records.specs.Parts.{discarded, nameIn, namePart}
 use Rattle.records.specs.RecordsLaws.{yield-kept, yield-faulty, length-record, staying-length, kept-small}

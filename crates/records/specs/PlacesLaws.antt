@@ -16,7 +16,8 @@ use Rattle.addresses.specs.AddressesLaws.{wide-some}
 use Rattle.blocks.specs.declared.Head.{Head}
 use Rattle.blocks.specs.declared.Places.{Places}
 use Rattle.blocks.specs.declared.Places.the-variants.{Bad, NameOnly, Full}
-use Rattle.blocks.specs.Block.{Fields, headWith, bad, fields, nameOnly, whole, parse}
+use Rattle.blocks.specs.Block.{Fields, headWith, nameOnly, whole}
+use Rattle.blocks.specs.Parse.{bad, fields, parse}
 use Rattle.blocks.specs.Places.{told, Inside, Numbers, Ranged}
 use Rattle.judge.specs.declared.Side.the-variants.{Reading}
 use Rattle.judge.specs.Judge.{faultOf}
@@ -24,7 +25,8 @@ use Rattle.judge.specs.Passed.{Passed}
 use Rattle.judge.specs.JudgeLaws.{carrier-width, fault-passed}
 use Rattle.records.specs.declared.Examined.{Examined}
 use Rattle.records.specs.declared.Given.{Given}
-use Rattle.records.specs.Records.{Outcome, faulty, kept, outcomeOf, staying, nameAs, keepOf, headSize, recordOf, yieldOf}
+use Rattle.records.specs.Records.{Outcome, faulty, kept, staying, nameAs, keepOf, headSize, recordOf}
+use Rattle.records.specs.Yielded.{outcomeOf, yieldOf}
 use Rattle.records.specs.Examined.{examinedOf, Clean, Kept, octetsIn}
 use Rattle.records.specs.Parts.{discarded, headPart}
 use Rattle.records.specs.Given.{recordAs, GivenTail, Puttable}

@@ -3,7 +3,6 @@
 use mathlib.Core.Bool.{Bool, cond}
 use mathlib.Core.List.{List, [], _++_}
 use Prim.Native.Nat.{ℕ, _/_}
-use lib.Dec.{eqb}
 use lib.ListN.{length}
 use Rattle.octets.specs.Numbers.{be}
 use Rattle.octets.specs.Lists.{flat}
@@ -11,9 +10,7 @@ use Rattle.carriers.specs.declared.Carrier.{Carrier}
 use Rattle.carriers.specs.Carriers.{addressWidth, asText}
 use Rattle.texts.specs.Texts.{wireOf}
 use Rattle.addresses.specs.Addresses.{listOf, keptOf}
-use Rattle.blocks.specs.Block.{Fields, Parsed, bad, fields, parse}
-use Rattle.judge.specs.declared.Side.the-variants.{Reading}
-use Rattle.judge.specs.Judge.{faultOf}
+use Rattle.blocks.specs.Block.{Fields}
 
 -- the addresses that stay, of w octets each
 abbrev pub staying : ℕ → List ℕ → List ℕ
@@ -42,18 +39,6 @@ keepOf c f = keepAs (asText c) (addressWidth c) f
 pub data Outcome : Type 0 where
   faulty : ℕ → Outcome
   kept : Fields → Outcome
-
-abbrev pub onParsed : {A : Type 0} → Parsed → (ℕ → A) → (Fields → A) → A
-onParsed (bad k) short next = short k
-onParsed (fields f) short next = next f
-
--- 21 to 28 of the fields, or their record
-abbrev pub yieldOf : Carrier → Fields → Outcome
-yieldOf c f = cond (eqb (faultOf Reading c f) 0) (kept (keepOf c f)) (faulty (faultOf Reading c f))
-
--- 20 and 29 by `parse`, then 21 to 28
-unfoldable pub outcomeOf : Carrier → List ℕ → Outcome
-outcomeOf c body = onParsed (parse c body) faulty (yieldOf c)
 
 -- ---- a record's octets
 

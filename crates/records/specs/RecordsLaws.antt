@@ -23,13 +23,15 @@ use Rattle.texts.specs.Texts.{wireOf}
 use Rattle.texts.specs.Convert.{wire-length, wire-of-text}
 use Rattle.addresses.specs.Addresses.{Width, listOf, keptOf}
 use Rattle.addresses.specs.AddressesLaws.{wide-some, list-length, list-wide, list-flat, flat-length, kept-wide, kept-few, kept-usable}
-use Rattle.blocks.specs.Block.{Fields, Parsed, bad, fields, parse}
+use Rattle.blocks.specs.Block.{Fields}
+use Rattle.blocks.specs.Parse.{Parsed, bad, fields, parse}
 use Rattle.blocks.specs.Faults.{parse-fault}
 use Rattle.judge.specs.declared.Side.the-variants.{Reading, Writing}
 use Rattle.judge.specs.Judge.{nameOf, faultOf}
 use Rattle.judge.specs.Passed.{PassedTail, Passed}
 use Rattle.judge.specs.JudgeLaws.{carrier-width, fault-passed, read-text, read-name}
-use Rattle.records.specs.Records.{faulty, kept, outcomeOf, staying, keepOf, headSize, tailSize, modeOf, tailOf, recordBy, recordOf, yieldOf}
+use Rattle.records.specs.Records.{faulty, kept, staying, keepOf, headSize, tailSize, modeOf, tailOf, recordBy, recordOf}
+use Rattle.records.specs.Yielded.{outcomeOf, yieldOf}
 use Rattle.records.specs.Parts.{nameIn}
 
 -- ---- what fields yield

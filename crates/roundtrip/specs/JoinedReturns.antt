@@ -7,16 +7,18 @@ use lib.ListN.{length}
 use Rattle.octets.specs.Lists.{All, flat}
 use Rattle.numbers.specs.Limit as limit
 use Rattle.carriers.specs.declared.Carrier.the-variants.{Dhcp4}
-use Rattle.frames.specs.Frame.{Framed, frame, joined}
+use Rattle.frames.specs.Frame.{Framed, frame}
+use Rattle.frames.specs.Area.{joined}
 use Rattle.blocks.specs.Block.{Fields}
-use Rattle.reading.specs.Reading.{yields, ahead, instancesFrom, yieldOf, readFramed, readBlocks}
+use Rattle.reading.specs.Reading.{ahead, instancesFrom, yieldOf, readFramed, readBlocks}
+use Rattle.reading.specs.Result.{yields}
 use Rattle.reading.specs.InstanceLaws.{instance-ahead, counted-ahead, joined-some}
 use Rattle.taking.specs.Sheet.{NoneFalls}
 use Rattle.pieces.specs.Pieces.{pieces}
 use Rattle.pieces.specs.PiecesLaws.{pieces-flat, frame-cut}
 use Rattle.layouts.specs.Layouts.{joinedOf}
 use Rattle.layouts.specs.LayoutsLaws.{writable-body}
-use Rattle.written.specs.Writing.{octetsOf}
+use Rattle.written.specs.Octets.{octetsOf}
 use Rattle.written.specs.Accepted.{Sound}
 use Rattle.written.specs.AcceptedLaws.{writable}
 use Rattle.roundtrip.specs.Returns.{bodyOf, Brings, answerKept}

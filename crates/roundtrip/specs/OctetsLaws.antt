@@ -21,7 +21,7 @@ use Rattle.pieces.specs.PiecesLaws.{cut-length}
 use Rattle.layouts.specs.Layouts.{ownOption, instanceOf, joinedOf}
 use Rattle.layouts.specs.Writable.{mostBody}
 use Rattle.layouts.specs.LayoutsLaws.{header-small, writable-body, writable-emits}
-use Rattle.written.specs.Writing.{octetsOf}
+use Rattle.written.specs.Octets.{octetsOf}
 use Rattle.written.specs.Accepted.{Sound}
 use Rattle.written.specs.AcceptedLaws.{writable}
 use Rattle.roundtrip.specs.Returns.{bodyOf, bodiesOf}

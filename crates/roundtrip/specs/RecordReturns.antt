@@ -31,10 +31,12 @@ use Rattle.judge.specs.declared.Side.the-variants.{Reading, Writing}
 use Rattle.judge.specs.Allowed.{NameBy, Whole, TailAllowed, Allowed}
 use Rattle.judge.specs.JudgeLaws.{carrier-width}
 use Rattle.judge.specs.AllowedLaws.{usable-exactly, allowed-faultless}
-use Rattle.records.specs.Records.{kept, outcomeOf, staying, keepOf}
+use Rattle.records.specs.Records.{kept, staying, keepOf}
+use Rattle.records.specs.Yielded.{outcomeOf}
 use Rattle.records.specs.RecordsLaws.{kept-outcome}
 use Rattle.sheets.specs.Sheets.{sheetOf}
-use Rattle.reading.specs.Reading.{Yield, yields, single, yieldOf, inOrder, faultless, refuse, done, readYields, readBlocks, readFramed}
+use Rattle.reading.specs.Reading.{yieldOf, inOrder, readYields, readBlocks, readFramed}
+use Rattle.reading.specs.Result.{Yield, yields, single, faultless, refuse, done}
 use Rattle.taking.specs.Sheet.{NoneFalls}
 use Rattle.layouts.specs.Layouts.{carriedOf}
 use Rattle.layouts.specs.LayoutsLaws.{writable-fits}

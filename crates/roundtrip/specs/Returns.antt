@@ -10,7 +10,7 @@ use Rattle.carriers.specs.declared.Carrier.{Carrier}
 use Rattle.blocks.specs.Block.{Fields, layout}
 use Rattle.layouts.specs.Layouts.{carriedOf}
 use Rattle.sheets.specs.Sheets.{sheetOf}
-use Rattle.reading.specs.Reading.{Yield, arrivals, discardedIn, firstFault, faultless, Answer, refuse, done}
+use Rattle.reading.specs.Result.{Yield, arrivals, discardedIn, firstFault, faultless, Answer, refuse, done}
 
 -- the body of a record's option or attribute, in carrier 1 of its instance
 abbrev pub bodyOf : Carrier → Fields → List ℕ

@@ -9,7 +9,7 @@ use Rattle.carriers.specs.declared.Carrier.{Carrier}
 use Rattle.carriers.specs.Carriers.{isJoined}
 use Rattle.blocks.specs.Block.{Fields}
 use Rattle.reading.specs.declared.Reading.{Reading}
-use Rattle.reading.specs.Reading.{Done, faultless, done, told}
+use Rattle.reading.specs.Result.{Done, faultless, done, told}
 use Rattle.written.specs.Accepted.{Accepted}
 
 -- the blocks of an accepted sheet's octets: in carrier 1 one, or none for no records; else one for each record

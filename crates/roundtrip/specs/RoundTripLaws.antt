@@ -22,11 +22,13 @@ use Rattle.frames.specs.WalkLaws.{false-apart}
 use Rattle.blocks.specs.Block.{Fields}
 use Rattle.sheets.specs.Sheets.{carrierAt, frontOf, sheetOf}
 use Rattle.reading.specs.declared.Reading.{Reading}
-use Rattle.reading.specs.Reading.{Done, Answer, refuse, done, readFramed, readOf, Reads}
+use Rattle.reading.specs.Reading.{readFramed, readOf}
+use Rattle.reading.specs.Result.{Done, Answer, refuse, done, Reads}
 use Rattle.reading.specs.AnswerLaws.{read-known}
 use Rattle.taking.specs.Sheet.{NoneFalls}
-use Rattle.written.specs.Writing.{octetsOf, writeOf, numberIn}
-use Rattle.written.specs.Writing as writing
+use Rattle.written.specs.Writing.{writeOf}
+use Rattle.written.specs.Octets.{octetsOf, numberIn}
+use Rattle.written.specs.Octets as writing
 use Rattle.written.specs.Accepted.{Sound, Accepted}
 use Rattle.written.specs.AcceptedLaws.{accepted-exactly}
 use Rattle.written.specs.DefinedLaws.{zero-defined, written-defined, defined-sheet}

@@ -9,7 +9,7 @@ use Rattle.octets.specs.Numbers.{at16}
 use Rattle.carriers.specs.declared.Carrier.{Carrier}
 use Rattle.carriers.specs.Carriers.{numberOf, addressWidth, lifetimeWidth}
 use Rattle.addresses.specs.Addresses as addresses
-use Rattle.svcparams.specs.Params.{Param}
+use Rattle.svcparams.specs.Param.{Param}
 use Rattle.svcparams.specs.Entries.{entries}
 use Rattle.svcparams.specs.Key as key
 use Rattle.blocks.specs.Block.{Fields}

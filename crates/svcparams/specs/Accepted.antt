@@ -9,7 +9,7 @@ use lib.ListN.{length}
 use Rattle.octets.specs.Numbers.{be, numbersOf}
 use Rattle.octets.specs.Fields.{putCounted}
 use Rattle.svcparams.specs.Key as key
-use Rattle.svcparams.specs.Params.{Param, keys}
+use Rattle.svcparams.specs.Param.{Param, keys}
 
 -- ---- lists
 

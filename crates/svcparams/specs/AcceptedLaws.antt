@@ -13,7 +13,8 @@ use borrow.Author.Tests.{le-leb, eq-eqb, ne-eqb, eqb-true, eqb-false, leb-true, 
 use Rattle.octets.specs.Numbers.{Octet, Bytes, words, numbersOf}
 use Rattle.octets.specs.NumbersLaws.{words-small, length-numbers, words-numbers, numbers-words}
 use Rattle.svcparams.specs.Key as key
-use Rattle.svcparams.specs.Params.{Param, keys, rising, has, isHint, hasHint, allIn, mandatoryGood, stringsFrom, alpnGood, valueGood, allGood}
+use Rattle.svcparams.specs.Params.{rising, has, isHint, hasHint, allIn, mandatoryGood, stringsFrom, alpnGood, valueGood, allGood}
+use Rattle.svcparams.specs.Param.{Param, keys}
 use Rattle.svcparams.specs.ValueLaws.{strings-skip, strings-past, value-mandatory, value-alpn, value-no-default-alpn, value-port, value-other}
 use Rattle.octets.specs.Cases.{by-test}
 use Rattle.octets.specs.Lists.{All}

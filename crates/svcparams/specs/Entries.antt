@@ -2,7 +2,8 @@
 -- Where the field is tiled these are its parameters. Assumes nothing: these are definitions.
 use Prim.Native.Nat.{ℕ, zero, suc}
 use mathlib.Core.List.{List, [], _∷_}
-use Rattle.svcparams.specs.Params.{Param, sizeOf, first, keys}
+use Rattle.svcparams.specs.Params.{sizeOf, first}
+use Rattle.svcparams.specs.Param.{Param, keys}
 
 -- `s` begins with a parameter of so many octets; `go k` reads what follows the first octet of `s` and k more
 abbrev pub afterEntry : List ℕ → ℕ → (ℕ → List Param) → List Param

@@ -8,7 +8,8 @@ use Prim.Native.Nat.{ℕ}
 use native.Mathlib.Omega.{arith}
 use Rattle.octets.specs.Numbers.{Bytes}
 use Rattle.numbers.specs.Fault as fault
-use Rattle.svcparams.specs.Params.{Param, Tiled, bad, tiled, pairs, keys, ordered, hasHint, allGood, tiledFault, paramsFault}
+use Rattle.svcparams.specs.Params.{Tiled, bad, tiled, pairs, ordered, hasHint, allGood, tiledFault, paramsFault}
+use Rattle.svcparams.specs.Param.{Param, keys}
 use Rattle.octets.specs.Lists.{All}
 use Rattle.svcparams.specs.Accepted.{fieldOf, Fits, Ordered, Hinted, Allowed, Accepted}
 use Rattle.svcparams.specs.FieldLaws.{tiled-field, field-tiled}

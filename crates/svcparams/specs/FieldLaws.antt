@@ -10,7 +10,8 @@ use lib.Seq.{take-at, drop-at, length-take-le}
 use lib.Dec.{eqb}
 use borrow.Author.Tests.{eqb-true, eqb-false}
 use Rattle.octets.specs.Numbers.{at16, Octet, Bytes}
-use Rattle.svcparams.specs.Params.{Param, sizeOf, first, Tiled, bad, tiled, onto, pairs}
+use Rattle.svcparams.specs.Params.{sizeOf, first, Tiled, bad, tiled, onto, pairs}
+use Rattle.svcparams.specs.Param.{Param}
 use Rattle.svcparams.specs.TilingLaws.{bad-tiled, sized, size-fits, pairs-none, pairs-bad, pairs-cons}
 use Rattle.octets.specs.Cases.{by-test}
 use Rattle.octets.specs.Lists.{All}

@@ -9,3 +9,4 @@ pub mod FieldLaws
 pub mod AcceptedLaws
 pub mod VerdictLaws
 pub mod Exactly
+pub mod Param

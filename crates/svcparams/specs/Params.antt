@@ -9,12 +9,9 @@ use lib.Dec.{ltb, leb, eqb}
 use Rattle.octets.specs.Numbers.{at16, words}
 use Rattle.numbers.specs.Fault as fault
 use Rattle.svcparams.specs.Key as key
+use Rattle.svcparams.specs.Param.{Param, keys}
 
 -- ---- one parameter
-
-pub record Param : Type 0 where
-  pub key : ℕ
-  pub value : List ℕ
 
 -- how many octets the parameter that stands first has, its key and length among them; 0 if none stands there whole
 unfoldable pub sizeOf : List ℕ → ℕ
@@ -50,10 +47,6 @@ abbrev pub pairs : List ℕ → Tiled
 pairs p = pairsFrom 0 p
 
 -- ---- keys
-
-unfoldable pub keys : List Param → List ℕ
-keys [] = []
-keys (kv ∷ kvs) = kv .key ∷ keys kvs
 
 -- the first is at least `least`, and each is above the one before it
 unfoldable pub rising : ℕ → List ℕ → Bool

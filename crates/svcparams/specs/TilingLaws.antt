@@ -13,7 +13,8 @@ use borrow.Author.Tests.{lt-ltb, le-ltb, ltb-false, eqb-true, eqb-false}
 use Rattle.octets.specs.Cases.{by-test}
 use Rattle.octets.specs.Numbers.{at16}
 use Rattle.octets.specs.ListsLaws.{take-rest, skip-within, skip-any}
-use Rattle.svcparams.specs.Params.{Param, sizeOf, first, Tiled, bad, tiled, onto, after, pairsFrom, pairs}
+use Rattle.svcparams.specs.Params.{sizeOf, first, Tiled, bad, tiled, onto, after, pairsFrom, pairs}
+use Rattle.svcparams.specs.Param.{Param}
 use Rattle.svcparams.specs.Entries.{afterEntry, entriesFrom, entries}
 
 pub bad-tiled : {kvs : List Param} → bad ≡ tiled kvs → ⊥

@@ -7,7 +7,8 @@ use borrow.Author.Tests.{not-true}
 use Rattle.octets.specs.Numbers.{Bytes}
 use Rattle.numbers.specs.Fault as fault
 use Rattle.svcparams.specs.Key as key
-use Rattle.svcparams.specs.Params.{Param, Tiled, bad, tiled, pairs, keys, rising, has, ordered, hasHint, allGood, tiledFault, paramsFault}
+use Rattle.svcparams.specs.Params.{Tiled, bad, tiled, pairs, rising, has, ordered, hasHint, allGood, tiledFault, paramsFault}
+use Rattle.svcparams.specs.Param.{Param, keys}
 use Rattle.svcparams.specs.TilingLaws.{bad-tiled}
 use Rattle.octets.specs.Lists.{All}
 use Rattle.svcparams.specs.Accepted.{Ordered, Hinted, Allowed, Accepted}

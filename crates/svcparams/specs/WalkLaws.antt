@@ -10,7 +10,8 @@ use borrow.Author.Tests.{le-leb, lt-leb, eq-eqb, ne-eqb, not-true, not-false}
 use Rattle.octets.specs.Numbers.{at16}
 use Rattle.numbers.specs.Fault as fault
 use Rattle.svcparams.specs.Key as key
-use Rattle.svcparams.specs.Params.{Param, sizeOf, Tiled, bad, tiled, onto, pairs, keys, rising, has, ordered, hasHint, valueGood, allGood, tiledFault, paramsFault}
+use Rattle.svcparams.specs.Params.{sizeOf, Tiled, bad, tiled, onto, pairs, rising, has, ordered, hasHint, valueGood, allGood, tiledFault, paramsFault}
+use Rattle.svcparams.specs.Param.{Param, keys}
 use Rattle.svcparams.specs.Entries.{entries, keysIn}
 use Rattle.svcparams.specs.TilingLaws.{rest, valueAt, paramAt, pairs-none, entries-tiled, stop-pairs, stop-entries, next-room, next-pairs, next-entries}
 

@@ -1,18 +1,17 @@
 -- Vetting a sheet (01, Numbers given back: "Writing checks 2, 40, 41, 42, 4, 43, then 21 to 28 record by record, then 44, then 5"): the one place where a
 -- sheet's records are tested, up to 28; and what else the call returns of a sheet that passes, for 44 and 5. Assumes nothing: these are definitions.
 use mathlib.Core.Bool.{Bool, false, cond, _||_}
-use mathlib.Core.List.{List, [], _∷_, map}
+use mathlib.Core.List.{List, [], _∷_}
 use Prim.Native.Nat.{ℕ}
 use lib.Dec.{ltb, eqb}
 use lib.ListN.{length}
-use Rattle.octets.specs.Lists.{flat}
 use Rattle.numbers.specs.Limit as limit
 use Rattle.carriers.specs.declared.Carrier.{Carrier}
-use Rattle.carriers.specs.Carriers.{inEights, isJoined}
+use Rattle.carriers.specs.Carriers.{inEights}
 use Rattle.blocks.specs.Block.{Fields, optionSize}
 use Rattle.judge.specs.declared.Side.the-variants.{Writing}
 use Rattle.judge.specs.Judge.{faultOf}
-use Rattle.layouts.specs.Layouts.{ownOption, joinedOf}
+use Rattle.layouts.specs.Layouts.{streamOf}
 use Rattle.taking.specs.Taking.{Taken, takeOf}
 use Rattle.taking.specs.Taking as taking
 use Rattle.vetting.specs.declared.Vetted as returned
@@ -43,10 +42,6 @@ unfoldable pub vetOf : List ℕ → Vetted
 vetOf s = vetTaken (takeOf s)
 
 -- ---- what is measured with it
-
--- the records one after another, in sheet order: in carrier 1 the instances joined, else an option or attribute each
-abbrev pub streamOf : Carrier → List Fields → List ℕ
-streamOf c rs = cond (isJoined c) (joinedOf rs) (flat (map (ownOption c) rs))
 
 -- 44: a carrier 3 record above 2,040 octets when rounded; by the octets of an option, and of a record
 abbrev pub largeBy : Carrier → ℕ → Bool

@@ -35,7 +35,8 @@ use Rattle.taking.specs.Exactly.{taken-sheet, sheet-taken}
 use Rattle.vetting.specs.declared.Vetted as returned
 use Rattle.vetting.specs.declared.Vetted.the-variants.{Refused, Sheet}
 use Rattle.vetting.specs.declared.Weighed.{Weighed}
-use Rattle.vetting.specs.Vetting.{Vetted, refuse, sheet, firstFault, vetRecords, vetTaken, vetOf, streamOf, anyLarge, told}
+use Rattle.vetting.specs.Vetting.{Vetted, refuse, sheet, firstFault, vetRecords, vetTaken, vetOf, anyLarge, told}
+use Rattle.layouts.specs.Layouts.{streamOf}
 use Rattle.vetting.specs.Weighing.{recordsIn, recordsOf, TakenAs, most, Weighs}
 use Rattle.vetting.specs.WeighingLaws.{stream-small}
 

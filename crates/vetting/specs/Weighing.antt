@@ -13,14 +13,14 @@ use Rattle.blocks.specs.Block.{Fields, headWith, fieldsOf}
 use Rattle.judge.specs.declared.Side.the-variants.{Writing}
 use Rattle.judge.specs.declared.Judged.{Judged}
 use Rattle.judge.specs.Judge.{judgedOf, faultOf}
-use Rattle.layouts.specs.Layouts.{ownOption, instanceOf}
+use Rattle.layouts.specs.Layouts.{ownOption, instanceOf, streamOf}
 use Rattle.layouts.specs.Writable.{optionOctets, instanceOctets, mostAddresses, mostBody}
 use Rattle.taking.specs.declared.Spot.{Spot}
 use Rattle.taking.specs.Taking.{Taken, refuse, sheet, takeOf}
 use Rattle.taking.specs.Sheet.{FitsRecord}
 use Rattle.taking.specs.Standing.{Standing}
 use Rattle.vetting.specs.declared.Weighed.{Weighed}
-use Rattle.vetting.specs.Vetting.{streamOf, firstFault, large, anyLarge}
+use Rattle.vetting.specs.Vetting.{firstFault, large, anyLarge}
 
 -- ---- the records of a sheet
 

@@ -24,7 +24,7 @@ use Rattle.judge.specs.Judge.{faultOf}
 use Rattle.judge.specs.Passed.{Passed}
 use Rattle.judge.specs.JudgeLaws.{fault-passed, written-name}
 use Rattle.layouts.specs.Writable.{overhead, optionOctets, instanceOctets}
-use Rattle.layouts.specs.Layouts.{ownOption, instanceOf, joinedOf}
+use Rattle.layouts.specs.Layouts.{ownOption, instanceOf, joinedOf, streamOf}
 use Rattle.layouts.specs.LayoutsLaws.{header-small, own-length, instance-length, body-small}
 use Rattle.records.specs.Records.{headSize}
 use Rattle.sheets.specs.Sheets.{frontSize}
@@ -35,7 +35,7 @@ use Rattle.taking.specs.Standing.{Step}
 use Rattle.taking.specs.StandingLaws.{standing-none, standing-step, taken-standing}
 use Rattle.taking.specs.Exactly.{taken-sheet}
 use Rattle.vetting.specs.declared.Weighed.{Weighed}
-use Rattle.vetting.specs.Vetting.{streamOf, firstFault, large, anyLarge, largeBy}
+use Rattle.vetting.specs.Vetting.{firstFault, large, anyLarge, largeBy}
 use Rattle.vetting.specs.Weighing.{recordsOf, TakenAs, cutAt, judgedBy, shareOf, shareOctets, weightOf, Light, most, faultAlone, WeighsOne, Weighs, Weighing}
 
 -- ---- octets

@@ -11,7 +11,8 @@ use Rattle.carriers.specs.Carriers.{isJoined}
 use Rattle.blocks.specs.Block.{Fields}
 use Rattle.pieces.specs.Pieces.{cutOctets}
 use Rattle.taking.specs.Standing.{Standing}
-use Rattle.vetting.specs.Vetting.{Vetted, refuse, sheet, vetOf, streamOf, anyLarge}
+use Rattle.vetting.specs.Vetting.{Vetted, refuse, sheet, vetOf, anyLarge}
+use Rattle.layouts.specs.Layouts.{streamOf}
 use Rattle.written.specs.Accepted.{Sound, Accepted}
 
 -- ---- a vetted sheet

@@ -20,7 +20,7 @@ use Rattle.frames.specs.Walk.{Plain}
 use Rattle.frames.specs.WalkLaws.{false-apart}
 use Rattle.pieces.specs.Pieces.{cutOf, cutOctets}
 use Rattle.pieces.specs.PiecesLaws.{cut-length}
-use Rattle.layouts.specs.Layouts.{ownOption, instanceOf}
+use Rattle.layouts.specs.Layouts.{ownOption, instanceOf, streamOf}
 use Rattle.layouts.specs.Writable.{Writable}
 use Rattle.records.specs.Records.{headSize}
 use Rattle.sheets.specs.Sheets.{frontSize}
@@ -29,10 +29,9 @@ use Rattle.taking.specs.Spot.{spotOf, fieldsAt, Inside}
 use Rattle.taking.specs.Standing.{Step}
 use Rattle.taking.specs.StandingLaws.{standing-none, standing-step, taken-standing}
 use Rattle.taking.specs.Exactly.{sheet-taken}
-use Rattle.vetting.specs.Vetting.{streamOf}
 use Rattle.vetting.specs.Weighing.{cutAt, shareOf}
 use Rattle.vetting.specs.WeighingLaws.{stream-none, stream-one, step-fields, fields-cut}
-use Rattle.written.specs.Writing.{octetsOf}
+use Rattle.written.specs.Octets.{octetsOf}
 use Rattle.written.specs.Accepted.{Sound}
 use Rattle.written.specs.AcceptedLaws.{writable}
 use Rattle.writing.specs.Laying.{recordsOf, Ready, Laying, totalOf, Measured}

@@ -5,7 +5,7 @@ use mathlib.Core.List.{List}
 use Prim.Native.Nat.{ℕ}
 use lib.ListN.{length, drop}
 use Rattle.octets.specs.OverLaws.{over-past}
-use Rattle.written.specs.Writing.{Answer, refuse, written}
+use Rattle.written.specs.Octets.{Answer, refuse, written}
 use Rattle.writing.specs.declared.Writing.{Writing}
 use Rattle.writing.specs.Writes.{told, Writes}
 

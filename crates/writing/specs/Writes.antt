@@ -6,7 +6,7 @@ use mathlib.Core.List.{List}
 use Prim.Native.Nat.{ℕ}
 use lib.ListN.{length}
 use Rattle.octets.specs.Over.{over}
-use Rattle.written.specs.Writing.{Answer, refuse, written}
+use Rattle.written.specs.Octets.{Answer, refuse, written}
 use Rattle.writing.specs.declared.Writing.{Writing}
 
 -- both numbers

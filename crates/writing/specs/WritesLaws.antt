@@ -17,7 +17,8 @@ use Rattle.vetting.specs.Vetting.{Vetted, vetOf, anyLarge}
 use Rattle.vetting.specs.Vetting as vetting
 use Rattle.vetting.specs.Weighing.{most}
 use Rattle.vetting.specs.VettingLaws.{told-refused, told-sheet, vetted-small}
-use Rattle.written.specs.Writing.{octetsOf, Answer, refuse, written, writeRecords, writeVetted, writeOf, numberIn}
+use Rattle.written.specs.Writing.{writeRecords, writeVetted, writeOf}
+use Rattle.written.specs.Octets.{octetsOf, Answer, refuse, written, numberIn}
 use Rattle.written.specs.AcceptedLaws.{vetted-accepted}
 use Rattle.writing.specs.declared.Writing.{Writing}
 use Rattle.writing.specs.Writes.{told, left, Writes}

@@ -1,12 +1,9 @@
 -- Which sheets writing accepts (01, Evidence on delivery: "a sheet is accepted when writing answers 0 or 5"), said of their records in terms that do
 -- not compute; the law `accepted-exactly` says that it is these. And which octets are defined for a sheet. Assumes nothing: these are definitions.
 use mathlib.Core.Path.{_≡_}
-use mathlib.Core.Logic.{_⊎_}
 use mathlib.Core.List.{List}
-use Prim.Native.Nat.{ℕ, _≤_, _<_}
-use lib.ListN.{length}
+use Prim.Native.Nat.{ℕ, _≤_}
 use Rattle.octets.specs.Lists.{All}
-use Rattle.numbers.specs.Refusal as refusal
 use Rattle.numbers.specs.Limit as limit
 use Rattle.carriers.specs.declared.Carrier.{Carrier}
 use Rattle.carriers.specs.declared.Carrier.the-variants.{Router}
@@ -14,7 +11,6 @@ use Rattle.blocks.specs.Block.{Fields, optionSize}
 use Rattle.judge.specs.declared.Side.the-variants.{Writing}
 use Rattle.judge.specs.Allowed.{Allowed}
 use Rattle.taking.specs.Sheet.{FitsRecord, IsSheet}
-use Rattle.written.specs.Writing.{refuse, written, writeOf}
 
 -- a record that writing accepts: it has room in a sheet, the RFCs and the limits allow it with no address to be dropped, and in carrier 3 its
 -- option has at most 2,040 octets (44)
@@ -29,12 +25,3 @@ pub record Accepted (s : List ℕ) (c : Carrier) (rs : List Fields) : Type 0 whe
   pub sound : All (Sound c) rs
 
 -- ---- by what writing answers
-
--- 0 or 5
-abbrev pub Accepting : ℕ → Type 0
-Accepting k = (k ≡ 0) ⊎ (k ≡ refusal.room)
-
--- the octets defined for a sheet: writing gives them wherever they have room, and answers 5 where they have none
-pub record Defined (s octets : List ℕ) : Type 0 where
-  pub enough : (room : ℕ) → length octets ≤ room → writeOf s room ≡ written octets
-  pub little : (room : ℕ) → room < length octets → writeOf s room ≡ refuse refusal.room

@@ -31,8 +31,10 @@ use Rattle.taking.specs.Exactly.{sheet-taken, sheet-once}
 use Rattle.vetting.specs.Vetting.{Vetted, large, anyLarge, vetOf}
 use Rattle.vetting.specs.Vetting as vetting
 use Rattle.vetting.specs.VettingLaws.{allowed-faultless, taken-vetted, vet-exactly, vetted-by}
-use Rattle.written.specs.Writing.{octetsOf, refuse, written, writeVetted, writeOf, numberIn}
-use Rattle.written.specs.Accepted.{Sound, Accepted, Accepting}
+use Rattle.written.specs.Writing.{writeVetted, writeOf}
+use Rattle.written.specs.Octets.{octetsOf, refuse, written, numberIn}
+use Rattle.written.specs.Accepted.{Sound, Accepted}
+use Rattle.written.specs.Defined.{Accepting}
 
 -- ---- an accepted record has room in its carrier
 

@@ -15,7 +15,7 @@ use Rattle.judge.specs.declared.Side.the-variants.{Writing}
 use Rattle.judge.specs.Allowed.{Allowed, FirstBroken}
 use Rattle.sheets.specs.Sheets.{letters, frontSize}
 use Rattle.taking.specs.Sheet.{IsHead, IsSheet}
-use Rattle.written.specs.Writing.{octetsOf, Answer, refuse, written}
+use Rattle.written.specs.Octets.{octetsOf, Answer, refuse, written}
 use Rattle.written.specs.Accepted.{Accepted}
 
 -- s has the octets of a head at least, and begins with the letters RSV

@@ -4,3 +4,5 @@ pub mod AcceptedLaws
 pub mod DefinedLaws
 pub mod RoomLaws
 pub mod Answers
+pub mod Octets
+pub mod Defined

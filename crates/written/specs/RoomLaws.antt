@@ -12,7 +12,8 @@ use Rattle.carriers.specs.declared.Carrier.{Carrier}
 use Rattle.blocks.specs.Block.{Fields}
 use Rattle.vetting.specs.Vetting.{Vetted, anyLarge, vetOf}
 use Rattle.vetting.specs.Vetting as vetting
-use Rattle.written.specs.Writing.{octetsOf, Answer, refuse, written, writeRecords, writeVetted, writeOf}
+use Rattle.written.specs.Writing.{writeRecords, writeVetted, writeOf}
+use Rattle.written.specs.Octets.{octetsOf, Answer, refuse, written}
 
 -- what a writing that is done with octets in one room answers in another
 abbrev pub inRoom : List ℕ → ℕ → Answer

@@ -7,20 +7,10 @@ use lib.Dec.{ltb}
 use lib.ListN.{length}
 use Rattle.numbers.specs.Refusal as refusal
 use Rattle.carriers.specs.declared.Carrier.{Carrier}
-use Rattle.carriers.specs.Carriers.{isJoined}
 use Rattle.blocks.specs.Block.{Fields}
-use Rattle.pieces.specs.Pieces.{cutOf}
-use Rattle.vetting.specs.Vetting.{Vetted, streamOf, anyLarge, vetOf}
+use Rattle.vetting.specs.Vetting.{Vetted, anyLarge, vetOf}
 use Rattle.vetting.specs.Vetting as vetting
-
--- the one set of octets defined: the records one after another, in carrier 1 cut into options
-unfoldable pub octetsOf : Carrier → List Fields → List ℕ
-octetsOf c rs = cond (isJoined c) (cutOf (streamOf c rs)) (streamOf c rs)
-
--- a refusal's number, or the octets
-pub data Answer : Type 0 where
-  refuse : ℕ → Answer
-  written : List ℕ → Answer
+use Rattle.written.specs.Octets.{Answer, octetsOf, refuse, written}
 
 -- 44, then 5
 abbrev pub writeRecords : Carrier → List Fields → ℕ → Answer
@@ -37,8 +27,3 @@ writeVetted (vetting.sheet c rs) room = writeRecords c rs room
 -- writing a sheet to an output buffer of `room` octets
 unfoldable pub writeOf : List ℕ → ℕ → Answer
 writeOf s room = writeVetted (vetOf s) room
-
--- the number in an answer
-abbrev pub numberIn : Answer → ℕ
-numberIn (refuse k) = k
-numberIn (written bs) = 0

@@ -3,7 +3,7 @@ use mathlib.Core.Path.{refl, sym}
 use native.Mathlib.Omega.{arith}
 use borrow.Author.Needs.{needs}
 use Rattle.carriers.specs.CarriersLaws.{length-width}
-use Rattle.blocks.specs.Block.{afterName}
+use Rattle.blocks.specs.Parse.{afterName}
 use Rattle.blocks.specs.PlacesLaws.{fixed-cut, name-cut, named-opens, named-alone, named-followed, no-lifetime, alone-ranged}
 use Rattle.blocks.proofs.named.Statement.{statement}
 use Rattle.blocks.proofs.named.Tie as tie

@@ -4,7 +4,7 @@ use native.Mathlib.Omega.{arith}
 use borrow.Author.Needs.{needs}
 use Rattle.octets.specs.NumbersLaws.{number-16}
 use Rattle.carriers.specs.declared.Carrier.the-variants.{Router}
-use Rattle.blocks.specs.Block.{afterNamePadded}
+use Rattle.blocks.specs.Parse.{afterNamePadded}
 use Rattle.blocks.specs.PlacesLaws.{fixed-cut, name-cut, router-opens, router-alone, router-unpadded, router-followed, router-numbers, alone-ranged}
 use Rattle.blocks.proofs.router.Statement.{statement}
 use Rattle.blocks.proofs.router.Tie as tie

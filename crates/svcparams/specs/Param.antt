@@ -1,0 +1,12 @@
+-- A service parameter, and the keys of several (RULES P1). Assumes nothing: these are definitions.
+use Prim.Native.Nat.{ℕ}
+use mathlib.Core.List.{List, [], _∷_}
+use Rattle.svcparams.specs.Key as key
+
+pub record Param : Type 0 where
+  pub key : ℕ
+  pub value : List ℕ
+
+unfoldable pub keys : List Param → List ℕ
+keys [] = []
+keys (kv ∷ kvs) = kv .key ∷ keys kvs
