@@ -7,7 +7,7 @@ mod help;
 ghost use Rattle.vetting.specs.Vetting.{vetOf};
 ghost use Rattle.vetting.specs.Vetting as vetting;
 ghost use Rattle.files.specs.Status.{Delivered, Exited, Answers};
-ghost use Rattle.command.specs.Numbers.{readNumber, writeNumber, Shows};
+ghost use Rattle.command.specs.Numbers.{readNumber, writeNumber, Shows, Performs, plainOf, inputOf, Takes};
 use arguments::Asked;
 use arguments::Command;
 use files::input;
@@ -110,7 +110,7 @@ fn show(a: Asked, name: &[u8], sheet: &[u8], text: &mut [u8]) -> i32
 
 // Does what is asked with the octets that were given.
 fn perform(a: Asked, name: &[u8], s: &[u8]) -> i32
-    ensures { λ r. ⌜ Exited r ⌝ }
+    ensures { λ r. ⌜ Performs a (now (s .entry)) r ⌝ }
 {
     let mut text = [0u8; TEXT];
     perform_in(a, name, s, &mut text)
@@ -118,7 +118,7 @@ fn perform(a: Asked, name: &[u8], s: &[u8]) -> i32
 
 // The same with room for the text. Where a long array is lent as an array, no proof computes its length.
 fn perform_in(a: Asked, name: &[u8], s: &[u8], text: &mut [u8; TEXT]) -> i32
-    ensures { λ r. ⌜ Exited r ⌝ }
+    ensures { λ r. ⌜ Performs a (now (s .entry)) r ⌝ }
 {
     if a.command == Command::READ {
         return read(a, name, s, text);
@@ -131,7 +131,7 @@ fn perform_in(a: Asked, name: &[u8], s: &[u8], text: &mut [u8; TEXT]) -> i32
 
 // Takes the input as octets, or as hexadecimal text that has nothing in it.
 fn perform_plain(a: Asked, name: &[u8], text: &[u8]) -> i32
-    ensures { λ r. ⌜ Exited r ⌝ }
+    ensures { λ r. ⌜ Takes a (plainOf (a .hex) (now (text .entry))) r ⌝ }
 {
     if lines::is_blank(text) {
         return perform(a, name, &text[..0]);
@@ -144,7 +144,7 @@ fn perform_plain(a: Asked, name: &[u8], text: &[u8]) -> i32
 
 // Takes the input as hexadecimal text where it is such, unless it is to be taken as it is.
 fn perform_on(a: Asked, name: &[u8], text: &[u8]) -> i32
-    ensures { λ r. ⌜ Exited r ⌝ }
+    ensures { λ r. ⌜ Takes a (inputOf a (now (text .entry))) r ⌝ }
 {
     if a.raw {
         return perform(a, name, text);

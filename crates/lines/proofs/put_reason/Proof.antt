@@ -12,7 +12,8 @@ returns c =
     let c = d .before .before .before .before .before in
     let b = c .before .before .before .before in
     let a = b .before .before .before .before .before in
-    (d .put-all2 .ensures .0, puts-then (a .put-number .ensures .1) (puts-then (b .put-all .ensures .1) (puts-then (c .put-words .ensures) (d .put-all2 .ensures .1))))
+    let whole = puts-then (a .put-number .ensures .1) (puts-then (b .put-all .ensures .1) (puts-then (c .put-words .ensures) (d .put-all2 .ensures .1))) in
+    (d .put-all2 .ensures .0, whole)
 
 pub put-reason-spec : {M : Type 1} → statement M
 put-reason-spec =

@@ -11,7 +11,8 @@ returns c =
     let d = c .before .before in
     let b = d .before .before .before .before in
     let a = b .before .before .before .before .before in
-    (d .put-reason .ensures .0, puts-then (a .put-about .ensures .1) (puts-then (b .put-all .ensures .1) (d .put-reason .ensures .1)))
+    let whole = puts-then (a .put-about .ensures .1) (puts-then (b .put-all .ensures .1) (d .put-reason .ensures .1)) in
+    (d .put-reason .ensures .0, whole)
 
 pub put-refused-spec : {M : Type 1} → statement M
 put-refused-spec =

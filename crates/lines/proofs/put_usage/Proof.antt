@@ -12,7 +12,8 @@ returns c =
     let c = d .before .before .before .before .before in
     let b = c .before .before .before .before in
     let a = b .before .before .before .before in
-    (d .put-all2 .ensures .0, puts-then (a .put-all .ensures .1) (puts-then (b .put-text .ensures) (puts-then (c .put-culprit .ensures) (d .put-all2 .ensures .1))))
+    let whole = puts-then (a .put-all .ensures .1) (puts-then (b .put-text .ensures) (puts-then (c .put-culprit .ensures) (d .put-all2 .ensures .1))) in
+    (d .put-all2 .ensures .0, whole)
 
 pub put-usage-spec : {M : Type 1} → statement M
 put-usage-spec =

@@ -12,7 +12,8 @@ returns c =
     let c = d .before .before .before .before in
     let b = c .before .before .before .before .before in
     let a = b .before .before .before .before .before in
-    (d .put-reason .ensures .0, puts-then (a .put-count .ensures) (puts-then (b .put-count2 .ensures) (puts-then (c .put-all .ensures .1) (d .put-reason .ensures .1))))
+    let whole = puts-then (a .put-count .ensures) (puts-then (b .put-count2 .ensures) (puts-then (c .put-all .ensures .1) (d .put-reason .ensures .1))) in
+    (d .put-reason .ensures .0, whole)
 
 pub put-warning-spec : {M : Type 1} → statement M
 put-warning-spec =

@@ -12,7 +12,8 @@ returns c =
     let s = u .before .before .before .before .before in
     let q = s .before .before .before .before in
     let p = q .before .before .before .before .before in
-    (u .put-all2 .ensures .0, puts-then (p .put-numbers .ensures) (puts-then (q .put-all .ensures .1) (puts-then (s .put-sheet .ensures) (u .put-all2 .ensures .1))))
+    let whole = puts-then (p .put-numbers .ensures) (puts-then (q .put-all .ensures .1) (puts-then (s .put-sheet .ensures) (u .put-all2 .ensures .1))) in
+    (u .put-all2 .ensures .0, whole)
 
 pub put-json-spec : {M : Type 1} → statement M
 put-json-spec =

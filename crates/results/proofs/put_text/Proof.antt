@@ -12,7 +12,8 @@ returns c =
     let s = u .before .before .before .before .before in
     let q = s .before .before .before .before .before in
     let p = q .before .before .before .before .before in
-    (u .put-all .ensures .0, puts-then (p .put-sheet .ensures) (puts-then (q .put-count .ensures) (puts-then (s .put-count2 .ensures) (u .put-all .ensures .1))))
+    let whole = puts-then (p .put-sheet .ensures) (puts-then (q .put-count .ensures) (puts-then (s .put-count2 .ensures) (u .put-all .ensures .1))) in
+    (u .put-all .ensures .0, whole)
 
 pub put-text-spec : {M : Type 1} → statement M
 put-text-spec =

@@ -51,7 +51,11 @@ returns-5 c =
     let t3 = t4 .before in
     let t2 = t3 .before in
     let t1 = t2 .before in
-    simp (ne-eqb _ _ (t1 .if1 .left), ne-eqb _ _ (t2 .if2 .left), ne-eqb _ _ (t3 .if3 .left), ne-eqb _ _ (t4 .if4 .left), eq-eqb _ _ (t5 .if5 .taken)) (puts-as (ap numberText (p .before .params-fault .ensures)) (p .put-decimal .ensures))
+    let e1 = ne-eqb _ _ (t1 .if1 .left) in
+    let e2 = ne-eqb _ _ (t2 .if2 .left) in
+    let e3 = ne-eqb _ _ (t3 .if3 .left) in
+    simp (e1, e2, e3, ne-eqb _ _ (t4 .if4 .left), eq-eqb _ _ (t5 .if5 .taken))
+    (puts-as (ap numberText (p .before .params-fault .ensures)) (p .put-decimal .ensures))
 
 returns-6 : tie.Need-returns-6
 unfolding answerText
@@ -62,7 +66,10 @@ returns-6 c =
     let t3 = t4 .before in
     let t2 = t3 .before in
     let t1 = t2 .before in
-    simp (ne-eqb _ _ (t1 .if1 .left), ne-eqb _ _ (t2 .if2 .left), ne-eqb _ _ (t3 .if3 .left), ne-eqb _ _ (t4 .if4 .left), ne-eqb _ _ (t5 .if5 .left)) (p .put-all .ensures .1)
+    let e1 = ne-eqb _ _ (t1 .if1 .left) in
+    let e2 = ne-eqb _ _ (t2 .if2 .left) in
+    let e3 = ne-eqb _ _ (t3 .if3 .left) in
+    simp (e1, e2, e3, ne-eqb _ _ (t4 .if4 .left), ne-eqb _ _ (t5 .if5 .left)) (p .put-all .ensures .1)
 
 answer-addresses-requires : tie.Need-answer-addresses-requires
 answer-addresses-requires c κs = search (needs, four)
