@@ -5,9 +5,9 @@
 // discarded and the fault; of a writing the number and the length), the octets that it wrote, in hexadecimal or `-` for none, and `kept` or
 // `changed`, whether the rest of its buffer is as before. Where no whole case stands the line is `?`, the last one. At most 1,048,576 octets
 // are read.
-use chars::least;
 use libc::STDIN_FILENO;
 use libc::STDOUT_FILENO;
+use octets::lesser;
 use octets::wide;
 use reading::Reading;
 use writing::Writing;
@@ -82,7 +82,7 @@ fn print_part(s: &[u8]) {
 fn print_octets(s: &[u8]) {
     let mut i = 0;
     while i < s.len() {
-        let end = i + least(s.len() - i, PART);
+        let end = i + lesser(s.len() - i, PART);
         print_part(&s[i..end]);
         i = end;
     }
@@ -179,7 +179,7 @@ fn read_case(s: &[u8], at: usize, out: &mut [u8]) -> End
     let End::At(end) = end_of(s, sizes) else {
         return End::Nowhere;
     };
-    let room = least(octets::get32(s, sizes), out.len());
+    let room = lesser(octets::get32(s, sizes), out.len());
     let start = sizes + SIZES;
     run_read(s[at], &s[start..end], &mut out[..room]);
     End::At(end)
@@ -194,7 +194,7 @@ fn write_case(s: &[u8], at: usize, out: &mut [u8]) -> End
     let End::At(end) = end_of(s, at) else {
         return End::Nowhere;
     };
-    let room = least(octets::get32(s, at), out.len());
+    let room = lesser(octets::get32(s, at), out.len());
     let start = at + SIZES;
     run_write(&s[start..end], &mut out[..room]);
     End::At(end)

@@ -5,7 +5,7 @@ use mathlib.Core.List.{[], _∷_, map}
 use Prim.Native.Nat.{ℕ, _<_}
 use lib.ListN.{length, getD}
 use Rattle.octets.specs.Numbers.{allZero, numberAt}
-use Rattle.octets.specs.Lists.{All}
+use Rattle.octets.specs.Lists.{All, same}
 use Rattle.octets.specs.ListsLaws.{all-at}
 use Rattle.octets.specs.Fields.{part, number, counted}
 use Rattle.octets.specs.Over.{over}
@@ -26,7 +26,7 @@ use Rattle.records.specs.Records.{recordOf}
 use Rattle.records.specs.Yielded.{outcomeOf}
 use Rattle.sheets.specs.Sheets.{frontOf, sheetOf}
 use Rattle.reading.specs.Reading.{instancesFrom, joinedYield, readOf}
-use Rattle.taking.specs.Taking.{same, headOf, recordsFrom, takeOf}
+use Rattle.taking.specs.Taking.{headOf, recordsFrom, takeOf}
 use Rattle.pieces.specs.Pieces.{pieces, cutOf}
 use Rattle.vetting.specs.Vetting.{firstFault, vetOf, anyLarge}
 use Rattle.written.specs.Writing.{writeOf}

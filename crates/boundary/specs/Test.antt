@@ -5,7 +5,7 @@ use Prim.Native.Nat.{ℕ}
 use lib.Dec.{eqb}
 use lib.ListN.{length, take, drop}
 use Rattle.octets.specs.Numbers.{numberAt}
-use Rattle.octets.specs.Lists.{flat}
+use Rattle.octets.specs.Lists.{flat, same}
 use Rattle.octets.specs.Over.{over}
 use Rattle.numbers.specs.Refusal as refusal
 use Rattle.carriers.specs.Carriers.{chosenOf, numberOf}
@@ -13,7 +13,7 @@ use Rattle.blocks.specs.Block.{Fields}
 use Rattle.reading.specs.Reading.{readOf}
 use Rattle.reading.specs.Result.{Done, done}
 use Rattle.reading.specs.Result as reading
-use Rattle.taking.specs.Taking.{same, Taken, takeOf}
+use Rattle.taking.specs.Taking.{Taken, takeOf}
 use Rattle.taking.specs.Taking as taking
 use Rattle.written.specs.Writing.{writeOf}
 use Rattle.written.specs.Octets.{written}

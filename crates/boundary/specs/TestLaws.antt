@@ -7,7 +7,7 @@ use native.Mathlib.Omega.{arith}
 use borrow.Author.Tests.{eqb-true, not-true, lt-ltb, le-ltb}
 use lib.Dec.{ltb}
 use lib.ListN.{length, take, drop}
-use Rattle.octets.specs.Lists.{All}
+use Rattle.octets.specs.Lists.{All, same}
 use Rattle.octets.specs.Over.{over}
 use Rattle.numbers.specs.Refusal as refusal
 use Rattle.carriers.specs.declared.Carrier.{Carrier}
@@ -18,7 +18,7 @@ use Rattle.blocks.specs.Block.{Fields, headWith, fieldsOf}
 use Rattle.reading.specs.Reading.{readOf}
 use Rattle.reading.specs.Result.{Done, done}
 use Rattle.reading.specs.Result as reading
-use Rattle.taking.specs.Taking.{same, Taken}
+use Rattle.taking.specs.Taking.{Taken}
 use Rattle.taking.specs.Taking as taking
 use Rattle.octets.specs.SameLaws.{same-true, same-self}
 use Rattle.written.specs.Writing.{writeOf}

@@ -2,7 +2,6 @@
 // then is the buffer's end (`Puts`). Nothing here knows what the text is of.
 ghost use mathlib.Core.Path.{_≡_};
 ghost use mathlib.Core.List.{[], _∷_};
-ghost use Prim.Native.Nat.{min};
 ghost use Rattle.io.specs.Counts.{Counts};
 ghost use Rattle.chars.specs.Puts.{Puts};
 ghost use Rattle.chars.specs.Ascii.{decimalOf};
@@ -19,19 +18,12 @@ pub fn put(out: &mut [u8], at: usize, b: u8) -> usize
     out.len()
 }
 
-// The smaller of two numbers: of an index and a buffer's length, where writing begins.
-pub fn least(a: usize, b: usize) -> usize
-    ensures { λ r. ⌜ r ≡ min a b ⌝ }
-{
-    if a < b { a } else { b }
-}
-
 // Writes the octets of s.
 pub fn put_all(out: &mut [u8], at: usize, s: &[u8]) -> usize
     ensures { λ r. ⌜ Counts r (now (out .exit)) ⌝ }
     ensures { λ r. ⌜ Puts at (now (s .entry)) (now (out .entry)) r (now (out .exit)) ⌝ }
 {
-    let mut o = least(at, out.len());
+    let mut o = octets::lesser(at, out.len());
     let mut i = 0;
     while i < s.len() {
         o = put(out, o, s[i]);

@@ -13,8 +13,8 @@ ghost use Rattle.chars.specs.Puts.{Puts};
 ghost use Rattle.hexes.specs.Hexes as hexes;
 ghost use Rattle.hexes.specs.Hexes.{readHex, digitOf, two, hexOf};
 ghost use Rattle.hexes.specs.Decoding.{Decoded, octetsIn, sizeIn};
-use chars::least;
 use chars::put;
+use octets::lesser;
 
 pub enum Hex {
     // How many octets stand at the front of the buffer.
@@ -168,7 +168,7 @@ pub fn put_octets(out: &mut [u8], at: usize, s: &[u8]) -> usize
     ensures { λ r. ⌜ Counts r (now (out .exit)) ⌝ }
     ensures { λ r. ⌜ Puts at (hexOf (now (s .entry))) (now (out .entry)) r (now (out .exit)) ⌝ }
 {
-    let mut o = least(at, out.len());
+    let mut o = lesser(at, out.len());
     let mut i = 0;
     while i < s.len() {
         o = put_octet(out, o, s[i]);

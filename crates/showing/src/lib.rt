@@ -13,10 +13,10 @@ ghost use Rattle.chars.specs.Puts.{Puts};
 ghost use Rattle.values.specs.Values.{beforeOf, listOf, longestName};
 ghost use Rattle.showing.specs.Showing.{valueBy, parameterOf, parametersOf, addressItem, addressesOf, lifetimeOf, commonOf, listsOf, restOf, recordOf, countOf, lineOf, objectOf, headOf, shownOf};
 use carriers::Carrier;
-use chars::least;
 use chars::put_all;
 use chars::put_number;
 use octets::get16;
+use octets::lesser;
 use svcparams::Key;
 use taking::Spot;
 use taking::Took;
@@ -72,7 +72,7 @@ fn put_parameter(out: &mut [u8], at: usize, json: bool, first: bool, key: usize,
 fn put_parameters(out: &mut [u8], at: usize, json: bool, p: &[u8]) -> usize
     ensures { λ r. ⌜ Puts at (parametersOf json (now (p .entry))) (now (out .entry)) r (now (out .exit)) ⌝ }
 {
-    let mut o = least(at, out.len());
+    let mut o = lesser(at, out.len());
     let mut i = 0;
     while 4 <= p.len() - i {
         let s = &p[i..];
@@ -103,7 +103,7 @@ fn put_addresses(out: &mut [u8], at: usize, json: bool, c: Carrier, list: &[u8])
     ensures { λ r. ⌜ Puts at (addressesOf json c (now (list .entry))) (now (out .entry)) r (now (out .exit)) ⌝ }
 {
     let w = c.address_width();
-    let mut o = least(at, out.len());
+    let mut o = lesser(at, out.len());
     let mut i = 0;
     while w <= list.len() - i {
         let next = i + w;
@@ -118,7 +118,7 @@ fn put_lifetime(out: &mut [u8], at: usize, json: bool, c: Carrier, lifetime: usi
     ensures { λ r. ⌜ Puts at (lifetimeOf json c lifetime) (now (out .entry)) r (now (out .exit)) ⌝ }
 {
     if c.lifetime_width() == 0 {
-        return least(at, out.len());
+        return lesser(at, out.len());
     }
     let from = put_either(out, at, json, b",\"lifetime\":", b"\n    lifetime        ");
     put_span(out, from, json, lifetime)
@@ -251,7 +251,7 @@ fn put_head(out: &mut [u8], at: usize, json: bool, c: Carrier, count: usize) -> 
 fn put_records(out: &mut [u8], at: usize, json: bool, c: Carrier, s: &[u8]) -> usize
     ensures { λ r. ⌜ ((rs : List Fields) → Standing c (now (s .entry)) frontSize rs → Puts at (listOf json (map (recordOf json c) rs)) (now (out .entry)) r (now (out .exit))) ⌝ }
 {
-    let mut o = least(at, out.len());
+    let mut o = lesser(at, out.len());
     let mut i = sheets::FRONT;
     while i < s.len() {
         let p = taking::record_at(c, s, i);
@@ -269,7 +269,7 @@ pub fn put_sheet(out: &mut [u8], at: usize, s: &[u8], json: bool) -> usize
     ensures { λ r. ⌜ Puts at (shownOf json (now (s .entry))) (now (out .entry)) r (now (out .exit)) ⌝ }
 {
     match taking::take(s) {
-        Took::Refused(_) => least(at, out.len()),
+        Took::Refused(_) => lesser(at, out.len()),
         Took::Sheet { carrier, count } => {
             let from = put_head(out, at, json, carrier, count);
             let end = put_records(out, from, json, carrier, s);

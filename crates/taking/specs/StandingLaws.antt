@@ -16,7 +16,8 @@ use Rattle.records.specs.Records.{headSize}
 use Rattle.sheets.specs.Sheets.{frontSize, countAt}
 use Rattle.taking.specs.declared.Spot.{Spot}
 use Rattle.taking.specs.declared.Took.the-variants.{Refused, Sheet}
-use Rattle.taking.specs.Taking.{Records, records, onto, recordsFrom, Taken, refuse, sheet, takeOf, same}
+use Rattle.octets.specs.Lists.{same}
+use Rattle.taking.specs.Taking.{Records, records, onto, recordsFrom, Taken, refuse, sheet, takeOf}
 use Rattle.taking.specs.Taking as taking
 use Rattle.taking.specs.Took.{tookOf}
 use Rattle.taking.specs.Spot.{spotOf, fieldsAt}

@@ -19,7 +19,8 @@ use Rattle.carriers.specs.declared.Chosen.the-variants.{Known, Unknown}
 use Rattle.carriers.specs.Carriers.{chosenOf}
 use Rattle.blocks.specs.Block.{Fields}
 use Rattle.sheets.specs.Sheets.{letters, edition, frontSize, versionAt, carrierAt, countAt}
-use Rattle.taking.specs.Taking.{same, Headed, refuse, head, headOf, Records, none, records, recordsFrom, Taken, sheet, takeFound, takeRecords, takeCarrier, takeHeaded, takeOf}
+use Rattle.octets.specs.Lists.{same}
+use Rattle.taking.specs.Taking.{Headed, refuse, head, headOf, Records, none, records, recordsFrom, Taken, sheet, takeFound, takeRecords, takeCarrier, takeHeaded, takeOf}
 
 -- ---- the head
 

@@ -5,7 +5,7 @@ use mathlib.Core.List.{List, [], _∷_}
 use Prim.Native.Nat.{ℕ, zero, suc, _*_}
 use lib.Dec.{ltb, eqb}
 use lib.ListN.{length, getD, take, drop}
-unfoldable pub use Rattle.octets.specs.Lists.{same}
+use Rattle.octets.specs.Lists.{same}
 use Rattle.octets.specs.Numbers.{at16}
 use Rattle.octets.specs.Fields.{part, number, counted}
 use Rattle.numbers.specs.Refusal as refusal

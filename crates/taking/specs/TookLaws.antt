@@ -18,7 +18,8 @@ use Rattle.sheets.specs.Sheets.{letters, edition, frontSize, versionAt, carrier
 use Rattle.taking.specs.declared.Said.the-variants.{Unfit, Head}
 use Rattle.taking.specs.declared.Took.{Took}
 use Rattle.taking.specs.declared.Took.the-variants.{Refused, Sheet}
-use Rattle.taking.specs.Taking.{same, Headed, refuse, head, headOf, misplaced, Records, none, records, recordsFrom, takeFound, takeRecords, takeCarrier, takeOf}
+use Rattle.octets.specs.Lists.{same}
+use Rattle.taking.specs.Taking.{Headed, refuse, head, headOf, misplaced, Records, none, records, recordsFrom, takeFound, takeRecords, takeCarrier, takeOf}
 use Rattle.taking.specs.Took.{saidOf, tookOf, some}
 use Rattle.taking.specs.TakenLaws.{headed-front}
 use Rattle.taking.specs.StandingLaws.{Found, found}

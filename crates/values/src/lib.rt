@@ -8,11 +8,11 @@ ghost use lib.ListN.{length};
 ghost use Rattle.chars.specs.Puts.{Puts};
 ghost use Rattle.values.specs.Values.{codeOf, escapedOf, valueOf, quoted, bracketed, beforeOf, keyOf, gapOf, labelOf, keysOf, protocolsOf, carrierOf, longestName, nameOf, spanOf, addressOf};
 use carriers::Carrier;
-use chars::least;
 use chars::put;
 use chars::put_all;
 use chars::put_number;
 use octets::get16;
+use octets::lesser;
 use octets::wide;
 use svcparams::Key;
 
@@ -42,7 +42,7 @@ pub fn put_json(out: &mut [u8], at: usize, json: bool, a: &[u8]) -> usize
     if json {
         return put_all(out, at, a);
     }
-    least(at, out.len())
+    lesser(at, out.len())
 }
 
 // Writes the octet `b` in JSON, and else nothing.
@@ -52,7 +52,7 @@ pub fn put_mark(out: &mut [u8], at: usize, json: bool, b: u8) -> usize
     if json {
         return put(out, at, b);
     }
-    least(at, out.len())
+    lesser(at, out.len())
 }
 
 // ---- octets of a value
@@ -93,7 +93,7 @@ fn put_escaped(out: &mut [u8], at: usize, json: bool, b: u8) -> usize
 fn put_value(out: &mut [u8], at: usize, json: bool, s: &[u8]) -> usize
     ensures { λ r. ⌜ Puts at (valueOf json (now (s .entry))) (now (out .entry)) r (now (out .exit)) ⌝ }
 {
-    let mut o = least(at, out.len());
+    let mut o = lesser(at, out.len());
     let mut i = 0;
     while i < s.len() {
         o = put_escaped(out, o, json, s[i]);
@@ -118,7 +118,7 @@ pub fn put_comma(out: &mut [u8], at: usize, commas: bool, first: bool) -> usize
     ensures { λ r. ⌜ Puts at (beforeOf commas first) (now (out .entry)) r (now (out .exit)) ⌝ }
 {
     if first {
-        return least(at, out.len());
+        return lesser(at, out.len());
     }
     put_mark(out, at, commas, b',')
 }
@@ -152,7 +152,7 @@ fn put_gap(out: &mut [u8], at: usize, key: usize, size: usize) -> usize
     ensures { λ r. ⌜ Puts at (gapOf key size) (now (out .entry)) r (now (out .exit)) ⌝ }
 {
     if size == 0 {
-        return least(at, out.len());
+        return lesser(at, out.len());
     }
     let mut label = [0u8; COLUMNS - 1];
     let n = put_key(&mut label, 0, key);
@@ -191,7 +191,7 @@ fn put_key_item(out: &mut [u8], at: usize, json: bool, first: bool, key: usize) 
 fn put_key_items(out: &mut [u8], at: usize, json: bool, s: &[u8]) -> usize
     ensures { λ r. ⌜ Puts at (keysOf json (now (s .entry))) (now (out .entry)) r (now (out .exit)) ⌝ }
 {
-    let mut o = least(at, out.len());
+    let mut o = lesser(at, out.len());
     let mut i = 0;
     while 2 <= s.len() - i {
         o = put_key_item(out, o, json, i == 0, get16(s, i));
@@ -221,7 +221,7 @@ fn put_protocol(out: &mut [u8], at: usize, json: bool, first: bool, id: &[u8]) -
 fn put_protocol_items(out: &mut [u8], at: usize, json: bool, s: &[u8]) -> usize
     ensures { λ r. ⌜ Puts at (protocolsOf json (now (s .entry))) (now (out .entry)) r (now (out .exit)) ⌝ }
 {
-    let mut o = least(at, out.len());
+    let mut o = lesser(at, out.len());
     let mut i = 0;
     while i < s.len() {
         let start = i + 1;
@@ -266,7 +266,7 @@ pub fn put_name(out: &mut [u8], at: usize, wire: &[u8]) -> usize
     ensures { λ r. ⌜ Puts at (nameOf (now (wire .entry))) (now (out .entry)) r (now (out .exit)) ⌝ }
 {
     if wire.len() < 2 {
-        return least(at, out.len());
+        return lesser(at, out.len());
     }
     let mut text = [0u8; 256];
     let n = texts::to_text(&mut text, 0, wire);
@@ -303,5 +303,5 @@ pub fn put_address(out: &mut [u8], at: usize, a: &[u8]) -> usize
         let n = ips::put6(&mut text, 0, a);
         return put_all(out, at, &text[..n]);
     }
-    least(at, out.len())
+    lesser(at, out.len())
 }

@@ -23,7 +23,7 @@ abbrev μ-loop : tie.MeasureT-loop
 μ-loop out₀ at json list w o₀ i₀ out o i = length list - i
 
 loop-holds : tie.Need-loop-holds Inv-loop μ-loop
-loop-holds c = (width-some (c .before .before .before .before .args .c) (c .before .address-width .ensures), omega arith, refl, listed-start _ _ _ (c .least .ensures))
+loop-holds c = (width-some (c .before .before .before .before .args .c) (c .before .address-width .ensures), omega arith, refl, listed-start _ _ _ (c .lesser .ensures))
 
 loop-again : tie.Need-loop-again Inv-loop μ-loop
 loop-again c =

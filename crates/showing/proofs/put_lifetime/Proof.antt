@@ -6,7 +6,7 @@ use Rattle.showing.proofs.put_lifetime.Statement.{statement}
 use Rattle.showing.proofs.put_lifetime.Tie as tie
 
 returns : tie.Need-returns
-returns c = puts-as (lifetime-none _ _ _ (c .before .before .lifetime-width .ensures) (c .before .if1 .taken)) (puts-none _ _ (c .least .ensures))
+returns c = puts-as (lifetime-none _ _ _ (c .before .before .lifetime-width .ensures) (c .before .if1 .taken)) (puts-none _ _ (c .lesser .ensures))
 
 returns-2 : tie.Need-returns-2
 returns-2 c =

@@ -20,7 +20,7 @@ abbrev μ-loop : tie.MeasureT-loop
 μ-loop out₀ at json p o₀ i₀ out o i = length p - i
 
 loop-holds : tie.Need-loop-holds Inv-loop μ-loop
-loop-holds c = (omega arith, refl, listed-start _ _ _ (c .least .ensures))
+loop-holds c = (omega arith, refl, listed-start _ _ _ (c .lesser .ensures))
 
 returns : tie.Need-returns Inv-loop μ-loop
 unfolding parametersOf

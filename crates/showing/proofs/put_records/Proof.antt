@@ -21,7 +21,7 @@ abbrev μ-loop : tie.MeasureT-loop
 μ-loop out₀ at json c s o₀ i₀ out o i = length s - i
 
 loop-holds : tie.Need-loop-holds Inv-loop μ-loop
-loop-holds c = (omega arith, refl, lined-start _ _ _ (c .least .ensures))
+loop-holds c = (omega arith, refl, lined-start _ _ _ (c .lesser .ensures))
 
 returns : tie.Need-returns Inv-loop μ-loop
 returns c =

@@ -6,7 +6,7 @@ use Rattle.showing.proofs.put_sheet.Statement.{statement}
 use Rattle.showing.proofs.put_sheet.Tie as tie
 
 returns : tie.Need-returns
-returns c = shown-nothing _ _ (sym (c .before .enum-told .given .1) ∙ c .before .before .before .take .ensures) (c .least .ensures)
+returns c = shown-nothing _ _ (sym (c .before .enum-told .given .1) ∙ c .before .before .before .take .ensures) (c .lesser .ensures)
 
 returns-2 : tie.Need-returns-2
 returns-2 c =

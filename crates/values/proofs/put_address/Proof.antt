@@ -34,7 +34,7 @@ returns-2 c =
     puts-as (wrote-front (t .put6 .ensures) ∙ address-sixteen _ (e .before .if1 .left) (e .if2 .taken)) (w .put-all2 .ensures .1)
 
 returns-3 : tie.Need-returns-3
-returns-3 c = puts-as (address-none _ (c .before .before .if1 .left) (c .before .if2 .left)) (puts-none _ _ (c .least .ensures))
+returns-3 c = puts-as (address-none _ (c .before .before .if1 .left) (c .before .if2 .left)) (puts-none _ _ (c .lesser .ensures))
 
 pub put-address-spec : {M : Type 1} → statement M
 put-address-spec =

@@ -5,7 +5,7 @@ use Rattle.values.proofs.put_comma.Statement.{statement}
 use Rattle.values.proofs.put_comma.Tie as tie
 
 returns : tie.Need-returns
-returns c = rw (c .before .if1 .taken) (puts-none _ _ (c .least .ensures))
+returns c = rw (c .before .if1 .taken) (puts-none _ _ (c .lesser .ensures))
 
 returns-2 : tie.Need-returns-2
 returns-2 c = let w = c .before .before in rw (w .before .before .if1 .left) (w .put-mark .ensures)

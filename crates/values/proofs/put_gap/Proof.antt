@@ -8,7 +8,7 @@ use Rattle.values.proofs.put_gap.Statement.{statement}
 use Rattle.values.proofs.put_gap.Tie as tie
 
 returns : tie.Need-returns
-returns c = puts-as (gap-none _ (c .before .if1 .taken)) (puts-none _ _ (c .least .ensures))
+returns c = puts-as (gap-none _ (c .before .if1 .taken)) (puts-none _ _ (c .lesser .ensures))
 
 returns-2 : tie.Need-returns-2
 returns-2 c =

@@ -21,7 +21,7 @@ abbrev μ-loop : tie.MeasureT-loop
 μ-loop out₀ at json s o₀ i₀ out o i = length s - i
 
 loop-holds : tie.Need-loop-holds Inv-loop μ-loop
-loop-holds c = (omega arith, refl, listed-start _ _ _ (c .least .ensures))
+loop-holds c = (omega arith, refl, listed-start _ _ _ (c .lesser .ensures))
 
 loop-again : tie.Need-loop-again Inv-loop μ-loop
 loop-again c =

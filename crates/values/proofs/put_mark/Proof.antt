@@ -8,7 +8,7 @@ returns : tie.Need-returns
 returns c = let w = c .before .before in rw (w .before .before .if1 .taken) (w .put .ensures .1)
 
 returns-2 : tie.Need-returns-2
-returns-2 c = rw (c .before .if1 .left) (puts-none _ _ (c .least .ensures))
+returns-2 c = rw (c .before .if1 .left) (puts-none _ _ (c .lesser .ensures))
 
 pub put-mark-spec : {M : Type 1} → statement M
 put-mark-spec =

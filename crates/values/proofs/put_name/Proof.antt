@@ -10,7 +10,7 @@ use Rattle.values.proofs.put_name.Statement.{statement}
 use Rattle.values.proofs.put_name.Tie as tie
 
 returns : tie.Need-returns
-returns c = puts-as (name-short _ (c .before .if1 .taken)) (puts-none _ _ (c .least .ensures))
+returns c = puts-as (name-short _ (c .before .if1 .taken)) (puts-none _ _ (c .lesser .ensures))
 
 returns-2 : tie.Need-returns-2
 returns-2 c =
