@@ -1,24 +1,30 @@
--- What a head says, and that a sheet is taken exactly where it is one: `takeOf` gives carrier c and records rs of s where s is their sheet, and nowhere else; and a
--- sheet is one of one carrier and one list of records only. Assumes nothing.
+-- What a head says, and that a sheet is taken exactly where it is one: `takeOf` gives carrier c and records rs of s where s is their sheet, and nowhere else; a
+-- sheet is one of one carrier and one list of records only; and which number refuses what is none. Assumes nothing.
 use mathlib.Core.Path.{_≡_, refl, sym, ap, ap₂, _∙_}
 use mathlib.Core.Logic.{_↔_}
+use mathlib.Core.Bool.{Bool, true, false}
 use mathlib.Core.List.{List, [], _∷_, _++_}
 use Prim.Native.Nat.{ℕ, zero, suc, _+_, _*_, _%_, _≤_, _<_}
 use native.Mathlib.Omega.{arith}
-use lib.ListN.{length, getD, drop}
-use Rattle.octets.specs.Numbers.{be, Octet, Bytes}
+use borrow.Author.Tests.{lt-ltb, le-ltb, ltb-false, eqb-true}
+use lib.Dec.{ltb, eqb}
+use lib.ListN.{length, getD, take, drop, take-append-drop}
+use Rattle.octets.specs.Numbers.{be, at16, Octet, Bytes}
 use Rattle.octets.specs.Lists.{All}
 use Rattle.octets.specs.ListsLaws.{all-drop}
+use Rattle.numbers.specs.Refusal as refusal
 use Rattle.numbers.specs.Limit as limit
 use Rattle.carriers.specs.declared.Carrier.{Carrier}
-use Rattle.carriers.specs.Carriers.{numberOf}
+use Rattle.carriers.specs.declared.Chosen.{Chosen}
+use Rattle.carriers.specs.declared.Chosen.the-variants.{Known, Unknown}
+use Rattle.carriers.specs.Carriers.{chosenOf, numberOf}
 use Rattle.carriers.specs.CarriersLaws.{chosen-number, number-room, number-chosen}
 use Rattle.blocks.specs.Block.{Fields}
 use Rattle.records.specs.Records.{recordOf}
-use Rattle.sheets.specs.Sheets.{letters, edition, frontSize, carrierAt, countAt, frontOf, recordsOf, sheetOf}
-use Rattle.taking.specs.Taking.{Records, none, records, onto, recordsFrom, head, headOf, sheet, takeOf}
+use Rattle.sheets.specs.Sheets.{letters, edition, frontSize, versionAt, carrierAt, countAt, frontOf, recordsOf, sheetOf}
+use Rattle.taking.specs.Taking.{same, refuse, head, headOf, Records, none, records, onto, recordsFrom, sheet, takeFound, takeRecords, takeCarrier, takeOf}
 use Rattle.taking.specs.Sheet.{FitsRecord, NoneFalls, IsHead, IsSheet}
-use Rattle.taking.specs.TakenLaws.{Front, headed-front, front-headed, Passed, taken-passed, passed-taken}
+use Rattle.taking.specs.TakenLaws.{same-true, same-self, Front, headed-front, front-headed, Passed, taken-passed, passed-taken}
 use Rattle.taking.specs.RecordLaws.{one-read, one-says}
 
 -- ---- the records
@@ -133,3 +139,71 @@ sheet-once s c d rs qs i j =
     let e : takeOf s ≡ sheet c rs = sheet-taken s c rs i in
     let f : takeOf s ≡ sheet d qs = sheet-taken s d qs j in
     (cc, cc)
+
+-- ---- the refusals: 2, 40, 41, 42, 4, 43
+
+module _ (s : List ℕ) where
+  -- the test of the letters
+  pub letters-first : (same (take versionAt s) letters ≡ true) ↔ ((rest : List ℕ) × (s ≡ letters ++ rest))
+  letters-first = (
+    λ e. (drop versionAt s, sym (take-append-drop versionAt s) ∙ ap (λ (l : List ℕ). l ++ drop versionAt s) (same-true (take versionAt s) letters e)),
+    λ b. ap (λ (l : List ℕ). same (take versionAt l) letters) (b .1) ∙ same-self letters,
+  )
+
+  pub head-long : limit.input < length s → headOf s ≡ refuse refusal.input
+  unfolding headOf
+  head-long h = rw (lt-ltb limit.input (length s) h)
+
+  module _ (short : length s ≤ limit.input) where
+    -- s does not begin with the letters, or is shorter than a head
+    pub head-unlettered : ((rest : List ℕ) → s ≡ letters ++ rest → frontSize ≤ length s → ⊥) → headOf s ≡ refuse refusal.sheet
+    unfolding headOf
+    head-unlettered never = go (ltb (length s) frontSize) refl (same (take versionAt s) letters) refl
+      where
+        go : (few : Bool) → ltb (length s) frontSize ≡ few → (lettered : Bool) → same (take versionAt s) letters ≡ lettered → headOf s ≡ refuse refusal.sheet
+        go true f lettered l = rw (le-ltb limit.input (length s) short, f)
+        go false f false l = rw (le-ltb limit.input (length s) short, f, l)
+        go false f true l = let b = letters-first .0 l in absurd (never (b .0) (b .1) (ltb-false _ _ f))
+
+    -- it does, and is no head
+    pub head-other : {rest : List ℕ} → s ≡ letters ++ rest → frontSize ≤ length s → ((k n : ℕ) → IsHead s k n → ⊥) → headOf s ≡ refuse refusal.version
+    unfolding headOf
+    head-other {rest} begins long never = go (eqb (at16 s versionAt) edition) refl
+      where
+        go : (version : Bool) → eqb (at16 s versionAt) edition ≡ version → headOf s ≡ refuse refusal.version
+        go false e = rw (le-ltb limit.input (length s) short, le-ltb (length s) frontSize long, letters-first .1 (rest, begins), e)
+        go true e =
+            let f : Front s = record { short = short; long = long; lettered = ap (take versionAt) begins; version = eqb-true (at16 s versionAt) edition e } in
+            absurd (never (getD s carrierAt 0) (getD s countAt 0) (head-exactly s (getD s carrierAt 0) (getD s countAt 0) .0 (front-headed s f)))
+
+  pub take-refused : {k : ℕ} → headOf s ≡ refuse k → takeOf s ≡ refuse k
+  unfolding takeOf
+  take-refused e = rw e
+
+  head-taken : {k n : ℕ} → IsHead s k n → takeOf s ≡ takeCarrier (chosenOf k) n (drop frontSize s)
+  unfolding takeOf
+  head-taken {k} {n} i = rw (head-exactly s k n .1 i)
+
+  pub take-carrier : {k n : ℕ} → IsHead s k n → ((c : Carrier) → numberOf c ≡ k → ⊥) → takeOf s ≡ refuse refusal.sheetCarrier
+  take-carrier {k} {n} i never = head-taken i ∙ go (chosenOf k) refl
+    where
+      go : (o : Chosen) → chosenOf k ≡ o → takeCarrier o n (drop frontSize s) ≡ refuse refusal.sheetCarrier
+      go Unknown e = refl
+      go (Known c) e = absurd (never c (sym (number-chosen k c e)))
+
+  module _ (c : Carrier) {n : ℕ} (i : IsHead s (numberOf c) n) where
+    carrier-taken : takeOf s ≡ takeRecords c n (drop frontSize s)
+    carrier-taken = head-taken i ∙ ap (λ (o : Chosen). takeCarrier o n (drop frontSize s)) (chosen-number c)
+
+    pub take-many : limit.records < n → takeOf s ≡ refuse refusal.records
+    take-many h = carrier-taken ∙ rw (lt-ltb limit.records n h)
+
+    pub take-untiled : Bytes s → n ≤ limit.records → ((rs : List Fields) → IsSheet s c rs → ⊥) → takeOf s ≡ refuse refusal.tiling
+    take-untiled octets few never = found ∙ go (recordsFrom c n 0 (drop frontSize s)) found
+      where
+        found : takeOf s ≡ takeFound c (recordsFrom c n 0 (drop frontSize s))
+        found = carrier-taken ∙ rw (le-ltb limit.records n few)
+
+        go : (x : Records) → takeOf s ≡ takeFound c x → takeFound c x ≡ refuse refusal.tiling
+        go none e = refl
+        go (records rs) e = absurd (never rs (taken-sheet s c rs octets e))

@@ -61,7 +61,7 @@ parameters-octets c r h u =
     (all-right Octet (be 1 (length a / addressWidth c)) (a ++ (be 2 (length q) ++ q)) (rw u at after)))
 
 -- where a record has parameters, they are octets
-abbrev OfOctets : Fields → Type 0
+abbrev pub OfOctets : Fields → Type 0
 OfOctets r = r .full ≡ true → Bytes (r .parameters)
 
 records-octets : (c : Carrier) (rs : List Fields) → Bytes (sheets.recordsOf c rs) → All OfOctets rs
@@ -70,7 +70,7 @@ records-octets c (r ∷ rs) h =
     let more : List ℕ = sheets.recordsOf c rs in
     (parameters-octets c r (all-left Octet (recordOf c r) more h), records-octets c rs (all-right Octet (recordOf c r) more h))
 
-sheet-octets : (s : List ℕ) (c : Carrier) (rs : List Fields) → Bytes s → IsSheet s c rs → All OfOctets rs
+pub sheet-octets : (s : List ℕ) (c : Carrier) (rs : List Fields) → Bytes s → IsSheet s c rs → All OfOctets rs
 unfolding sheetOf
 sheet-octets s c rs h i = records-octets c rs (all-right Octet (frontOf c (length rs)) (sheets.recordsOf c rs) (rw (i .is) at h))
 

@@ -3,3 +3,4 @@ pub mod Laying
 pub mod LayingLaws
 pub mod WritesLaws
 pub mod LeavesLaws
+pub mod AnswersLaws

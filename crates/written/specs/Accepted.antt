@@ -12,12 +12,16 @@ use Rattle.judge.specs.declared.Side.the-variants.{Writing}
 use Rattle.judge.specs.Allowed.{Allowed}
 use Rattle.taking.specs.Sheet.{FitsRecord, IsSheet}
 
--- a record that writing accepts: it has room in a sheet, the RFCs and the limits allow it with no address to be dropped, and in carrier 3 its
--- option has at most 2,040 octets (44)
+-- in carrier 3 a record's option has at most 2,040 octets (44)
+abbrev pub Sized : Carrier → Fields → Type 0
+Sized c r = c ≡ Router → optionSize r ≤ limit.option
+
+-- a record that writing accepts: it has room in a sheet, the RFCs and the limits allow it with no address to be dropped, and its option is not
+-- too large
 pub record Sound (c : Carrier) (r : Fields) : Type 0 where
   pub fits : FitsRecord c r
   pub allowed : Allowed Writing c r
-  pub units : c ≡ Router → optionSize r ≤ limit.option
+  pub units : Sized c r
 
 -- s is the sheet of carrier c and records rs, and each of these is accepted
 pub record Accepted (s : List ℕ) (c : Carrier) (rs : List Fields) : Type 0 where

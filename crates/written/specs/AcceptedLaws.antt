@@ -4,17 +4,17 @@ use mathlib.Core.Path.{_≡_, refl}
 use mathlib.Core.Logic.{_⊎_, inl, inr, _↔_}
 use mathlib.Core.Bool.{Bool, true, false, cond, _||_, true≢false}
 use mathlib.Core.List.{List, [], _∷_}
-use Prim.Native.Nat.{ℕ, _^_, _≤_, _<_}
+use Prim.Native.Nat.{ℕ, _^_, _<_}
 use native.Mathlib.Omega.{arith}
 use borrow.Author.Tests.{ltb-false, le-ltb}
 use lib.Dec.{ltb}
 use lib.ListN.{length}
 use Rattle.octets.specs.Numbers.{Bytes}
 use Rattle.octets.specs.Lists.{All}
+use Rattle.octets.specs.ListsLaws.{all-map}
 use Rattle.numbers.specs.Refusal as refusal
 use Rattle.numbers.specs.Limit as limit
 use Rattle.carriers.specs.declared.Carrier.{Carrier}
-use Rattle.carriers.specs.declared.Carrier.the-variants.{Router}
 use Rattle.carriers.specs.declared.Form.{Form}
 use Rattle.carriers.specs.declared.Form.the-variants.{Wire, Padded, Text}
 use Rattle.carriers.specs.Carriers.{lifetimeWidth, addressWidth, inEights, formOf, lifetimeIn}
@@ -33,7 +33,7 @@ use Rattle.vetting.specs.Vetting as vetting
 use Rattle.vetting.specs.VettingLaws.{allowed-faultless, taken-vetted, vet-exactly, vetted-by}
 use Rattle.written.specs.Writing.{writeVetted, writeOf}
 use Rattle.written.specs.Octets.{octetsOf, refuse, written, numberIn}
-use Rattle.written.specs.Accepted.{Sound, Accepted}
+use Rattle.written.specs.Accepted.{Sized, Sound, Accepted}
 use Rattle.written.specs.Defined.{Accepting}
 
 -- ---- an accepted record has room in its carrier
@@ -71,46 +71,43 @@ module _ (c : Carrier) (r : Fields) (s : Sound c r) where
 
 -- ---- 44
 
-module _ (c : Carrier) (r : Fields) where
-  small-units : large c r ≡ false → c ≡ Router → optionSize r ≤ limit.option
-  small-units e i = let q = rw i at e in ltb-false _ _ q
-
-  units-small : (c ≡ Router → optionSize r ≤ limit.option) → large c r ≡ false
-  units-small h = go (inEights c) refl
-    where
-      go : (b : Bool) → inEights c ≡ b → cond b (ltb limit.option (optionSize r)) false ≡ false
-      go true e = le-ltb limit.option (optionSize r) (h (eights-router c e))
-      go false e = refl
-
 module _ (c : Carrier) where
-  -- records that fit a sheet, allowed and none large, are those accepted
-  tested-sound : (rs : List Fields) → All (FitsRecord c) rs → All (Allowed Writing c) rs → anyLarge c rs ≡ false → All (Sound c) rs
-  unfolding anyLarge
-  tested-sound [] f p l = tt
-  tested-sound (r ∷ rs) f p l = go (large c r) refl (tested-sound rs (f .1) (p .1)) l
+  one-sized : (r : Fields) → (large c r ≡ false) ↔ Sized c r
+  one-sized r = (λ e i. let q = rw i at e in ltb-false _ _ q, λ h. go (inEights c) refl h)
     where
-      go : (big : Bool) → large c r ≡ big → (anyLarge c rs ≡ false → All (Sound c) rs) → big || anyLarge c rs ≡ false → All (Sound c) (r ∷ rs)
-      go true b ih l = absurd (true≢false l)
-      go false b ih l = (record { fits = f .0; allowed = p .0; units = small-units c r b }, ih l)
+      go : (b : Bool) → inEights c ≡ b → Sized c r → cond b (ltb limit.option (optionSize r)) false ≡ false
+      go true e h = le-ltb limit.option (optionSize r) (h (eights-router c e))
+      go false e h = refl
 
-  sound-allowed : (rs : List Fields) → All (Sound c) rs → All (Allowed Writing c) rs
-  sound-allowed [] h = tt
-  sound-allowed (r ∷ rs) h = (h .0 .allowed, sound-allowed rs (h .1))
+  pub sized-exactly : (rs : List Fields) → (anyLarge c rs ≡ false) ↔ All (Sized c) rs
+  unfolding anyLarge
+  sized-exactly [] = (λ e. tt, λ h. refl)
+  sized-exactly (r ∷ rs) = go (large c r) (one-sized r) (sized-exactly rs)
+    where
+      go : (big : Bool) → (big ≡ false) ↔ Sized c r → (anyLarge c rs ≡ false) ↔ All (Sized c) rs
+          → (big || anyLarge c rs ≡ false) ↔ (Sized c r × All (Sized c) rs)
+      go true one ih = (λ e. absurd (true≢false e), λ h. absurd (true≢false (one .1 (h .0))))
+      go false one ih = (λ e. (one .0 refl, ih .0 e), λ h. ih .1 (h .1))
+
+  -- records that fit a sheet, allowed and none large, are those accepted
+  tested-sound : (rs : List Fields) → All (FitsRecord c) rs → All (Allowed Writing c) rs → All (Sized c) rs → All (Sound c) rs
+  tested-sound [] f p l = tt
+  tested-sound (r ∷ rs) f p l = (record { fits = f .0; allowed = p .0; units = l .0 }, tested-sound rs (f .1) (p .1) (l .1))
 
   sound-small : (rs : List Fields) → All (Sound c) rs → anyLarge c rs ≡ false
-  unfolding anyLarge
-  sound-small [] h = refl
-  sound-small (r ∷ rs) h = rw (units-small c r (h .0 .units)) (sound-small rs (h .1))
+  sound-small rs h = sized-exactly rs .1 (all-map (Sound c) (Sized c) rs (λ r k. k .units) h)
 
--- a sheet is accepted exactly where it is vetted and no record is large
 module _ (s : List ℕ) (c : Carrier) (rs : List Fields) where
+  pub sheet-accepted : IsSheet s c rs → All (Allowed Writing c) rs → All (Sized c) rs → Accepted s c rs
+  sheet-accepted i p l = record { is = i; sound = tested-sound c rs (i .each) p l }
+
+  -- a sheet is accepted exactly where it is vetted and no record is large
   pub vetted-accepted : Bytes s → vetOf s ≡ vetting.sheet c rs → anyLarge c rs ≡ false → Accepted s c rs
-  vetted-accepted octets e l =
-      let v = vet-exactly s c rs octets .0 e in
-      record { is = v .0; sound = tested-sound c rs (v .0 .each) (v .1) l }
+  vetted-accepted octets e l = let v = vet-exactly s c rs octets .0 e in sheet-accepted (v .0) (v .1) (sized-exactly c rs .0 l)
 
   accepted-vetted : Accepted s c rs → vetOf s ≡ vetting.sheet c rs
-  accepted-vetted a = taken-vetted s (sheet-taken s c rs (a .is)) (allowed-faultless c rs (sound-allowed c rs (a .sound)))
+  accepted-vetted a =
+      taken-vetted s (sheet-taken s c rs (a .is)) (allowed-faultless c rs (all-map (Sound c) (Allowed Writing c) rs (λ r k. k .allowed) (a .sound)))
 
 -- ---- the call
 

@@ -8,15 +8,14 @@ use Rattle.octets.specs.Lists.{All}
 use Rattle.numbers.specs.Refusal as refusal
 use Rattle.numbers.specs.Limit as limit
 use Rattle.carriers.specs.declared.Carrier.{Carrier}
-use Rattle.carriers.specs.declared.Carrier.the-variants.{Router}
 use Rattle.carriers.specs.Carriers.{numberOf}
-use Rattle.blocks.specs.Block.{Fields, optionSize}
+use Rattle.blocks.specs.Block.{Fields}
 use Rattle.judge.specs.declared.Side.the-variants.{Writing}
 use Rattle.judge.specs.Allowed.{Allowed, FirstBroken}
 use Rattle.sheets.specs.Sheets.{letters, frontSize}
 use Rattle.taking.specs.Sheet.{IsHead, IsSheet}
 use Rattle.written.specs.Octets.{octetsOf, Answer, refuse, written}
-use Rattle.written.specs.Accepted.{Accepted}
+use Rattle.written.specs.Accepted.{Sized, Accepted}
 
 -- s has the octets of a head at least, and begins with the letters RSV
 pub record Lettered (s : List ℕ) : Type 0 where
@@ -28,10 +27,6 @@ pub record Lettered (s : List ℕ) : Type 0 where
 pub data FirstFault (c : Carrier) : List Fields → ℕ → Type 0 where
   here : {r : Fields} {rs : List Fields} {k : ℕ} → FirstBroken Writing c r k → (k ≡ 0 → ⊥) → FirstFault c (r ∷ rs) k
   later : {r : Fields} {rs : List Fields} {k : ℕ} → Allowed Writing c r → FirstFault c rs k → FirstFault c (r ∷ rs) k
-
--- in carrier 3 a record's option has at most 2,040 octets
-abbrev pub Sized : Carrier → Fields → Type 0
-Sized c r = c ≡ Router → optionSize r ≤ limit.option
 
 -- writing answers this to s with an output buffer of `room` octets: 2, 40, 41, 42, 4, 43, 21 to 28 record by record, 44 and 5 in this order, or the octets
 pub data Answers (s : List ℕ) (room : ℕ) : Answer → Type 0 where

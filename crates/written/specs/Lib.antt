@@ -6,3 +6,4 @@ pub mod RoomLaws
 pub mod Answers
 pub mod Octets
 pub mod Defined
+pub mod AnswersLaws
