@@ -24,7 +24,9 @@ use Rattle.octets.specs.SameLaws.{same-true, same-self}
 use Rattle.written.specs.Writing.{writeOf}
 use Rattle.written.specs.Octets.{written}
 use Rattle.written.specs.Octets as writing
+use Rattle.reading.specs.Reading as answered
 use Rattle.reading.specs.RoomLaws as readRoom
+use Rattle.written.specs.Writing as wrote
 use Rattle.written.specs.RoomLaws as writeRoom
 use Rattle.boundary.specs.Piece.{Back, again, others, Claim, octets, sheetOctets, partOctets, number, ends, joined, options, replaced, short, enough, Piece, Means, IsRead, IsWritten, IsOther, Returns, Holds}
 use Rattle.boundary.specs.Test.{every, sameBit, sameRecord, sameRecords, sameTaken, isDone, isRefused, isWritten, passes, reads, writes, returns, takes, good}
@@ -128,7 +130,7 @@ module _ (p : Piece) where
   is-read : reads p ≡ true → IsRead p
   is-read e =
       let n = length (p .gives .sheet) in
-      let any : (room : ℕ) → readOf (p .carrier) (p .area) room ≡ readRoom.inRoom (p .gives) room =
+      let any : (room : ℕ) → readOf (p .carrier) (p .area) room ≡ answered.inRoom (p .gives) room =
       λ room. readRoom.room-decides (p .carrier) (p .area) n room (done-true (p .gives) _ e) in
       record {
         enough = λ room h. any room ∙ rw (le-ltb room n h);
@@ -136,7 +138,7 @@ module _ (p : Piece) where
       }
 
   module _ (bs : List ℕ) (e : writes p bs ≡ true) where
-    any-room : (room : ℕ) → writeOf (p .gives .sheet) room ≡ writeRoom.inRoom bs room
+    any-room : (room : ℕ) → writeOf (p .gives .sheet) room ≡ wrote.inRoom bs room
     any-room room = writeRoom.room-decides (p .gives .sheet) (length bs) room (written-true bs _ e)
 
     is-written : IsWritten p bs

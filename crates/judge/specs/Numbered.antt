@@ -1,7 +1,7 @@
 -- Which numbers the judge gives: 0, or 21 to 28 (01, Numbers given back). Assumes nothing.
-use mathlib.Core.Path.{_≡_, refl}
+use mathlib.Core.Path.{refl}
 use mathlib.Core.Bool.{Bool, true, false, cond, not}
-use mathlib.Core.Logic.{_⊎_, inl, inr}
+use mathlib.Core.Logic.{inl, inr}
 use mathlib.Core.List.{List}
 use Prim.Native.Nat.{ℕ, _/_, _%_, _≤_}
 use native.Mathlib.Omega.{arith}
@@ -19,9 +19,7 @@ use Rattle.svcparams.specs.Exactly as params
 use Rattle.blocks.specs.Block.{Fields}
 use Rattle.judge.specs.declared.Side.{Side}
 use Rattle.judge.specs.Judge.{nameOf, refusedOf, tailFault, nameOnlyFault, judged, onName, judgedOf, faultOf}
-
-abbrev pub FaultNumber : ℕ → Type 0
-FaultNumber k = (k ≡ 0) ⊎ ((fault.priority ≤ k) × (k ≤ fault.value))
+use Rattle.judge.specs.Passed.{FaultNumber}
 
 within : (k : ℕ) → fault.priority ≤ k → k ≤ fault.value → FaultNumber k
 within k l h = inr (l, h)

@@ -14,6 +14,12 @@ use Rattle.svcparams.specs.Params.{paramsFault}
 use Rattle.blocks.specs.Block.{Fields}
 use Rattle.judge.specs.declared.Side.{Side}
 use Rattle.judge.specs.Judge.{nameOf, refusedOf}
+use mathlib.Core.Logic.{_⊎_}
+use Rattle.numbers.specs.Fault as fault
+
+-- what the judge gives: 0, or 21 to 28
+abbrev pub FaultNumber : ℕ → Type 0
+FaultNumber k = (k ≡ 0) ⊎ ((fault.priority ≤ k) × (k ≤ fault.value))
 
 -- of a record in full form, with addresses of w octets
 pub record PassedTail (side : Side) (w : ℕ) (addresses parameters : List ℕ) : Type 0 where

@@ -62,11 +62,13 @@ inOrder rs = stableSort (λ (r : Fields). r .priority) rs
 
 -- ---- the call
 
+-- 5, or done, by the room for the sheet
+abbrev pub inRoom : Done → ℕ → Answer
+inRoom d room = cond (ltb room (length (d .sheet))) (refuse refusal.room) (done d)
+
 -- 4, then 5
 abbrev pub settle : ℕ → List Fields → Done → Answer
-settle room rs d =
-    cond (ltb limit.records (length rs)) (refuse refusal.records)
-    (cond (ltb room (length (d .sheet))) (refuse refusal.room) (done d))
+settle room rs d = cond (ltb limit.records (length rs)) (refuse refusal.records) (inRoom d room)
 
 -- of blocks that yield ys
 abbrev pub readYields : Carrier → List Yield → ℕ → Answer

@@ -18,12 +18,8 @@ use Rattle.frames.specs.Area.{blocksOf}
 use Rattle.frames.specs.Frame as area
 use Rattle.blocks.specs.Block.{Fields}
 use Rattle.sheets.specs.Sheets.{sheetOf}
-use Rattle.reading.specs.Reading.{yieldOf, inOrder, settle, readYields, readFramed, readArea, readChosen, readOf}
-use Rattle.reading.specs.Result.{Yield, arrivals, discardedIn, firstFault, Done, Answer, refuse, done}
-
--- what a reading that is done with d in one room answers in another
-abbrev pub inRoom : Done → ℕ → Answer
-inRoom d room = cond (ltb room (length (d .sheet))) (refuse refusal.room) (done d)
+use Rattle.reading.specs.Reading.{yieldOf, inOrder, inRoom, settle, readYields, readFramed, readArea, readChosen, readOf}
+use Rattle.reading.specs.Result.{Yield, arrivals, discardedIn, firstFault, Done, refuse, done}
 
 module _ {d : Done} where
   refused : {k : ℕ} → refuse k ≡ done d → ⊥

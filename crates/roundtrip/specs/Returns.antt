@@ -1,16 +1,13 @@
 -- Words for records that are written and read: a record's body, and blocks that are all kept. Assumes nothing: these are definitions.
 use mathlib.Core.Path.{_≡_}
-use mathlib.Core.Bool.{cond}
 use mathlib.Core.List.{List, map}
 use Prim.Native.Nat.{ℕ}
-use lib.Dec.{ltb}
-use lib.ListN.{length}
-use Rattle.numbers.specs.Refusal as refusal
 use Rattle.carriers.specs.declared.Carrier.{Carrier}
 use Rattle.blocks.specs.Block.{Fields, layout}
 use Rattle.layouts.specs.Layouts.{carriedOf}
 use Rattle.sheets.specs.Sheets.{sheetOf}
-use Rattle.reading.specs.Result.{Yield, arrivals, discardedIn, firstFault, faultless, Answer, refuse, done}
+use Rattle.reading.specs.Reading.{inRoom}
+use Rattle.reading.specs.Result.{Yield, arrivals, discardedIn, firstFault, faultless, Answer}
 
 -- the body of a record's option or attribute, in carrier 1 of its instance
 abbrev pub bodyOf : Carrier → Fields → List ℕ
@@ -27,4 +24,4 @@ pub record Brings (ys : List Yield) (rs : List Fields) : Type 0 where
 
 -- the answer of a reading that found so many blocks, with the records rs, and discarded none, by the room
 abbrev pub answerKept : Carrier → List Fields → ℕ → ℕ → Answer
-answerKept c rs found room = cond (ltb room (length (sheetOf c rs))) (refuse refusal.room) (done (faultless (sheetOf c rs) found))
+answerKept c rs found room = inRoom (faultless (sheetOf c rs) found) room

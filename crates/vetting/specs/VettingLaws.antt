@@ -20,7 +20,8 @@ use Rattle.judge.specs.declared.Side.the-variants.{Writing}
 use Rattle.judge.specs.Judge.{faultOf}
 use Rattle.judge.specs.Allowed.{Allowed}
 use Rattle.judge.specs.AllowedLaws as judge
-use Rattle.judge.specs.Numbered.{FaultNumber, fault-number}
+use Rattle.judge.specs.Numbered.{fault-number}
+use Rattle.judge.specs.Passed.{FaultNumber}
 use Rattle.records.specs.Records.{modeOf, tailOf, recordOf}
 use Rattle.sheets.specs.Sheets.{frontOf, sheetOf}
 use Rattle.sheets.specs.Sheets as sheets

@@ -23,7 +23,7 @@ use Rattle.names.specs.Right.{three}
 use Rattle.blocks.specs.Block.{Fields, optionSize}
 use Rattle.judge.specs.declared.Side.the-variants.{Writing}
 use Rattle.judge.specs.Allowed.{Allowed}
-use Rattle.judge.specs.Numbered.{FaultNumber}
+use Rattle.judge.specs.Passed.{FaultNumber}
 use Rattle.layouts.specs.Writable.{Writable, WritableTail}
 use Rattle.taking.specs.Sheet.{FitsTail, FitsRecord, IsSheet}
 use Rattle.taking.specs.TakenLaws.{Refusing, refusing-some}

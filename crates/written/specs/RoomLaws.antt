@@ -12,12 +12,8 @@ use Rattle.carriers.specs.declared.Carrier.{Carrier}
 use Rattle.blocks.specs.Block.{Fields}
 use Rattle.vetting.specs.Vetting.{Vetted, anyLarge, vetOf}
 use Rattle.vetting.specs.Vetting as vetting
-use Rattle.written.specs.Writing.{writeRecords, writeVetted, writeOf}
-use Rattle.written.specs.Octets.{octetsOf, Answer, refuse, written}
-
--- what a writing that is done with octets in one room answers in another
-abbrev pub inRoom : List ℕ → ℕ → Answer
-inRoom octets room = cond (ltb room (length octets)) (refuse refusal.room) (written octets)
+use Rattle.written.specs.Writing.{inRoom, writeRecords, writeVetted, writeOf}
+use Rattle.written.specs.Octets.{octetsOf, refuse, written}
 
 module _ {octets : List ℕ} where
   refused : {k : ℕ} → refuse k ≡ written octets → ⊥

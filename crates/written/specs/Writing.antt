@@ -12,12 +12,13 @@ use Rattle.vetting.specs.Vetting.{Vetted, anyLarge, vetOf}
 use Rattle.vetting.specs.Vetting as vetting
 use Rattle.written.specs.Octets.{Answer, octetsOf, refuse, written}
 
+-- 5, or the octets, by the room for them
+abbrev pub inRoom : List ℕ → ℕ → Answer
+inRoom octets room = cond (ltb room (length octets)) (refuse refusal.room) (written octets)
+
 -- 44, then 5
 abbrev pub writeRecords : Carrier → List Fields → ℕ → Answer
-writeRecords c rs room =
-    cond (anyLarge c rs) (refuse refusal.large)
-    (cond (ltb room (length (octetsOf c rs))) (refuse refusal.room)
-    (written (octetsOf c rs)))
+writeRecords c rs room = cond (anyLarge c rs) (refuse refusal.large) (inRoom (octetsOf c rs) room)
 
 -- 2, 40, 41, 42, 4, 43, 21 to 28
 abbrev pub writeVetted : Vetted → ℕ → Answer
