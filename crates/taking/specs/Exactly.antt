@@ -10,7 +10,7 @@ use borrow.Author.Tests.{lt-ltb, le-ltb, ltb-false, eqb-true}
 use lib.Dec.{ltb, eqb}
 use lib.ListN.{length, getD, take, drop, take-append-drop}
 use Rattle.octets.specs.Numbers.{be, at16, Octet, Bytes}
-use Rattle.octets.specs.Lists.{All}
+use Rattle.octets.specs.Lists.{All, same}
 use Rattle.octets.specs.ListsLaws.{all-drop}
 use Rattle.numbers.specs.Refusal as refusal
 use Rattle.numbers.specs.Limit as limit
@@ -22,9 +22,10 @@ use Rattle.carriers.specs.CarriersLaws.{chosen-number, number-room, number-chos
 use Rattle.blocks.specs.Block.{Fields}
 use Rattle.records.specs.Records.{recordOf}
 use Rattle.sheets.specs.Sheets.{letters, edition, frontSize, versionAt, carrierAt, countAt, frontOf, recordsOf, sheetOf}
-use Rattle.taking.specs.Taking.{same, refuse, head, headOf, Records, none, records, onto, recordsFrom, sheet, takeFound, takeRecords, takeCarrier, takeOf}
+use Rattle.taking.specs.Taking.{refuse, head, headOf, Records, none, records, onto, recordsFrom, sheet, takeFound, takeRecords, takeCarrier, takeOf}
 use Rattle.taking.specs.Sheet.{FitsRecord, NoneFalls, IsHead, IsSheet}
-use Rattle.taking.specs.TakenLaws.{same-true, same-self, Front, headed-front, front-headed, Passed, taken-passed, passed-taken}
+use Rattle.octets.specs.SameLaws.{same-true, same-self}
+use Rattle.taking.specs.TakenLaws.{Front, headed-front, front-headed, Passed, taken-passed, passed-taken}
 use Rattle.taking.specs.RecordLaws.{one-read, one-says}
 
 -- ---- the records

@@ -25,7 +25,8 @@ use Rattle.judge.specs.AllowedLaws.{broken-exactly, faultless-allowed}
 use Rattle.judge.specs.AllowedLaws as judge
 use Rattle.sheets.specs.Sheets.{letters, frontSize, versionAt}
 use Rattle.taking.specs.Sheet.{IsHead, IsSheet}
-use Rattle.taking.specs.Taking.{same, Headed, headOf, Taken, takeOf}
+use Rattle.octets.specs.Lists.{same}
+use Rattle.taking.specs.Taking.{Headed, headOf, Taken, takeOf}
 use Rattle.taking.specs.Taking as taking
 use Rattle.taking.specs.Exactly.{head-exactly, letters-first, head-long, head-unlettered, head-other, take-refused, take-carrier, take-many, take-untiled, taken-sheet, sheet-taken}
 use Rattle.vetting.specs.Vetting.{firstFault, anyLarge, vetOf}
