@@ -1,11 +1,11 @@
--- The addresses that are dropped when read, by the networks that document 01 names. Assumes nothing: this is a definition.
+-- The addresses that are dropped when read, by the networks that RULES A1 names. Assumes nothing: this is a definition.
 use mathlib.Core.Path.{_≡_}
 use mathlib.Core.List.{List, [], _∷_, _++_}
 use Prim.Native.Nat.{ℕ, _≤_}
 use lib.ListN.{getD}
 use Rattle.octets.specs.Numbers.{zeros}
 
--- an address a of w octets is multicast or host loopback (01, Addresses)
+-- an address a of w octets is multicast or host loopback (RULES A1)
 pub data Unusable (w : ℕ) (a : List ℕ) : Type 0 where
   -- 127.0.0.0/8 (RFC 1122 §3.2.1.3)
   loopback4 : w ≡ 4 → getD a 0 0 ≡ 127 → Unusable w a

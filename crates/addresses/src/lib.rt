@@ -1,5 +1,5 @@
 // Address lists: which addresses are unusable, which are kept in order, how many those are, and whether any is to be dropped
-// (document 01, "Addresses"). Multicast and host loopback addresses are dropped when read and nowhere else: only reading calls
+// (RULES A1, A2). Multicast and host loopback addresses are dropped when read and nowhere else (RULES A3): only reading calls
 // `put_kept`; the writer asks `any_unusable` and refuses. Everything is over the width of an address, 4 or 16 octets.
 ghost use mathlib.Core.Path.{_≡_};
 ghost use Prim.Native.Nat.{_+_, _≤_, _<_};

@@ -19,7 +19,7 @@ pub data Parsed : Type 0 where
   bad : ℕ → Parsed
   fields : Fields → Parsed
 
--- a field runs past the body's end (01, "Numbers given back")
+-- a field runs past the body's end (RULES R20)
 abbrev pub short : Parsed
 short = bad fault.field
 
@@ -31,7 +31,7 @@ opening c l next =
     counted short (lengthWidth c) l (λ name l.
     next priority lifetime name l)))
 
--- carriers 1 and 2, after the name: nothing, or address length, addresses, parameters (RFC 9463 §3.1.6, §5.1, §4.1; 01, "Name only")
+-- carriers 1 and 2, after the name: nothing, or address length, addresses, parameters (RULES B1, B5; RFC 9463 §3.1.6, §5.1, §4.1)
 abbrev pub afterName : Carrier → ℕ → ℕ → List ℕ → List ℕ → Parsed
 afterName c priority lifetime name l =
     cond (eqb (length l) 0) (fields (nameOnly priority lifetime name))
@@ -47,7 +47,7 @@ abbrev pub padded : List ℕ → Fields → Parsed
 padded l f = cond (isPadding l) (fields f) (bad fault.padding)
 
 -- carrier 3, after the name: padding alone where fewer than 8 octets follow, else address length, addresses, parameter length, parameters,
--- padding (RFC 9463 §6.1; 01, "Name only")
+-- padding (RULES B5, B6; RFC 9463 §6.1)
 abbrev pub afterNamePadded : ℕ → ℕ → List ℕ → List ℕ → Parsed
 afterNamePadded priority lifetime name l =
     cond (ltb (length l) 8) (padded l (nameOnly priority lifetime name))

@@ -30,7 +30,7 @@ pub length-layout : (c : Carrier) (f : Fields) → length (layout c f) ≡ sizeO
 unfolding layout
 length-layout c f = size-at (formOf c) c f (f .full) refl refl
 
--- ---- carrier 3 (01, "10 + name octets, or 14 + name + addresses + parameters, rounded up to 8")
+-- ---- carrier 3: 10 + name octets, or 14 + name + addresses + parameters, rounded up to 8 (RULES B8)
 
 abbrev pub stated : Fields → ℕ
 stated f = cond (f .full) (14 + length (f .name) + length (f .addresses) + length (f .parameters)) (10 + length (f .name))
@@ -63,7 +63,7 @@ layout-possible c f = go (formOf c) refl
     go Padded e = rw (padded-router c e, length-layout Router f) (omega (arith, option-multiple f))
     go Text e = tt
 
--- ---- records within the limits (01, "The record sheet") fit their carrier
+-- ---- records within the limits (RULES L3, L4) fit their carrier
 
 -- in carriers 1 and 2 the address length has room for the addresses that a record may have
 address-room : (k n : ℕ) → k ≤ limit.addresses → (c : Carrier) → formOf c ≡ Wire → n ≡ k * addressWidth c → n < 256 ^ lengthWidth c

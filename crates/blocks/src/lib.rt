@@ -1,4 +1,4 @@
-// Blocks: where the fields of a block's body stand (document 01, "Block layouts"; in carrier 1 the body is one instance after its length).
+// Blocks: where the fields of a block's body stand (RULES B1; in carrier 1 the body is one instance after its length).
 // A body is split where it lies: the answer holds offsets and lengths, and nothing is copied. The faults given here are those of the
 // layout: a field past the end, and what is no padding. What priority, name, addresses and parameters may be is not looked at here.
 ghost use mathlib.Core.Path.{_≡_};

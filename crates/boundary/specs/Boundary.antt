@@ -1,4 +1,4 @@
--- K1 to K12 of document 01 ("Boundary pieces"): one statement over the table, by one computed test, and the fact at each entry. Assumes nothing.
+-- RULES K1 to K12: one statement over the table (RULES D12), by one computed test, and the fact at each entry. Assumes nothing.
 use mathlib.Core.Path.{_≡_, refl}
 use mathlib.Core.Bool.{true}
 use mathlib.Core.List.{[], _∷_, map}
@@ -46,7 +46,7 @@ unfolding readOf chosenOf frameFrom numberAt parse part number counted isPadding
     writeOf vetOf takeOf headOf same recordsFrom hasOf firstFault anyLarge octetsOf layout textOf dotsFrom cutOf pieces
 computed = refl
 
--- each piece is as the document says
+-- each piece is as its row says (RULES K1 to K12)
 pub boundary : All Holds table
 boundary = every-all good Holds good-holds table computed
 

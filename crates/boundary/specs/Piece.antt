@@ -1,5 +1,5 @@
--- What is said of a boundary piece (01, "Boundary pieces"): its octets, what reading them and writing their sheet give, and the sentences
--- that the document adds in words; and the statement of an entry. Assumes nothing: these are definitions.
+-- What is said of a boundary piece (RULES K1 to K12): its octets, what reading them and writing their sheet give, and the sentences
+-- that its row adds in words; and the statement of an entry. Assumes nothing: these are definitions.
 use mathlib.Core.Path.{_≡_}
 use mathlib.Core.List.{List, [], map}
 use Prim.Native.Nat.{ℕ, _-_, _≤_, _<_}
@@ -52,7 +52,7 @@ pub data Claim : Type 0 where
   enough : ℕ → Claim
 
 -- one boundary piece: its number, K1 to K12; octets read under a carrier number; what the reading gives; the records of its sheet; what writing
--- the sheet gives; and what else the document says
+-- the sheet gives; and what else its row says
 pub record Piece : Type 0 where
   pub k : ℕ
   pub carrier : ℕ

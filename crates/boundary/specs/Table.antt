@@ -1,5 +1,5 @@
--- The boundary pieces K1 to K12 of document 01 ("Boundary pieces") as one table. Octets stand as the document prints them, in hexadecimal;
--- what it gives in words is written out, and its further sentences are claims. Assumes nothing: these are definitions.
+-- The boundary pieces (RULES K1 to K12) as one table. Octets stand as they are printed there, in hexadecimal; what is given in words is
+-- written out, and further sentences are claims. Assumes nothing: these are definitions.
 use mathlib.Core.List.{List, [], _∷_, _++_}
 use Prim.Native.Nat.{ℕ}
 use Rattle.octets.specs.Numbers.{be, zeros}

@@ -1,4 +1,4 @@
--- A chosen carrier by 01's numbers ("Numbers given back"): 0, with the carrier's own number; or the number that refuses, since no carrier has
+-- A chosen carrier by the numbers given back (RULES R1, R42): 0, with the carrier's own number; or the number that refuses, since no carrier has
 -- the one given, which is 1 when an area is read and 42 where a sheet says it. Assumes nothing: these are definitions.
 use mathlib.Core.Path.{_≡_}
 use mathlib.Core.Logic.{_⊎_}

@@ -1,6 +1,5 @@
-// The five carriers (document 01, "Five carriers, by number") and what differs between them as data: one table, with a row for each
-// carrier. Lengths in octets and in units of eight are two types that are never mixed (document 01, "Block layouts"); they are
-// converted here alone, each way in one function.
+// The five carriers (RULES C1) and what differs between them as data: one table, with a row for each carrier. Lengths in octets and in
+// units of eight are two types that are never mixed (RULES B3); they are converted here alone, each way in one function.
 ghost use mathlib.Core.Path.{_≡_};
 ghost use Prim.Native.Nat.{_<_};
 ghost use lib.Dec.{eqb};
@@ -27,7 +26,7 @@ pub enum Chosen {
     Unknown,
 }
 
-// The form of a block's body (document 01, "Block layouts").
+// The form of a block's body (RULES B1).
 pub enum Form {
     // Carriers 1 and 2: the name in wire form, and alone or with addresses and parameters.
     Wire,

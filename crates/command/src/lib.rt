@@ -1,7 +1,7 @@
 // The command `dnr`: an area becomes a record sheet, a sheet becomes octets, and a sheet is shown as text or as JSON.
-// `execute` is the whole program: it takes the arguments, and its answer is the exit status (0 done, 1 refused by a number of document
-// 01, 2 anything else). A result is made whole in memory before any of it is written. What is read and what is written, no contract can say;
-// the work itself is that of `reading`, `writing` and `showing`.
+// `execute` is the whole program: it takes the arguments, and its answer is the exit status (0 done; 1 refused by a number, RULES R1 to
+// R44; 2 anything else). A result is made whole in memory before any of it is written. What is read and what is written, no contract can
+// say; the work itself is that of `reading`, `writing` and `showing`.
 mod help;
 
 ghost use Rattle.vetting.specs.Vetting.{vetOf};

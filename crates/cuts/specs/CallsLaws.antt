@@ -1,4 +1,4 @@
--- Demand 3, its second half, over what writing answers and over what the two calls return and leave: in carriers 2 to 5, the octets that were
+-- RULES D3, its second half, over what writing answers and over what the two calls return and leave: in carriers 2 to 5, the octets that were
 -- written cut after any number of them, and the part before the cut read under the sheet's carrier number. `IsSheet` names the carrier and the
 -- records of the sheet. Assumes nothing.
 use mathlib.Core.Path.{_≡_, refl, sym, ap₂, subst, subst⁻¹}

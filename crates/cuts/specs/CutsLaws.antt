@@ -1,4 +1,4 @@
--- Demand 3, its second half: in carriers 2 to 5, the octets of an accepted sheet cut after any number of octets, and the part before the cut
+-- RULES D3, its second half: in carriers 2 to 5, the octets of an accepted sheet cut after any number of octets, and the part before the cut
 -- read. Assumes nothing.
 use mathlib.Core.Path.{_≡_, refl, sym, ap, ap₂, _∙_}
 use mathlib.Core.Logic.{_⊎_, inl, inr}

@@ -1,5 +1,5 @@
--- What becomes of a body, of a block and of an area, and what reading answers, in terms that do not compute (demand 2; 01, Area walk, Numbers
--- given back). Assumes nothing: these are definitions.
+-- What becomes of a body, of a block and of an area, and what reading answers (RULES D2, W9, W10, T1, T2), stated as what is true of the octets,
+-- not as steps to take. It speaks of lists of numbers; that they are octets is a premise of the laws. Assumes nothing: these are definitions.
 use mathlib.Core.Path.{_≡_}
 use mathlib.Core.Bool.{true, false}
 use mathlib.Core.List.{List, [], _∷_}
@@ -24,7 +24,7 @@ use Rattle.reading.specs.Result.{Yield, discarded, yields, single, arrivals, di
 
 -- ---- a body (in carrier 1 one instance)
 
--- its fault, the first of 20, 29, 21 to 28, or the record that is kept of allowed fields
+-- its fault, the first of 20, 29, 21 to 28, or the record that is kept of allowed fields (RULES T2)
 pub data BodyIs (c : Carrier) (body : List ℕ) : Outcome → Type 0 where
   short : Short c body → BodyIs c body (faulty fault.field)
   misfilled : Misfilled c body → BodyIs c body (faulty fault.padding)
@@ -33,12 +33,13 @@ pub data BodyIs (c : Carrier) (body : List ℕ) : Outcome → Type 0 where
 
 -- ---- a block
 
--- joined data begin with an instance: a 16-bit length, and as many octets
+-- joined data begin with an instance: a 16-bit length, and as many octets (RULES B1)
 pub record Begins (joined body rest : List ℕ) : Type 0 where
   pub small : length body < 65536
   pub are : joined ≡ putCounted 2 body rest
 
--- the instances of joined data, one after another; the first with a fault gives the block's, and where an instance runs past the data it is 20
+-- the instances of joined data, one after another (RULES B4); the first with a fault gives the block's (RULES T2), and where an instance runs past
+-- the data it is 20 (RULES R20)
 pub data Instances : List ℕ → Yield → Type 0 where
   none : Instances [] (yields [])
   past : {joined : List ℕ} → (joined ≡ [] → ⊥) → ((body rest : List ℕ) → Begins joined body rest → ⊥) → Instances joined (discarded fault.field)
@@ -48,13 +49,13 @@ pub data Instances : List ℕ → Yield → Type 0 where
   one-more : {joined body rest : List ℕ} {r : Fields} {rs : List Fields} → Begins joined body rest → BodyIs Dhcp4 body (kept r) → Instances rest (yields rs)
       → Instances joined (yields (r ∷ rs))
 
--- in carriers 2 to 5 a block is one body; in carrier 1 it is one instance or more, and 20 where there is none
+-- in carriers 2 to 5 a block is one body (RULES W5 to W7); in carrier 1 it is one instance or more (RULES B1), and 20 where there is none (RULES R20)
 pub data BlockIs (c : Carrier) (block : List ℕ) : Yield → Type 0 where
   one-body : {o : Outcome} → isJoined c ≡ false → BodyIs c block o → BlockIs c block (single o)
   no-instance : isJoined c ≡ true → block ≡ [] → BlockIs c block (discarded fault.field)
   instances : {y : Yield} → isJoined c ≡ true → (block ≡ [] → ⊥) → Instances block y → BlockIs c block y
 
--- so of each block, in order
+-- so of each block, in order (RULES W9)
 pub data BlocksAre (c : Carrier) : List (List ℕ) → List Yield → Type 0 where
   none : BlocksAre c [] []
   more : {block : List ℕ} {blocks : List (List ℕ)} {y : Yield} {ys : List Yield} → BlockIs c block y → BlocksAre c blocks ys
@@ -62,12 +63,12 @@ pub data BlocksAre (c : Carrier) : List (List ℕ) → List Yield → Type 0 whe
 
 -- ---- an area
 
--- rs are the records as in the list, by rising priority; those of one priority in the order in which they came
+-- rs are the records of `came` by rising priority; records of one priority keep their order (RULES S5)
 pub record Arranged (came rs : List Fields) : Type 0 where
   pub rising : Sorted (λ (r : Fields). r .priority) rs
   pub stable : (p : ℕ) → keep (λ (r : Fields). r .priority) p rs ≡ keep (λ (r : Fields). r .priority) p came
 
--- an area of at most 40,960 octets, framed into blocks, and what each of them yields
+-- an area of at most 40,960 octets, framed into blocks, and what each of them yields (RULES L1, W1 to W9)
 pub record Readable (c : Carrier) (area : List ℕ) (ys : List Yield) (rs : List Fields) : Type 0 where
   pub short : length area ≤ limit.input
   pub bodies : List (List ℕ)
@@ -75,13 +76,13 @@ pub record Readable (c : Carrier) (area : List ℕ) (ys : List Yield) (rs : List
   pub blocks : BlocksAre c (blocksOf c bodies) ys
   pub arranged : Arranged (arrivals ys) rs
 
--- what a reading that is done gives: the sheet, the counts of the blocks, the fault of the first that is discarded
+-- what a reading that is done gives: the sheet, the counts of the blocks, the fault of the first that is discarded (RULES W10)
 abbrev pub gives : Carrier → List Yield → List Fields → Done
 gives c ys rs = record { sheet = sheetOf c rs; found = length ys; discarded = discardedIn ys; fault = firstFault ys }
 
 -- ---- the call
 
--- reading answers this under carrier number n, with an output buffer of `room` octets: 1, 2, 3, 4 and 5 in this order, or it is done
+-- reading answers this under carrier number n, with an output buffer of `room` octets: 1, 2, 3, 4 and 5 in this order, or it is done (RULES T1)
 pub data Answers (n : ℕ) (area : List ℕ) (room : ℕ) : Answer → Type 0 where
   no-carrier : ((c : Carrier) → numberOf c ≡ n → ⊥) → Answers n area room (refuse refusal.carrier)
   too-long : (c : Carrier) → numberOf c ≡ n → limit.input < length area → Answers n area room (refuse refusal.input)

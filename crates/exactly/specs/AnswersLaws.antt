@@ -1,4 +1,4 @@
--- What the blocks of an area yield, and what reading answers, is what `Answers` says and nothing else (demand 2). Assumes nothing.
+-- What the blocks of an area yield, and what reading answers, is what `Answers` says and nothing else (RULES D2). Assumes nothing.
 use mathlib.Core.Path.{_≡_, refl, sym, ap, ap₂, subst, _∙_}
 use mathlib.Core.Bool.{Bool, true, false, cond}
 use mathlib.Core.Logic.{_↔_}

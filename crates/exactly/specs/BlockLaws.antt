@@ -1,4 +1,4 @@
--- What becomes of a body, and of a block, is what `Answers` says and nothing else (demand 2). Assumes nothing.
+-- What becomes of a body, and of a block, is what `Answers` says and nothing else (RULES D2). Assumes nothing.
 use mathlib.Core.Path.{_≡_, refl, sym, ap, ap₂, subst, subst⁻¹, _∙_}
 use mathlib.Core.Bool.{Bool, true, false, cond}
 use mathlib.Core.Logic.{_↔_, _⊎_, inl, inr}

@@ -1,4 +1,4 @@
--- Demand 2 (00): a block yields records exactly if RFC 9463, 9464, 9460 and the limits allow it, and which records these are.
+-- RULES D2: a block yields records exactly if RFC 9463, 9464, 9460 and the limits allow it, and which records these are.
 -- Assumes nothing.
 use mathlib.Core.Path.{_≡_, refl, sym, ap, ap₂, subst, _∙_}
 use mathlib.Core.Bool.{true≢false}

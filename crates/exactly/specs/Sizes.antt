@@ -1,4 +1,4 @@
--- How many octets a sheet has that reading gives (01, "The record sheet"). Assumes nothing.
+-- How many octets a sheet has that reading gives (RULES L5). Assumes nothing.
 use mathlib.Core.Path.{_≡_, refl, subst}
 use mathlib.Core.Bool.{Bool, true, false, cond}
 use mathlib.Core.List.{List, [], _∷_, map}
@@ -127,10 +127,10 @@ read-within : (n : ℕ) (s : List ℕ) (room : ℕ) → Within room (readOf n s 
 unfolding readOf
 read-within n s room = chosen-within (chosenOf n) s room
 
--- a sheet that reading gives has at most 36,775 octets (01, "The record sheet")
+-- a sheet that reading gives has at most 36,775 octets (RULES L5)
 pub sheet-small : (n : ℕ) (s : List ℕ) (room : ℕ) (d : Done) → readOf n s room ≡ done d → length (d .sheet) ≤ limit.sheetSize
 sheet-small n s room d e = subst (Within room) e (read-within n s room)
 
--- so a buffer of 36,775 octets is never too short for it (01, "The record sheet")
+-- so a buffer of 36,775 octets is never too short for it (RULES L5)
 pub never-short : (n : ℕ) (s : List ℕ) (room : ℕ) → limit.sheetSize ≤ room → readOf n s room ≡ refuse refusal.room → ⊥
 never-short n s room enough e = let h : room < limit.sheetSize = subst (Within room) e (read-within n s room) refl in omega arith

@@ -1,5 +1,5 @@
--- An area is framed to bodies exactly if it is a run of options with these bodies, and is a fault exactly if it is none (01, Area walk);
--- once over the carrier. Assumes nothing.
+-- An area is framed to bodies exactly if it is a run of options with these bodies (RULES W1 to W8), and is a fault exactly if it is none
+-- (RULES R3); once over the carrier. Assumes nothing.
 use mathlib.Core.Path.{_≡_, refl, sym, ap, ap₂, _∙_, subst, subst⁻¹}
 use mathlib.Core.Bool.{Bool, true, false, true≢false, false≢true}
 use mathlib.Core.Logic.{_↔_}

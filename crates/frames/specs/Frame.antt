@@ -1,4 +1,4 @@
--- How an area is framed (01, Area walk), once over the carrier. Assumes nothing: these are definitions.
+-- How an area is framed (RULES W1 to W8), once over the carrier. Assumes nothing: these are definitions.
 use Prim.Native.Nat.{ℕ, zero, suc, _+_, _-_, _*_}
 use mathlib.Core.Bool.{Bool, true, false, cond}
 use mathlib.Core.List.{List, [], _∷_}
@@ -45,7 +45,7 @@ pub data Framed : Type 0 where
   fault : Framed
   framed : List (List ℕ) → Framed
 
--- its number (01, Numbers given back), and the bodies, none where it cannot be framed
+-- its number (RULES R3), and the bodies, none where it cannot be framed
 abbrev pub framedNumber : Framed → ℕ
 framedNumber fault = refusal.framing
 framedNumber (framed bs) = 0

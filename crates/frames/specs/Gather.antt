@@ -1,4 +1,4 @@
--- What is said of the options 162 of carrier 1, whose data are joined (01, Area walk; RFC 3396). Assumes nothing: these are definitions.
+-- What is said of the options 162 of carrier 1, whose data are joined (RULES W4; RFC 3396). Assumes nothing: these are definitions.
 use mathlib.Core.Path.{_≡_}
 use Prim.Native.Nat.{ℕ, _≤_}
 use mathlib.Core.List.{List, [], _∷_}

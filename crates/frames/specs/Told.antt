@@ -1,4 +1,4 @@
--- The answers of framing by 01's numbers ("Numbers given back"): 3 where a header or a body runs past the end or a carrier 3 length is 0, else
+-- The answers of framing by the numbers given back (RULES R3): 3 where a header or a body runs past the end or a carrier 3 length is 0, else
 -- 0; the values of each; and what they say of an area. Assumes nothing: these are definitions.
 use mathlib.Core.Path.{_≡_}
 use mathlib.Core.Logic.{_⊎_}

@@ -1,6 +1,6 @@
-// The framing of an area (document 01, "Area walk"): where each option begins and ends, and which are the carrier's own. One walk
-// for all five carriers, in which lengths in octets and in units of eight are never mixed. An area where a header or a body runs
-// past the end cannot be framed. In carrier 1 the bodies are joined here (RFC 3396). Nothing here looks inside a body.
+// The framing of an area (RULES W1 to W8): where each option begins and ends, and which are the carrier's own. One walk for all five
+// carriers, in which lengths in octets and in units of eight are never mixed (RULES B3). An area where a header or a body runs past the
+// end cannot be framed (RULES R3). In carrier 1 the bodies are joined here (RULES W4; RFC 3396). Nothing here looks inside a body.
 // The number of every answer, 3 or 0, is that of specs/Told.
 ghost use mathlib.Core.Path.{_≡_};
 ghost use mathlib.Core.Logic.{_↔_};

@@ -1,5 +1,5 @@
--- The first fault of a record's fields, 21 to 28 in that order (01, Numbers given back: "A block's fault is the first of 20, 29, 21 to
--- 28"; "Name only skips 24 to 28, and in carriers 1 to 3 also 23"). Assumes nothing: these are definitions.
+-- The first fault of a record's fields, 21 to 28 in that order (RULES T2); a name only skips 24 to 28, and in carriers 1 to 3 also 23
+-- (RULES T4). Assumes nothing: these are definitions.
 use mathlib.Core.Bool.{Bool, cond, not}
 use mathlib.Core.List.{List}
 use Prim.Native.Nat.{ℕ, _/_, _%_}

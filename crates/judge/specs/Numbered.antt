@@ -1,4 +1,4 @@
--- Which numbers the judge gives: 0, or 21 to 28 (01, Numbers given back). Assumes nothing.
+-- Which numbers the judge gives: 0, or 21 to 28 (RULES R21 to R28). Assumes nothing.
 use mathlib.Core.Path.{refl}
 use mathlib.Core.Bool.{Bool, true, false, cond, not}
 use mathlib.Core.Logic.{inl, inr}

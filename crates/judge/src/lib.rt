@@ -1,4 +1,4 @@
-// The one judge of a record's fields: the first of faults 21 to 28 (document 01, "Numbers given back"), for reading and for writing.
+// The one judge of a record's fields: the first of faults 21 to 28 (RULES T2, T5), for reading and for writing.
 // The two sides differ at two places: reading takes the name of carriers 4 and 5 as text, and asks at 25 whether an address is left;
 // writing asks there whether one is to be dropped. Nothing here drops an address.
 ghost use mathlib.Core.Path.{_≡_};

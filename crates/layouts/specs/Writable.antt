@@ -1,4 +1,4 @@
--- Records whose fields have room in their carrier, and the octets that they take by their lengths alone (01, "The record sheet", "Block layouts").
+-- Records whose fields have room in their carrier, and the octets that they take by their lengths alone (RULES L3, L4, B1).
 -- Assumes nothing: these are definitions.
 use mathlib.Core.Path.{_≡_}
 use mathlib.Core.Bool.{Bool, true, false, cond}
@@ -12,7 +12,7 @@ use Rattle.carriers.specs.declared.Form.{Form}
 use Rattle.carriers.specs.Carriers.{headerOf, addressWidth, formOf, lifetimeWidth, textIn, asText}
 use Rattle.blocks.specs.Block.{Fields, sizeBy, optionSize}
 
--- the full form, with addresses of w octets: one address or more, and both within their limits (01, 23 and 24)
+-- the full form, with addresses of w octets: one address or more, and both within their limits (RULES R23, R24)
 pub record WritableTail (w : ℕ) (r : Fields) : Type 0 where
   pub some : 0 < length (r .addresses)
   pub whole : length (r .addresses) % w ≡ 0
@@ -27,7 +27,7 @@ pub record Writable (c : Carrier) (r : Fields) : Type 0 where
   pub short : length (r .name) ≤ 255
   pub tail : r .full ≡ true → WritableTail (addressWidth c) r
   pub name-only : r .full ≡ false → (r .addresses ≡ []) × (r .parameters ≡ []) × (asText c ≡ false)
-  pub units : c ≡ Router → optionSize r ≤ limit.option  -- 44
+  pub units : c ≡ Router → optionSize r ≤ limit.option  -- RULES R44
 
 -- ---- octets by lengths: a name of n octets in wire form, a of addresses, p of parameters
 

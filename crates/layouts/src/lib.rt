@@ -1,4 +1,4 @@
-// Layouts: a record's option, attribute or instance written into a lent buffer, in each carrier (document 01, "Block layouts").
+// Layouts: a record's option, attribute or instance written into a lent buffer, in each carrier (RULES B1).
 // A record comes as a sheet holds it, the name in wire form, within the limits. Nothing is judged here: a record that may not be
 // written, or has no room, is kept away by the contracts.
 ghost use mathlib.Core.Path.{_≡_};

@@ -11,7 +11,7 @@ use Rattle.arguments.specs.Wrong as wrong
 abbrev pub countOf : List ℕ → ℕ → List ℕ
 countOf before n = before ++ decimalOf n
 
--- a number of document 01, its words and a line break
+-- a number given back (RULES R1 to R44), its words and a line break
 unfoldable pub reasonOf : ℕ → List ℕ
 reasonOf n = decimalOf n ++ (ascii ": " ++ (wordsOf n ++ ascii "\n"))
 

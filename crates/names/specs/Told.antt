@@ -1,5 +1,5 @@
--- An answer about a name by 01's numbers ("Numbers given back"): 0, or fault 22 with the place of the first bad octet; and what it claims.
--- Assumes nothing: these are definitions.
+-- An answer about a name by the numbers given back: 0, or fault 22 (RULES R22) with the place of the first bad octet (RULES N5); and what it
+-- claims. Assumes nothing: these are definitions.
 use mathlib.Core.Path.{_≡_}
 use mathlib.Core.Logic.{_⊎_}
 use mathlib.Core.List.{List}

@@ -15,22 +15,22 @@ pub data State : Type 0 where
   root : State  -- after the root octet
 
 -- A label of x octets whose length octet stands at a place. RFC 1035 §2.3.4: x is at most 63, and the name at most 255 octets, so
--- that the label and a root octet after it end within them. A pointer (RFC 1035 §4.1.4) is no length: 01, Names, "no compression"
+-- that the label and a root octet after it end within them. A pointer (RFC 1035 §4.1.4) is no length: there is no compression (RULES N1)
 abbrev pub labelFits : ℕ → ℕ → Bool
 labelFits at x = leb x 63 && leb (at + x) 253
 
--- A length octet x at a place. RFC 1035 §3.1: 0 is the root octet, which ends a name; 01, Names: not at the place 0, since a name has 3 octets or more
+-- A length octet x at a place. RFC 1035 §3.1: 0 is the root octet, which ends a name; RULES N1: not at the place 0, since a name has 3 octets or more
 abbrev pub lengthOctet : ℕ → ℕ → Move State
 lengthOctet at x =
     cond (eqb x 0)
     (cond (eqb at 0) stop (go root))
     (cond (labelFits at x) (go (first (x - 1))) stop)
 
--- House rule (01, Names): x is a hyphen, and is not the last of the `left` octets of its label that are to come
+-- House rule (RULES N2): x is a hyphen, and is not the last of the `left` octets of its label that are to come
 abbrev pub hyphenFits : ℕ → ℕ → Bool
 hyphenFits left x = eqb x 45 && ltb 1 left
 
--- House rule (01, Names): an octet x in a label, not its first, with `left` octets to come, x among them, is a letter, a digit, or a
+-- House rule (RULES N2): an octet x in a label, not its first, with `left` octets to come, x among them, is a letter, a digit, or a
 -- hyphen that is not the last
 abbrev pub inside : ℕ → ℕ → Move State
 inside left x =
@@ -38,14 +38,14 @@ inside left x =
     (go (letter (left - 1)))
     (cond (hyphenFits left x) (go (hyphen (left - 1))) stop)
 
--- House rule (01, Names): a label's first octet is a letter or a digit. 01, Names: nothing stands after the root octet
+-- House rule (RULES N2): a label's first octet is a letter or a digit. RULES N1: nothing stands after the root octet
 abbrev pub step : State → ℕ → ℕ → Move State
 step (letter left) at x = cond (eqb left 0) (lengthOctet at x) (inside left x)
 step (hyphen left) at x = inside left x
 step (first left) at x = cond (alnum x) (go (letter left)) stop
 step root at x = stop
 
--- 01, Names: one final root octet, and the name fills its length exactly
+-- RULES N1: one final root octet, and the name fills its length exactly
 abbrev pub ended : State → Bool
 ended (letter left) = false
 ended (hyphen left) = false

@@ -1,4 +1,4 @@
-// Names of the DNS in wire form (document 01, Names): whether a slice is one, and the place at which it stops being one.
+// Names of the DNS in wire form (RULES N1, N2): whether a slice is one, and the place at which it stops being one (RULES N5).
 // A name is labels of letters, digits and hyphens, each after its length octet, and the root octet at the very end, 3 to 255 octets.
 // The two functions that walk a label call each other over the falling rest of the name, handed on as the number of octets left, and
 // answer a number: so compiled, a call is a jump. Nothing here changes a name, folds its case or follows a compression pointer.

@@ -1,4 +1,4 @@
-// The numbers given back (document 01, "Numbers given back"), each under a name. This is the one place where code has them as digits, but
+// The numbers given back (RULES R1 to R44), each under a name. This is the one place where code has them as digits, but
 // for the table of `words`, which is proved to have the same. `specs/` has the same names for definitions and contracts (there `recordSize`
 // and `sheetSize` for RECORD and SHEET).
 
@@ -72,7 +72,7 @@ impl Fault {
     pub const PADDING: usize = 29;
 }
 
-// The limits (house rules, document 01, "The record sheet").
+// The limits, house rules (RULES L1 to L6).
 pub struct Limit();
 
 impl Limit {

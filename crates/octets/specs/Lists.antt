@@ -1,4 +1,4 @@
--- Lists that several layers speak of. Assumes nothing: these are definitions.
+-- Lists that several layers speak of: no rule is stated here. Assumes nothing: these are definitions.
 use mathlib.Core.Bool.{Bool, true, false, _&&_}
 use mathlib.Core.List.{List, [], _∷_, _++_}
 use Prim.Native.Nat.{ℕ}

@@ -1,6 +1,6 @@
 // Octets: numbers most significant octet first, whether two runs are the same, and writing into a lent buffer.
 // Every other crate reads and writes numbers through the functions here, so that the order of octets is stated in one place
-// (document 01: "All numbers are most significant octet first"). What a write leaves in the whole buffer is one record, `Wrote`.
+// (RULES C2). What a write leaves in the whole buffer is one record, `Wrote`.
 // Nothing here knows of carriers, records or limits.
 ghost use mathlib.Core.Path.{_≡_};
 ghost use Prim.Native.Nat.{_+_, _*_, _^_, _≤_, _<_, min};

@@ -1,6 +1,5 @@
-// Pieces: joined instances as options 162 (document 01, "Writing emits records in sheet order"): 255 octets each and a last one of 1 to
-// 255, nothing for no octets, no code 255. Joined octets are cut in the buffer where they stand, from the front, so that none is overwritten
-// before it has moved.
+// Pieces: joined instances as options 162 (RULES E2): 255 octets each and a last one of 1 to 255, nothing for no octets, no code 255.
+// Joined octets are cut in the buffer where they stand, from the front, so that none is overwritten before it has moved.
 ghost use mathlib.Core.Path.{_≡_};
 ghost use Prim.Native.Nat.{_+_, _≤_, _<_};
 ghost use lib.ListN.{length, take, drop};

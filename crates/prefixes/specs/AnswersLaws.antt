@@ -1,5 +1,5 @@
--- Demand 3, its first half, over what writing answers and over what the calls leave: "Take any two sheets of one carrier that the writer accepts
--- when it has room". `IsSheet` names the carrier and the records of the sheets. Assumes nothing.
+-- RULES D3, its first half, over what writing answers and over what the calls leave: "Take any two sheets of one carrier that writing accepts".
+-- `IsSheet` names the carrier and the records of the sheets. Assumes nothing.
 use mathlib.Core.Path.{_≡_, ap}
 use mathlib.Core.Logic.{inl, _↔_}
 use mathlib.Core.List.{List}

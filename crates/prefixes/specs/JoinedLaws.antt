@@ -1,6 +1,5 @@
--- The joined octets of which demand 3 speaks: those that `IsJoined` finds in the octets of records are the records one after another, and
--- there are no others (01, Evidence on delivery: "Joined octets are the records' instances one after another, none for no records").
--- Assumes nothing.
+-- The joined octets of which RULES D3 speaks: those that `IsJoined` finds in the octets of records are the records one after another, and
+-- there are no others (RULES D6: "the records' instances one after another, none for no records"). Assumes nothing.
 use mathlib.Core.Path.{_≡_, refl, sym, ap, _∙_}
 use mathlib.Core.Logic.{_↔_, Iff·rfl}
 use mathlib.Core.List.{List, [], _∷_}

@@ -1,4 +1,4 @@
--- Demand 3, its first half: of two sheets of one carrier that writing accepts, the octets of the first are a leading part of the second's
+-- RULES D3, its first half: of two sheets of one carrier that writing accepts, the octets of the first are a leading part of the second's
 -- exactly if the first sheet's records are the first records of the second, in order. In carrier 1 these are the joined octets before they
 -- are cut into options. Assumes nothing.
 use mathlib.Core.Path.{_≡_, sym, ap, ap₂, _∙_}

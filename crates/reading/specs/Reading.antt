@@ -1,4 +1,4 @@
--- Reading (01, Area walk; Numbers given back): what an area yields under a carrier, the answer of the call, and the sheet it writes.
+-- Reading (RULES W9, W10, T1): what an area yields under a carrier, the answer of the call, and the sheet it writes.
 -- Assumes nothing: these are definitions.
 use mathlib.Core.Bool.{cond}
 use mathlib.Core.List.{List, [], _∷_, map}

@@ -10,34 +10,37 @@ use Rattle.blocks.specs.Block.{Fields}
 use Rattle.records.specs.Records.{Outcome, faulty, kept}
 use Rattle.reading.specs.declared.Reading.{Reading}
 
--- a block with a fault is discarded whole
+-- what a block yields: the number of its fault, or its records (RULES W9)
 pub data Yield : Type 0 where
   discarded : ℕ → Yield
   yields : List Fields → Yield
 
+-- a block that is one body yields what that body does (RULES W5 to W7)
 abbrev pub single : Outcome → Yield
 single (faulty k) = discarded k
 single (kept r) = yields (r ∷ [])
 
+-- a block with a fault brings no record (RULES T2)
 abbrev pub recordsIn : Yield → List Fields
 recordsIn (discarded k) = []
 recordsIn (yields rs) = rs
 
--- the records of all blocks, in order of arrival
+-- the records of all blocks, in order of arrival (RULES S5)
 abbrev pub arrivals : List Yield → List Fields
 arrivals [] = []
 arrivals (y ∷ ys) = recordsIn y ++ arrivals ys
 
+-- 1 for a block that is discarded (RULES W9)
 abbrev pub discards : Yield → ℕ
 discards (discarded k) = 1
 discards (yields rs) = 0
 
--- how many blocks are discarded
+-- how many blocks are discarded (RULES W10)
 abbrev pub discardedIn : List Yield → ℕ
 discardedIn [] = 0
 discardedIn (y ∷ ys) = discards y + discardedIn ys
 
--- the first discarded block's fault, or 0
+-- the first discarded block's fault, or 0 (RULES W10)
 abbrev pub orFault : Yield → ℕ → ℕ
 orFault (discarded k) later = k
 orFault (yields rs) later = later
@@ -46,33 +49,33 @@ abbrev pub firstFault : List Yield → ℕ
 firstFault [] = 0
 firstFault (y ∷ ys) = orFault y (firstFault ys)
 
--- what a reading that is done gives back, and its sheet
+-- what a reading that is done gives back, and its sheet (RULES W10)
 pub record Done : Type 0 where
   pub sheet : List ℕ
   pub found : ℕ
   pub discarded : ℕ
   pub fault : ℕ
 
--- a sheet and the blocks found, of which none is discarded
+-- a sheet and the blocks found, of which none is discarded (RULES W10)
 abbrev pub faultless : List ℕ → ℕ → Done
 faultless sheet found = record { sheet = sheet; found = found; discarded = 0; fault = 0 }
 
--- a refusal's number, or what is done
+-- a refusal's number, or what is done (RULES T6, W10)
 pub data Answer : Type 0 where
   refuse : ℕ → Answer
   done : Done → Answer
 
--- what it returns: a refusal's number and zeros; or 0, the sheet's length and the blocks' numbers
+-- what it returns: a refusal's number and zeros; or 0, the sheet's length and the blocks' numbers (RULES T6, W10)
 abbrev pub told : Answer → Reading
 told (refuse k) = record { number = k; length = 0; found = 0; discarded = 0; fault = 0 }
 told (done d) = record { number = 0; length = length (d .sheet); found = d .found; discarded = d .discarded; fault = d .fault }
 
--- what the buffer then holds: a refusal leaves it as it was, and past the sheet's length it is unchanged
+-- what the buffer then holds: a refusal leaves it as it was, and past the sheet's length it is unchanged (RULES T6, T7)
 abbrev pub left : Answer → List ℕ → List ℕ
 left (refuse k) out = out
 left (done d) out = over 0 (d .sheet) out
 
--- every number that the call returns, and the whole buffer after it
+-- every number that the call returns, and the whole buffer after it (RULES D10)
 pub record Reads (a : Answer) (out : List ℕ) (r : Reading) (out′ : List ℕ) : Type 0 where
   pub numbers : r ≡ told a
   pub leaves : out′ ≡ left a out

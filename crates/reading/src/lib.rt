@@ -1,7 +1,7 @@
-// Reading: an area under a carrier becomes a record sheet (document 01, "Reading", "Area walk", "Numbers given back").
+// Reading: an area under a carrier becomes a record sheet (RULES C3, W9, W10).
 // The area is walked once. In carrier 1 with several options 162 it is walked to the second of them, where something stands before the first
 // once more from there to the second, and then from the first on to join them. Each body is examined as it is met, and the places of at most 16
-// kept bodies are remembered. Only when the answer is 0 are they ordered and written. The tests stand in the order 1, 2, 3, 4, 5.
+// kept bodies are remembered. Only when the answer is 0 are they ordered and written. The tests stand in the order 1, 2, 3, 4, 5 (RULES T1).
 ghost use mathlib.Core.Path.{_≡_};
 ghost use mathlib.Core.Bool.{true};
 ghost use mathlib.Core.List.{[], _∷_};

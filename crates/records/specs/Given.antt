@@ -1,4 +1,4 @@
--- How fields are given to `put_fields`, which of them it takes, and what it writes (01, "The record sheet"). Assumes nothing: these are definitions.
+-- How fields are given to `put_fields`, which of them it takes, and what it writes (RULES S2). Assumes nothing: these are definitions.
 use mathlib.Core.Path.{_≡_}
 use mathlib.Core.Bool.{true}
 use mathlib.Core.List.{List}

@@ -1,4 +1,4 @@
--- Demand 2, last sentence: the octets defined for an accepted sheet, read with room for it, give the sheet back; with less room, refusal 5.
+-- RULES D2, its last sentence: the octets defined for an accepted sheet, read with room for it, give the sheet back; with less room, refusal 5.
 -- Assumes nothing.
 use mathlib.Core.Path.{_≡_, sym, ap, ap₂, subst, _∙_}
 use mathlib.Core.Bool.{Bool, cond}

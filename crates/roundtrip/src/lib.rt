@@ -1,1 +1,1 @@
-// Demand 2's last sentence: with room for it, reading the octets defined for an accepted sheet gives the sheet back. Specifications only.
+// RULES D2, its last sentence: with room for it, reading the octets defined for an accepted sheet gives the sheet back. Specifications only.

@@ -1,4 +1,4 @@
--- A record sheet, house edition 1 (01, The record sheet). Assumes nothing: these are definitions.
+-- A record sheet, edition 1 (RULES S1 to S3). Assumes nothing: these are definitions.
 use mathlib.Core.List.{List, [], _∷_, _++_, map}
 use Prim.Native.Nat.{ℕ}
 use lib.ListN.{length}
@@ -9,15 +9,15 @@ use Rattle.carriers.specs.Carriers.{numberOf}
 use Rattle.blocks.specs.Block.{Fields}
 use Rattle.records.specs.Records.{recordOf}
 
--- the three letters RSV
+-- the three letters RSV (RULES S1)
 abbrev pub letters : List ℕ
 letters = 82 ∷ 83 ∷ 86 ∷ []
 
--- the version of the house edition
+-- the version, which is this edition's number (RULES S1)
 abbrev pub edition : ℕ
 edition = 1
 
--- octets of the header, and where version, carrier and record count stand in it
+-- octets of the head, and where version, carrier and record count stand in it (RULES S1)
 abbrev pub frontSize : ℕ
 frontSize = 7
 
@@ -30,13 +30,14 @@ carrierAt = 5
 abbrev pub countAt : ℕ
 countAt = 6
 
--- header, 7 octets: letters, 16-bit version, carrier, record count
+-- the head, 7 octets: letters, 16-bit version, carrier, record count (RULES S1)
 unfoldable pub frontOf : Carrier → ℕ → List ℕ
 frontOf c count = letters ++ (be 2 edition ++ (be 1 (numberOf c) ++ be 1 count))
 
--- the records' octets one after another; nothing follows the last
+-- the records' octets one after another; nothing follows the last (RULES S3)
 abbrev pub recordsOf : Carrier → List Fields → List ℕ
 recordsOf c rs = flat (map (recordOf c) rs)
 
+-- a sheet: the head, and the records (RULES S1 to S3)
 unfoldable pub sheetOf : Carrier → List Fields → List ℕ
 sheetOf c rs = frontOf c (length rs) ++ recordsOf c rs

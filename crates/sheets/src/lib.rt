@@ -1,4 +1,4 @@
-// The head of a record sheet, house edition 1 (document 01, "The record sheet"): the letters RSV, the version, the carrier and the
+// The head of a record sheet, edition 1 (RULES S1): the letters RSV, the version, the carrier and the
 // record count. The letters and the version stand here once, for writing a sheet's head and for comparing when a sheet is taken.
 ghost use Prim.Native.Nat.{_≤_};
 ghost use lib.ListN.{length};

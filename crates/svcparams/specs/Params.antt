@@ -1,6 +1,5 @@
--- The first fault of a field of service parameters: 16-bit keys, 16-bit lengths and values, one after another (01, Parameters;
--- RFC 9460 §2.2). The order of faults over the whole field: tiling and keys, then hints, then values (01, "A block's fault is the first
--- of"). Assumes nothing: these are definitions.
+-- The first fault of a field of service parameters: 16-bit keys, 16-bit lengths and values, one after another (RULES P1; RFC 9460 §2.2). The
+-- order of faults over the whole field: tiling and keys, then hints, then values (RULES T3). Assumes nothing: these are definitions.
 use Prim.Native.Nat.{ℕ, zero, suc, _+_, _-_, _%_}
 use mathlib.Core.Bool.{Bool, true, false, cond, not, _&&_, _||_}
 use mathlib.Core.List.{List, [], _∷_}
@@ -57,11 +56,11 @@ unfoldable pub has : ℕ → List ℕ → Bool
 has k [] = false
 has k (x ∷ xs) = eqb x k || has k xs
 
--- keys rise strictly and the invalid key is refused (01, Parameters; RFC 9460 §2.2, §14.3.2)
+-- keys rise strictly and the invalid key is refused (RULES P2; RFC 9460 §2.2, §14.3.2)
 abbrev pub ordered : ℕ → List ℕ → Bool
 ordered least ks = rising least ks && not (has key.invalid ks)
 
--- address hints are refused: the addresses stand in a field of their own (01, Parameters; RFC 9463 §3.1.8)
+-- address hints are refused: the addresses stand in a field of their own (RULES P3; RFC 9463 §3.1.8)
 abbrev pub isHint : ℕ → Bool
 isHint k = eqb k key.ipv4hint || eqb k key.ipv6hint
 
@@ -75,7 +74,7 @@ unfoldable pub allIn : List ℕ → List ℕ → Bool
 allIn [] ks = true
 allIn (w ∷ ws) ks = has w ks && allIn ws ks
 
--- mandatory: a non-empty list of 16-bit keys, strictly rising, without 0, each among the keys ks (01, Parameters; RFC 9460 §8)
+-- mandatory: a non-empty list of 16-bit keys, strictly rising, without 0, each among the keys ks (RULES P4; RFC 9460 §8)
 unfoldable pub mandatoryGood : List ℕ → List ℕ → Bool
 mandatoryGood v ks = not (eqb (length v) 0) && eqb (length v % 2) 0 && rising 1 (words v) && allIn (words v) ks
 
@@ -86,12 +85,12 @@ stringsFrom (suc k) [] = false
 stringsFrom zero (x ∷ xs) = not (eqb x 0) && stringsFrom x xs
 stringsFrom (suc k) (x ∷ xs) = stringsFrom k xs
 
--- alpn: one or more strings (01, Parameters; RFC 9460 §7.1.1)
+-- alpn: one or more strings (RULES P5; RFC 9460 §7.1.1)
 unfoldable pub alpnGood : List ℕ → Bool
 alpnGood v = not (eqb (length v) 0) && stringsFrom 0 v
 
--- the value v of the key k, where ks are the keys of the same parameters: no-default-alpn is empty (RFC 9460 §7.1), port has 2 octets
--- (§7.2), and the value of any other key is carried as it is
+-- the value v of the key k, where ks are the keys of the same parameters: no-default-alpn is empty (RULES P6; RFC 9460 §7.1), port has 2 octets
+-- (RULES P7; RFC 9460 §7.2), and the value of any other key is carried as it is (RULES P8)
 unfoldable pub valueGood : ℕ → List ℕ → List ℕ → Bool
 valueGood k v ks =
     cond (eqb k key.mandatory) (mandatoryGood v ks)

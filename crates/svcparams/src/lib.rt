@@ -1,4 +1,4 @@
-// Service parameters (SvcParams, RFC 9460) as document 01 narrows them: the first fault of a field of them, as a number of 01.
+// Service parameters (SvcParams, RFC 9460) as RULES P1 to P8 narrow them: the first fault of a field of them, as a number (RULES R26 to R28).
 // A field is parameters one after another, each a 16-bit key, a 16-bit length and a value; it may be empty. Tiling and the order of keys
 // are decided over the whole field first, then address hints, then values. The values of keys without a rule are carried as they are.
 // Nothing here changes or writes parameters.

@@ -1,6 +1,5 @@
--- Where the fields of one record stand in a sheet, by its lengths and its mode alone (01, The record sheet: "Each record: priority 2,
--- lifetime 4, mode 1, name length 1, name; in mode 1 also address count 1, addresses, parameter length 2, parameters"). Assumes nothing:
--- these are definitions.
+-- Where the fields of one record stand in a sheet, by its lengths and its mode alone (RULES S2: priority 2, lifetime 4, mode 1, name length 1,
+-- name; in mode 1 also address count 1, addresses, parameter length 2, parameters). Assumes nothing: these are definitions.
 use mathlib.Core.Path.{_≡_}
 use mathlib.Core.Bool.{true, false, cond}
 use mathlib.Core.List.{List}

@@ -1,5 +1,5 @@
--- Taking a sheet (01, The record sheet; Numbers given back: "Writing checks 2, 40, 41, 42, 4, 43"): any octets are refused by number, or
--- are a carrier and its records. Assumes nothing: these are definitions.
+-- Taking a sheet (RULES S1 to S5; the tests 2, 40, 41, 42, 4, 43 of RULES T5): any octets are refused by number, or are a carrier and its
+-- records. Assumes nothing: these are definitions.
 use mathlib.Core.Bool.{Bool, cond, not, _&&_}
 use mathlib.Core.List.{List, [], _∷_}
 use Prim.Native.Nat.{ℕ, zero, suc, _*_}

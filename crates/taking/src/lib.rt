@@ -1,6 +1,6 @@
-// Taking a record sheet apart (document 01, "The record sheet"): the tests of its head (2, 40, 41), of its carrier (42) and of its records
-// (4, 43), in this order, before anything is written from a sheet. `take` says which number refuses the octets, or the sheet's carrier and how
-// many records it has; `record_at` says where the fields of one record stand, so that a caller goes through a taken sheet from its head's end on
+// Taking a record sheet apart (RULES S1 to S5): the tests of its head (2, 40, 41), of its carrier (42) and of its records (4, 43), in this
+// order (RULES T5), before anything is written from a sheet. `take` says which number refuses the octets, or the sheet's carrier and how many
+// records it has; `record_at` says where the fields of one record stand, so that a caller goes through a taken sheet from its head's end on
 // without copying.
 // Here stand only the sheet's form, its order and its lifetimes: names, addresses and parameters are not looked at.
 ghost use mathlib.Core.Path.{_≡_};

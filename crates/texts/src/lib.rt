@@ -1,4 +1,4 @@
-// Names as text, as carriers 4 and 5 have them (document 01, "Names": the labels joined by dots, no final dot, 1 to 253 octets), and
+// Names as text, as carriers 4 and 5 have them (RULES N4: the labels joined by dots, without a final dot, 1 to 253 octets), and
 // the two conversions between a name's text and its wire form, which the record sheet holds.
 // The check answers the place of the first octet at which no acceptable name can continue. The label rule itself is the crate `names`'s.
 // A conversion judges nothing: it takes any octets that fit, and its laws say what holds of acceptable ones.

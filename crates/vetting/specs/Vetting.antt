@@ -1,5 +1,5 @@
--- Vetting a sheet (01, Numbers given back: "Writing checks 2, 40, 41, 42, 4, 43, then 21 to 28 record by record, then 44, then 5"): the one place where a
--- sheet's records are tested, up to 28; and what else the call returns of a sheet that passes, for 44 and 5. Assumes nothing: these are definitions.
+-- Vetting a sheet (RULES T5: 2, 40, 41, 42, 4, 43, then 21 to 28 record by record, then 44, then 5): the one place where a sheet's records are
+-- tested, up to 28; and what else the call returns of a sheet that passes, for 44 and 5. Assumes nothing: these are definitions.
 use mathlib.Core.Bool.{Bool, false, cond, _||_}
 use mathlib.Core.List.{List, [], _∷_}
 use Prim.Native.Nat.{ℕ}

@@ -1,4 +1,4 @@
--- The numbers given back, in words (01, "Numbers given back"). Assumes nothing: these are definitions.
+-- The numbers given back, in words (RULES R0 to R44). Assumes nothing: these are definitions.
 use Prim.Native.Nat.{ℕ}
 use mathlib.Core.Bool.{cond}
 use mathlib.Core.List.{List, [], _∷_}
@@ -7,7 +7,7 @@ use Rattle.numbers.specs.Refusal as refusal
 use Rattle.numbers.specs.Fault as fault
 use Rattle.chars.specs.Ascii.{ascii}
 
--- a number of document 01 and its words
+-- a number given back and its words
 pub record Worded : Type 0 where
   pub number : ℕ
   pub words : List ℕ

@@ -1,4 +1,4 @@
-// The numbers given back, in words (document 01, "Numbers given back"), and the lookup of a number in any such table.
+// The numbers given back, in words (RULES R0 to R44), and the lookup of a number in any such table.
 ghost use mathlib.Core.Path.{_≡_};
 ghost use Prim.Native.Nat.{_+_, _≤_};
 ghost use lib.ListN.{length, drop};

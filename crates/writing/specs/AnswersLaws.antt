@@ -1,4 +1,4 @@
--- What a call of `write` returns and leaves is what the answers that stand say, and nothing else (demand 2). Assumes nothing.
+-- What a call of `write` returns and leaves is what the answers that stand say, and nothing else (RULES D2). Assumes nothing.
 use mathlib.Core.Path.{refl}
 use mathlib.Core.Logic.{_↔_}
 use mathlib.Core.List.{List}

@@ -1,5 +1,5 @@
--- Demand 1, over the contract of writing: a refusal gives its number alone and leaves every octet of the buffer, and a result leaves every octet
--- past its length. Assumes nothing.
+-- RULES D1, over the contract of writing: a refusal gives its number alone and leaves every octet of the buffer (RULES T6), and a result leaves
+-- every octet past its length (RULES T7). Assumes nothing.
 use mathlib.Core.Path.{_≡_, sym, ap, _∙_}
 use mathlib.Core.List.{List}
 use Prim.Native.Nat.{ℕ}

@@ -17,18 +17,19 @@ use Rattle.taking.specs.Sheet.{IsHead, IsSheet}
 use Rattle.written.specs.Octets.{octetsOf, Answer, refuse, written}
 use Rattle.written.specs.Accepted.{Sized, Accepted}
 
--- s has the octets of a head at least, and begins with the letters RSV
+-- s has the octets of a head at least, and begins with the letters RSV (RULES R40)
 pub record Lettered (s : List ℕ) : Type 0 where
   pub rest : List ℕ
   pub is : s ≡ letters ++ rest
   pub enough : frontSize ≤ length s
 
--- k is the first fault, 21 to 28, of the first record that has one
+-- k is the first fault, 21 to 28, of the first record that has one (RULES T5)
 pub data FirstFault (c : Carrier) : List Fields → ℕ → Type 0 where
   here : {r : Fields} {rs : List Fields} {k : ℕ} → FirstBroken Writing c r k → (k ≡ 0 → ⊥) → FirstFault c (r ∷ rs) k
   later : {r : Fields} {rs : List Fields} {k : ℕ} → Allowed Writing c r → FirstFault c rs k → FirstFault c (r ∷ rs) k
 
--- writing answers this to s with an output buffer of `room` octets: 2, 40, 41, 42, 4, 43, 21 to 28 record by record, 44 and 5 in this order, or the octets
+-- writing answers this to s with an output buffer of `room` octets: 2, 40, 41, 42, 4, 43, 21 to 28 record by record, 44 and 5 in this order, or
+-- the octets (RULES T5)
 pub data Answers (s : List ℕ) (room : ℕ) : Answer → Type 0 where
   too-long : limit.input < length s → Answers s room (refuse refusal.input)
   no-letters : length s ≤ limit.input → (Lettered s → ⊥) → Answers s room (refuse refusal.sheet)

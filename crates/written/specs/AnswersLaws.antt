@@ -1,4 +1,4 @@
--- What writing answers is what `Answers` says and nothing else (demand 2). Assumes nothing.
+-- What writing answers is what `Answers` says and nothing else (RULES D2). Assumes nothing.
 use mathlib.Core.Path.{_≡_, refl, sym, ap, subst, subst⁻¹, _∙_}
 use mathlib.Core.Logic.{_⊎_, inl, inr, _↔_}
 use mathlib.Core.Bool.{Bool, true, false, true≢false}

@@ -1,5 +1,5 @@
--- Writing (01, Numbers given back: "Writing checks 2, 40, 41, 42, 4, 43, then 21 to 28 record by record, then 44, then 5"; "Writing emits
--- records in sheet order"): the one set of octets defined for a sheet, and the answer of the call. Assumes nothing: these are definitions.
+-- Writing (RULES T5: 2, 40, 41, 42, 4, 43, then 21 to 28 record by record, then 44, then 5; RULES E1: in the sheet's order): the one set of octets
+-- defined for a sheet, and the answer of the call. Assumes nothing: these are definitions.
 use mathlib.Core.Bool.{cond}
 use mathlib.Core.List.{List}
 use Prim.Native.Nat.{ℕ}
