@@ -106,6 +106,10 @@ sizeOf c f = sizeBy (formOf c) c (f .full) (length (f .name)) (length (f .addres
 abbrev pub optionSize : Fields → ℕ
 optionSize f = headerOf Router + sizeOf Router f
 
+-- octets of an option of carrier 3 before it is rounded: 10 + name, or 14 + name + addresses + parameters (RULES B8)
+abbrev pub stated : Fields → ℕ
+stated f = cond (f .full) (14 + length (f .name) + length (f .addresses) + length (f .parameters)) (10 + length (f .name))
+
 -- ---- what can be laid out, and what a carrier can bring
 
 -- the name-only form has no addresses and no parameters (RULES B5)

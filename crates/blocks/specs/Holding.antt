@@ -30,14 +30,14 @@ abbrev pub putTail : Fields → List ℕ → List ℕ
 putTail f rest = cond (f .full) (putCounted (lengthWidth Router) (f .addresses) (putCounted (lengthWidth Router) (f .parameters) rest)) rest
 
 -- which form it is, by the octets that follow the name (RULES B5, B6)
-abbrev pub Follows : Bool → ℕ → Type 0
-Follows true n = 8 ≤ n
-Follows false n = n < 8
+abbrev pub FormBy : Bool → ℕ → Type 0
+FormBy true n = 8 ≤ n
+FormBy false n = n < 8
 
 -- the body is these fields and then `rest`, the numbers have room, and the form is the one that the octets after the name tell (RULES B1, B5, B6)
 pub record HoldsPadded (body : List ℕ) (f : Fields) (rest : List ℕ) : Type 0 where
   pub laid : body ≡ putOpening Router f (putTail f rest)
-  pub form : Follows (f .full) (length (putTail f rest))
+  pub form : FormBy (f .full) (length (putTail f rest))
   pub priority : f .priority < 65536
   pub lifetime : f .lifetime < 256 ^ lifetimeWidth Router
   pub name : length (f .name) < 256 ^ lengthWidth Router

@@ -25,7 +25,7 @@ use Rattle.blocks.specs.Block.{Fields, nameOnly, whole, Tail, Possible}
 use Rattle.blocks.specs.Parse.{Parsed, bad, fields, short, opening, isPadding, padded, afterNamePadded, parse}
 use Rattle.blocks.specs.Exactly.{opening-read, opening-says, parse-layout, parse-iff}
 use Rattle.blocks.specs.Faults.{parse-fault}
-use Rattle.blocks.specs.Holding.{Laid, Padding, putTail, Follows, HoldsPadded, HoldsBy, Holds, Short, Misfilled}
+use Rattle.blocks.specs.Holding.{Laid, Padding, putTail, FormBy, HoldsPadded, HoldsBy, Holds, Short, Misfilled}
 
 -- ---- padding
 
@@ -42,7 +42,7 @@ padding-exactly l =
 
 tail-read : (p t : ℕ) (n : List ℕ) (full : Bool) (a q rest : List ℕ)
     → let f : Fields = record { priority = p; lifetime = t; full = full; name = n; addresses = a; parameters = q } in
-    Follows full (length (putTail f rest)) → Tail full ((length a < 256 ^ 2) × (length q < 256 ^ 2)) f
+    FormBy full (length (putTail f rest)) → Tail full ((length a < 256 ^ 2) × (length q < 256 ^ 2)) f
     → afterNamePadded p t n (putTail f rest) ≡ padded rest f
 tail-read p t n true a q rest h k =
     let ha : length a < 256 ^ 2 = k .0 in

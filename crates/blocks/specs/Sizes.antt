@@ -13,7 +13,7 @@ use Rattle.carriers.specs.declared.Form.{Form}
 use Rattle.carriers.specs.declared.Form.the-variants.{Wire, Padded, Text}
 use Rattle.carriers.specs.Carriers.{headerOf, formOf, lengthWidth, lifetimeIn, lifetimeWidth, addressWidth, textIn}
 use Rattle.carriers.specs.CarriersLaws.{by-body, address-width, length-room, text-width, padded-router}
-use Rattle.blocks.specs.Block.{Fields, gap, optionSize, layoutBy, layout, sizeBy, sizeOf, FitsBy, Fits, PossibleBy, Possible}
+use Rattle.blocks.specs.Block.{Fields, gap, optionSize, layoutBy, layout, sizeBy, sizeOf, FitsBy, Fits, PossibleBy, Possible, stated}
 
 size-router : (f : Fields) (b : Bool) → f .full ≡ b → length (layoutBy Padded Router f) ≡ sizeOf Router f
 size-router f true e = simp (e, length-append, length-replicate) (omega arith)
@@ -31,9 +31,6 @@ unfolding layout
 length-layout c f = size-at (formOf c) c f (f .full) refl refl
 
 -- ---- carrier 3: 10 + name octets, or 14 + name + addresses + parameters, rounded up to 8 (RULES B8)
-
-abbrev pub stated : Fields → ℕ
-stated f = cond (f .full) (14 + length (f .name) + length (f .addresses) + length (f .parameters)) (10 + length (f .name))
 
 -- the option is the least multiple of 8 that is so many octets or more
 pub option-rounded : (f : Fields) → optionSize f ≡ stated f + gap (stated f)

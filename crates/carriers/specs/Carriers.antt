@@ -67,6 +67,14 @@ inEights c = factsOf c .eights
 abbrev pub isJoined : Carrier → Bool
 isJoined c = factsOf c .joined
 
+-- carriers 2 to 5, whose options are not joined and whose areas end with their last octet, not with a code
+abbrev pub Apart : Bool → Type 0
+Apart true = ⊥
+Apart false = Unit {0}
+
+abbrev pub Plain : Carrier → Type 0
+Plain c = Apart (isJoined c)
+
 -- octets of an address (RULES C1)
 abbrev pub addressWidth : Carrier → ℕ
 addressWidth c = factsOf c .address

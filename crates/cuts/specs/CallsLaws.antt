@@ -11,7 +11,7 @@ use lib.ListN.{length, getD, take}
 use lib.Seq.{take-take}
 use Rattle.octets.specs.Numbers.{Bytes}
 use Rattle.carriers.specs.declared.Carrier.{Carrier}
-use Rattle.frames.specs.Walk.{Plain}
+use Rattle.carriers.specs.Carriers.{Plain}
 use Rattle.blocks.specs.Block.{Fields}
 use Rattle.sheets.specs.Sheets.{carrierAt, sheetOf}
 use Rattle.taking.specs.Sheet.{IsSheet}
@@ -25,7 +25,8 @@ use Rattle.written.specs.DefinedLaws.{written-defined, defined-sheet}
 use Rattle.writing.specs.declared.Writing.{Writing}
 use Rattle.writing.specs.Writes.{Writes}
 use Rattle.roundtrip.specs.RoundTripLaws.{call-wrote, call-fits, sheet-number}
-use Rattle.cuts.specs.Cuts.{readCut, Cut, after-options, elsewhere, CutCall, first-records, no-room, unframed}
+use Rattle.cuts.specs.Cuts.{CutCall, first-records, no-room, unframed}
+use Rattle.cuts.specs.Readings.{readCut, Cut, after-options, elsewhere}
 use Rattle.cuts.specs.CutsLaws.{read-cut}
 
 -- the octets defined for a sheet, which writing gives where they have room

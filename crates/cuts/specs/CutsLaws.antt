@@ -14,10 +14,9 @@ use Rattle.octets.specs.ListsLaws.{all-take}
 use Rattle.numbers.specs.Refusal as refusal
 use Rattle.numbers.specs.Limit as limit
 use Rattle.carriers.specs.declared.Carrier.{Carrier}
-use Rattle.carriers.specs.Carriers.{numberOf}
+use Rattle.carriers.specs.Carriers.{numberOf, Plain}
 use Rattle.carriers.specs.CarriersLaws.{chosen-number}
 use Rattle.frames.specs.Frame.{Framed, framed, frame}
-use Rattle.frames.specs.Walk.{Plain}
 use Rattle.frames.specs.Emit.{optionsOf}
 use Rattle.frames.specs.Cutting.{cut-at-end, cut-elsewhere}
 use Rattle.blocks.specs.Block.{Fields}
@@ -30,7 +29,7 @@ use Rattle.written.specs.Accepted.{Sound, Accepted}
 use Rattle.roundtrip.specs.Returns.{bodyOf, bodiesOf, answerKept}
 use Rattle.roundtrip.specs.RecordReturns.{kept-room, kept-no-room, blocks-answer}
 use Rattle.roundtrip.specs.OctetsLaws.{octets-few, plain-octets, bodies-emit}
-use Rattle.cuts.specs.Cuts.{FirstRead, Cut, after-options, elsewhere}
+use Rattle.cuts.specs.Readings.{FirstRead, Cut, after-options, elsewhere}
 use Rattle.cuts.specs.ListLaws.{map-take, rising-take, search}
 
 module _ (c : Carrier) (plain : Plain c) (s : List ℕ) (rs : List Fields) (accepted : Accepted s c rs) where

@@ -69,7 +69,7 @@ pub record Arranged (came rs : List Fields) : Type 0 where
   pub stable : (p : ℕ) → keep (λ (r : Fields). r .priority) p rs ≡ keep (λ (r : Fields). r .priority) p came
 
 -- an area of at most 40,960 octets, framed into blocks, and what each of them yields (RULES L1, W1 to W9)
-pub record Readable (c : Carrier) (area : List ℕ) (ys : List Yield) (rs : List Fields) : Type 0 where
+pub record ReadAs (c : Carrier) (area : List ℕ) (ys : List Yield) (rs : List Fields) : Type 0 where
   pub short : length area ≤ limit.input
   pub bodies : List (List ℕ)
   pub framed : Area c area bodies
@@ -88,9 +88,9 @@ pub data Answers (n : ℕ) (area : List ℕ) (room : ℕ) : Answer → Type 0 wh
   too-long : (c : Carrier) → numberOf c ≡ n → limit.input < length area → Answers n area room (refuse refusal.input)
   unframed : (c : Carrier) → numberOf c ≡ n → length area ≤ limit.input → ((bodies : List (List ℕ)) → Area c area bodies → ⊥)
       → Answers n area room (refuse refusal.framing)
-  too-many : (c : Carrier) {ys : List Yield} {rs : List Fields} → numberOf c ≡ n → Readable c area ys rs → limit.records < length rs
+  too-many : (c : Carrier) {ys : List Yield} {rs : List Fields} → numberOf c ≡ n → ReadAs c area ys rs → limit.records < length rs
       → Answers n area room (refuse refusal.records)
-  no-room : (c : Carrier) {ys : List Yield} {rs : List Fields} → numberOf c ≡ n → Readable c area ys rs → length rs ≤ limit.records
+  no-room : (c : Carrier) {ys : List Yield} {rs : List Fields} → numberOf c ≡ n → ReadAs c area ys rs → length rs ≤ limit.records
       → room < length (sheetOf c rs) → Answers n area room (refuse refusal.room)
-  is-done : (c : Carrier) {ys : List Yield} {rs : List Fields} → numberOf c ≡ n → Readable c area ys rs → length rs ≤ limit.records
+  is-done : (c : Carrier) {ys : List Yield} {rs : List Fields} → numberOf c ≡ n → ReadAs c area ys rs → length rs ≤ limit.records
       → length (sheetOf c rs) ≤ room → Answers n area room (done (gives c ys rs))

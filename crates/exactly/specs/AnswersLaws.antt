@@ -33,7 +33,7 @@ use Rattle.reading.specs.declared.Reading.{Reading}
 use Rattle.reading.specs.Reading.{yieldOf, inOrder, settle, readYields, readFramed, readOf}
 use Rattle.reading.specs.Result.{Yield, arrivals, Answer, refuse, done, Reads}
 use Rattle.reading.specs.AnswerLaws.{read-unknown, read-long, read-known, reads-as}
-use Rattle.exactly.specs.Answers.{BlocksAre, none, more, Arranged, Readable, gives, Answers, no-carrier, too-long, unframed, too-many, no-room, is-done}
+use Rattle.exactly.specs.Answers.{BlocksAre, none, more, Arranged, ReadAs, gives, Answers, no-carrier, too-long, unframed, too-many, no-room, is-done}
 use Rattle.exactly.specs.BlockLaws.{block-is}
 
 -- ---- the blocks of an area
@@ -111,7 +111,7 @@ settle-ordered c ys room = rw (sort-length (λ (r : Fields). r .priority) (arriv
 
 module _ (n : ℕ) (area : List ℕ) (room : ℕ) (octets : Bytes area) where
   -- 4, 5 or done
-  is-settled : (c : Carrier) {ys : List Yield} {rs : List Fields} → numberOf c ≡ n → Readable c area ys rs
+  is-settled : (c : Carrier) {ys : List Yield} {rs : List Fields} → numberOf c ≡ n → ReadAs c area ys rs
       → Answers n area room (settle room rs (gives c ys rs))
   is-settled c {ys} {rs} i r = go (ltb limit.records (length rs)) refl (ltb room (length (sheetOf c rs))) refl
     where
@@ -150,7 +150,7 @@ module _ (n : ℕ) (area : List ℕ) (room : ℕ) (octets : Bytes area) where
           rw (read-known n area room e h) (is-framed c (sym (number-chosen n c e)) h)
 
   -- of a readable area reading settles what its blocks yield
-  readable-read : (c : Carrier) {ys : List Yield} {rs : List Fields} → numberOf c ≡ n → Readable c area ys rs
+  readable-read : (c : Carrier) {ys : List Yield} {rs : List Fields} → numberOf c ≡ n → ReadAs c area ys rs
       → readOf n area room ≡ settle room rs (gives c ys rs)
   readable-read c {ys} {rs} i r =
       read-known n area room (chosen-known c i) (r .short)

@@ -12,13 +12,12 @@ use borrow.Author.Tests.{ltb-true, ltb-false}
 use Rattle.octets.specs.Numbers.{Octet, Bytes}
 use Rattle.carriers.specs.declared.Carrier.{Carrier}
 use Rattle.carriers.specs.declared.Carrier.the-variants.{Router}
-use Rattle.carriers.specs.Carriers.{headerOf, isJoined, octets}
+use Rattle.carriers.specs.Carriers.{headerOf, isJoined, octets, Plain}
 use Rattle.frames.specs.declared.Head.{Head}
 use Rattle.frames.specs.Frame.{firstOf, Framed, fault, framed, onto, after, frameFrom, frame}
 use Rattle.frames.specs.Area.{blocksOf}
 use Rattle.octets.specs.Lists.{All}
 use Rattle.octets.specs.ListsLaws.{all-take, all-drop}
-use Rattle.frames.specs.Walk.{Plain}
 use Rattle.frames.specs.HeadLaws.{first-own}
 use Rattle.frames.specs.Laws.{past}
 use Rattle.frames.specs.WalkLaws.{apart-false}

@@ -10,12 +10,12 @@ use lib.Seq.{take-append-le, take-append-add, take-at, length-take-le}
 use lib.Dec.{ltb}
 use borrow.Author.Tests.{ltb-true, ltb-false}
 use Rattle.carriers.specs.declared.Carrier.{Carrier}
-use Rattle.carriers.specs.Carriers.{headerOf, isJoined, octets}
+use Rattle.carriers.specs.Carriers.{headerOf, isJoined, octets, Plain}
 use Rattle.frames.specs.declared.Head.{Head}
 use Rattle.frames.specs.Frame.{headIn, firstOf, Framed, fault, framed, onto, after, frameFrom, frame}
 use Rattle.octets.specs.Lists.{All}
 use Rattle.octets.specs.ListsLaws.{flat-map-append}
-use Rattle.frames.specs.Walk.{prepend, Plain}
+use Rattle.frames.specs.Walk.{prepend}
 use Rattle.frames.specs.Emit.{optionOf, Fits, optionsOf}
 use Rattle.frames.specs.HeadLaws.{head-end, mark-apart, first-local, first-append, first-cut}
 use Rattle.frames.specs.Laws.{fault-framed, frame-bad, frame-over}

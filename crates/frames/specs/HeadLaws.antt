@@ -11,12 +11,11 @@ use borrow.Author.Tests.{lt-ltb, le-ltb, eq-eqb, ne-eqb, ltb-false, eqb-false}
 use Rattle.octets.specs.Numbers.{at16, numberAt}
 use Rattle.octets.specs.NumbersLaws.{number-8, number-16, number-local}
 use Rattle.carriers.specs.declared.Carrier.{Carrier}
-use Rattle.carriers.specs.Carriers.{codeOf, headWidth, headerOf, inEights, isJoined, octets}
+use Rattle.carriers.specs.Carriers.{codeOf, headWidth, headerOf, inEights, isJoined, octets, Apart}
 use Rattle.carriers.specs.CarriersLaws.{headed}
 use Rattle.frames.specs.declared.Head.{Head}
 use Rattle.frames.specs.declared.Head.the-variants.{Bad, End, Option}
 use Rattle.frames.specs.Frame.{wholeSize, codeIn, sizeIn, headIn, orMark, firstOf}
-use Rattle.frames.specs.Walk.{Apart}
 use Rattle.frames.specs.Told.{ownOf, sizeOf}
 
 bad-option : {w : Bool} {n : ℕ} → Bad ≡ Option w (octets n) → ⊥

@@ -1,12 +1,10 @@
 -- Words for laws of framing: bodies in front of others, a walk that has come to an index, each body, carriers without an end code.
 -- Assumes nothing: these are definitions.
 use mathlib.Core.Path.{_≡_}
-use mathlib.Core.Bool.{Bool, true, false}
 use mathlib.Core.List.{List, _++_}
 use Prim.Native.Nat.{ℕ, _≤_}
 use lib.ListN.{length, drop}
 use Rattle.carriers.specs.declared.Carrier.{Carrier}
-use Rattle.carriers.specs.Carriers.{isJoined}
 use Rattle.frames.specs.Frame.{Framed, fault, framed, frame}
 
 -- bodies in front of what follows
@@ -18,11 +16,3 @@ prepend bs (framed cs) = framed (bs ++ cs)
 pub record Walked (c : Carrier) (area : List ℕ) (at : ℕ) (bs : List (List ℕ)) : Type 0 where
   pub within : at ≤ length area
   pub frames : frame c area ≡ prepend bs (frame c (drop at area))
-
--- carriers 2 to 5, whose areas end with their last octet and with no code
-abbrev pub Apart : Bool → Type 0
-Apart true = ⊥
-Apart false = Unit {0}
-
-abbrev pub Plain : Carrier → Type 0
-Plain c = Apart (isJoined c)

@@ -11,7 +11,8 @@ use Rattle.frames.specs.declared.Step.{Step}
 use Rattle.frames.specs.Frame.{Framed, fault, framed, onto, frame}
 use Rattle.frames.specs.Step.{part, stepAt}
 use Rattle.frames.specs.Skip.{Skips}
-use Rattle.frames.specs.Walk.{prepend, Walked, Apart}
+use Rattle.frames.specs.Walk.{prepend, Walked}
+use Rattle.carriers.specs.Carriers.{Apart}
 use Rattle.frames.specs.Laws.{step-end, step-fault, step-block}
 use Rattle.frames.specs.SkipLaws.{skips-within, skips-alike, skips-step}
 

@@ -10,14 +10,13 @@ use Rattle.carriers.specs.declared.Carrier.{Carrier}
 use Rattle.carriers.specs.declared.Carrier.the-variants.{Dhcp4, Router}
 use Rattle.carriers.specs.declared.Form.{Form}
 use Rattle.carriers.specs.declared.Form.the-variants.{Wire, Padded, Text}
-use Rattle.carriers.specs.Carriers.{headerOf, isJoined, addressWidth, formOf, textIn, asText}
+use Rattle.carriers.specs.Carriers.{headerOf, isJoined, addressWidth, formOf, textIn, asText, Plain}
 use Rattle.carriers.specs.CarriersLaws.{headed, by-address, length-width, few-addresses, length-room, by-router}
 use Rattle.texts.specs.Convert.{text-length}
 use Rattle.blocks.specs.Block.{Fields, layout, unpadded, sizeBy, FitsBy, Fits}
 use Rattle.blocks.specs.Sizes.{length-layout, layout-possible, fits-full}
 use Rattle.frames.specs.Emit as emit
 use Rattle.frames.specs.EmitLaws.{option-length}
-use Rattle.frames.specs.Walk.{Plain}
 use Rattle.frames.specs.WalkLaws.{apart-false}
 use Rattle.layouts.specs.Layouts.{carriedAs, carriedOf, ownOption, instanceOf, joinedOf}
 use Rattle.layouts.specs.Writable.{Writable, overhead, mostAddresses, mostBody, bodyBy, bodyOctets, optionOctets, instanceOctets, joinedOctets}

@@ -1,4 +1,4 @@
--- The joined octets of which RULES D3 speaks: those that `IsJoined` finds in the octets of records are the records one after another, and
+-- The joined octets of which RULES D3 speaks: those that `JoinedOctets` finds in the octets of records are the records one after another, and
 -- there are no others (RULES D6: "the records' instances one after another, none for no records"). Assumes nothing.
 use mathlib.Core.Path.{_≡_, refl, sym, ap, _∙_}
 use mathlib.Core.Logic.{_↔_, Iff·rfl}
@@ -23,7 +23,7 @@ use Rattle.layouts.specs.Layouts.{streamOf}
 use Rattle.written.specs.Octets.{octetsOf}
 use Rattle.written.specs.Defined.{Defined}
 use Rattle.written.specs.DefinedLaws.{defined-sheet}
-use Rattle.prefixes.specs.Prefix.{IsJoined}
+use Rattle.prefixes.specs.Prefix.{JoinedOctets}
 
 -- ---- carrier 1: options that are written are a run of options
 
@@ -47,7 +47,7 @@ cut-area : (l : List ℕ) → Area Dhcp4 (cutOf l) (pieces l)
 unfolding cutOf
 cut-area l = options-area (pieces l) (pieces-fit l)
 
-cut-joined : (l x : List ℕ) → IsJoined Dhcp4 (cutOf l) x ↔ (x ≡ l)
+cut-joined : (l x : List ℕ) → JoinedOctets Dhcp4 (cutOf l) x ↔ (x ≡ l)
 cut-joined l x = (
   λ j. j .2 ∙ ap flat (area-once Dhcp4 (cutOf l) (j .0) (pieces l) (j .1) (cut-area l)) ∙ pieces-flat l,
   λ e. (pieces l, cut-area l, e ∙ sym (pieces-flat l)),
@@ -56,14 +56,14 @@ cut-joined l x = (
 -- ---- every carrier
 
 -- the octets of records, joined again, are the records one after another, and only these
-pub joined-exactly : (c : Carrier) (rs : List Fields) (x : List ℕ) → IsJoined c (octetsOf c rs) x ↔ (x ≡ streamOf c rs)
+pub joined-exactly : (c : Carrier) (rs : List Fields) (x : List ℕ) → JoinedOctets c (octetsOf c rs) x ↔ (x ≡ streamOf c rs)
 unfolding octetsOf
 joined-exactly =
-    by-joined (λ c. (rs : List Fields) (x : List ℕ) → (IsJoined c (octetsOf c rs) x ↔ (x ≡ streamOf c rs)))
+    by-joined (λ c. (rs : List Fields) (x : List ℕ) → (JoinedOctets c (octetsOf c rs) x ↔ (x ≡ streamOf c rs)))
     (λ rs x. cut-joined (streamOf Dhcp4 rs) x)
     (λ c e rs x. rw e Iff·rfl)
 
 -- so there are joined octets of the octets defined for a sheet, and only one
 pub joined-defined : (c : Carrier) (s octets x : List ℕ) (rs : List Fields) → Bytes s → IsSheet s c rs → Defined s octets
-    → IsJoined c octets x ↔ (x ≡ streamOf c rs)
+    → JoinedOctets c octets x ↔ (x ≡ streamOf c rs)
 joined-defined c s octets x rs bytes i d = rw (defined-sheet s bytes i d .1) (joined-exactly c rs x)

@@ -25,5 +25,5 @@ abbrev pub JoinedBy : Bool → List ℕ → List ℕ → Type 0
 JoinedBy true octets joined = (bodies : List (List ℕ)) × Area Dhcp4 octets bodies × (joined ≡ flat bodies)
 JoinedBy false octets joined = joined ≡ octets
 
-abbrev pub IsJoined : Carrier → List ℕ → List ℕ → Type 0
-IsJoined c = JoinedBy (isJoined c)
+abbrev pub JoinedOctets : Carrier → List ℕ → List ℕ → Type 0
+JoinedOctets c = JoinedBy (isJoined c)

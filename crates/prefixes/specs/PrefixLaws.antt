@@ -13,14 +13,13 @@ use Rattle.octets.specs.Lists.{All, flat}
 use Rattle.octets.specs.Fields.{putCounted}
 use Rattle.carriers.specs.declared.Carrier.{Carrier}
 use Rattle.carriers.specs.declared.Carrier.the-variants.{Dhcp4}
-use Rattle.carriers.specs.Carriers.{asText, isJoined}
+use Rattle.carriers.specs.Carriers.{asText, isJoined, Plain}
 use Rattle.carriers.specs.CarriersLaws.{by-joined}
 use Rattle.names.specs.Names.{IsName}
 use Rattle.texts.specs.Texts.{wireOf, textOf}
 use Rattle.texts.specs.Convert.{wire-text}
 use Rattle.blocks.specs.Block.{Fields, headWith, fieldsOf, layout}
 use Rattle.blocks.specs.Exactly.{layout-injective}
-use Rattle.frames.specs.Walk.{Plain}
 use Rattle.frames.specs.WalkLaws.{apart-false, false-apart}
 use Rattle.frames.specs.HeadLaws.{header-pos}
 use Rattle.frames.specs.EmitLaws.{option-length}

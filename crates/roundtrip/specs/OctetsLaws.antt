@@ -9,12 +9,11 @@ use Rattle.octets.specs.ListsLaws.{flat-few}
 use Rattle.numbers.specs.Limit as limit
 use Rattle.carriers.specs.declared.Carrier.{Carrier}
 use Rattle.carriers.specs.declared.Carrier.the-variants.{Dhcp4}
-use Rattle.carriers.specs.Carriers.{isJoined}
+use Rattle.carriers.specs.Carriers.{isJoined, Plain}
 use Rattle.carriers.specs.CarriersLaws.{by-joined}
 use Rattle.frames.specs.Frame.{frame, framed}
 use Rattle.frames.specs.Emit as emit
 use Rattle.frames.specs.EmitLaws.{option-length, frame-options}
-use Rattle.frames.specs.Walk.{Plain}
 use Rattle.frames.specs.WalkLaws.{apart-false}
 use Rattle.blocks.specs.Block.{Fields}
 use Rattle.pieces.specs.PiecesLaws.{cut-length}

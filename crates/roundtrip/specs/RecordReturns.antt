@@ -12,7 +12,7 @@ use Rattle.octets.specs.Lists.{All}
 use Rattle.numbers.specs.Refusal as refusal
 use Rattle.numbers.specs.Limit as limit
 use Rattle.carriers.specs.declared.Carrier.{Carrier}
-use Rattle.carriers.specs.Carriers.{addressWidth, asText, isJoined}
+use Rattle.carriers.specs.Carriers.{addressWidth, asText, isJoined, Plain}
 use Rattle.names.specs.Names.{IsName}
 use Rattle.texts.specs.Texts.{textOf, wireOf}
 use Rattle.texts.specs.Convert.{wire-text, text-of-wire}
@@ -20,7 +20,6 @@ use Rattle.addresses.specs.Addresses.{listOf}
 use Rattle.addresses.specs.AddressesLaws.{wide-some, list-length, none-dropped-flat, kept-end}
 use Rattle.addresses.specs.Ranges.{Unusable}
 use Rattle.frames.specs.Frame.{framed}
-use Rattle.frames.specs.Walk.{Plain}
 use Rattle.frames.specs.WalkLaws.{apart-false}
 use Rattle.frames.specs.BodyLaws.{blocks-plain}
 use Rattle.blocks.specs.Block.{Fields}

@@ -14,10 +14,9 @@ use Rattle.octets.specs.OverLaws.{over-front}
 use Rattle.numbers.specs.Refusal as refusal
 use Rattle.numbers.specs.Limit as limit
 use Rattle.carriers.specs.declared.Carrier.{Carrier}
-use Rattle.carriers.specs.Carriers.{numberOf}
+use Rattle.carriers.specs.Carriers.{numberOf, Plain}
 use Rattle.carriers.specs.CarriersLaws.{chosen-number, number-octet, by-joined}
 use Rattle.frames.specs.Frame.{Framed, frame}
-use Rattle.frames.specs.Walk.{Plain}
 use Rattle.frames.specs.WalkLaws.{false-apart}
 use Rattle.blocks.specs.Block.{Fields}
 use Rattle.sheets.specs.Sheets.{carrierAt, frontOf, sheetOf}

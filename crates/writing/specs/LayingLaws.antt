@@ -13,10 +13,9 @@ use Rattle.octets.specs.OverLaws.{over-length, then, wrote-none}
 use Rattle.carriers.specs.declared.Carrier.{Carrier}
 use Rattle.carriers.specs.declared.Carrier.the-variants.{Dhcp4}
 use Rattle.carriers.specs.declared.Facts.{Facts}
-use Rattle.carriers.specs.Carriers.{factsOf, isJoined}
+use Rattle.carriers.specs.Carriers.{factsOf, isJoined, Plain}
 use Rattle.carriers.specs.CarriersLaws.{other-joined}
 use Rattle.blocks.specs.Block.{Fields}
-use Rattle.frames.specs.Walk.{Plain}
 use Rattle.frames.specs.WalkLaws.{false-apart}
 use Rattle.pieces.specs.Pieces.{cutOf, cutOctets}
 use Rattle.pieces.specs.PiecesLaws.{cut-length}

@@ -1,9 +1,11 @@
 -- Which sheets writing accepts (RULES D4), said of their records and stated as what is true of the octets, not as steps to take; the law
 -- `accepted-exactly` says that it is these. Assumes nothing: these are definitions.
 use mathlib.Core.Path.{_≡_}
+use mathlib.Core.Logic.{_⊎_}
 use mathlib.Core.List.{List}
 use Prim.Native.Nat.{ℕ, _≤_}
 use Rattle.octets.specs.Lists.{All}
+use Rattle.numbers.specs.Refusal as refusal
 use Rattle.numbers.specs.Limit as limit
 use Rattle.carriers.specs.declared.Carrier.{Carrier}
 use Rattle.carriers.specs.declared.Carrier.the-variants.{Router}
@@ -28,4 +30,8 @@ pub record Accepted (s : List ℕ) (c : Carrier) (rs : List Fields) : Type 0 whe
   pub is : IsSheet s c rs
   pub sound : All (Sound c) rs
 
--- The same by what writing answers stands in `Defined`.
+-- ---- by what writing answers
+
+-- 0 or 5: the numbers that writing answers to an accepted sheet, by the room alone (RULES D4)
+abbrev pub Accepting : ℕ → Type 0
+Accepting k = (k ≡ 0) ⊎ (k ≡ refusal.room)

@@ -33,8 +33,7 @@ use Rattle.vetting.specs.Vetting as vetting
 use Rattle.vetting.specs.VettingLaws.{allowed-faultless, taken-vetted, vet-exactly, vetted-by}
 use Rattle.written.specs.Writing.{writeVetted, writeOf}
 use Rattle.written.specs.Octets.{octetsOf, refuse, written, numberIn}
-use Rattle.written.specs.Accepted.{Sized, Sound, Accepted}
-use Rattle.written.specs.Defined.{Accepting}
+use Rattle.written.specs.Accepted.{Sized, Sound, Accepted, Accepting}
 
 -- ---- an accepted record has room in its carrier
 

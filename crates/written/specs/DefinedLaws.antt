@@ -16,8 +16,8 @@ use Rattle.blocks.specs.Block.{Fields}
 use Rattle.taking.specs.Sheet.{IsSheet}
 use Rattle.written.specs.Writing.{writeOf}
 use Rattle.written.specs.Octets.{octetsOf, refuse, written, numberIn}
-use Rattle.written.specs.Accepted.{Accepted}
-use Rattle.written.specs.Defined.{Accepting, Defined}
+use Rattle.written.specs.Accepted.{Accepted, Accepting}
+use Rattle.written.specs.Defined.{Defined}
 use Rattle.written.specs.AcceptedLaws.{accepted-writes, accepted-exactly, answered-sheet}
 
 -- ---- the octets of accepted records
