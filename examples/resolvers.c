@@ -48,7 +48,7 @@ static void print_address(unsigned width, const uint8_t *address)
         printf("  address %s\n", text);
 }
 
-/* ALPN ids may hold any octet; comma, backslash and all that is not visible ASCII are written as \DDD (RFC 9460, appendix A.1). */
+/* ALPN ids may hold any octet; comma, backslash and all that is not visible ASCII are written as \DDD (RFC 9460 §A.1). */
 static void print_alpn(const uint8_t *value, unsigned length)
 {
     const uint8_t *const end = value + length;

@@ -86,7 +86,7 @@ enum {
  *                                          name
  *
  * Records stand by rising priority, equal ones in the order of arrival, and nothing follows the last. The lifetime, in seconds, is that
- * of a router advertisement, where all ones are for ever and a resolver with 0 must no longer be used (RFC 9463 section 6.1); for the
+ * of a router advertisement, where all ones are for ever and a resolver with 0 must no longer be used (RFC 9463 §6.1); for the
  * other carriers it is 0 and says nothing. The name is in DNS wire form, 3 to 255 octets of labels behind their lengths and the root
  * octet; the labels are letters, digits and hyphens. An address has 4 octets for DNR_DHCP4 and DNR_IKE4, else 16; none is multicast or
  * loopback. A parameter is key 2, length 2, value, by rising key (RFC 9460): key 1 (alpn) holds strings behind their 8-bit lengths,

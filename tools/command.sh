@@ -1,6 +1,6 @@
 #!/bin/sh
 # Runs build/dnr, or the program that DNR names, as a user would: each command, each exit status, files, devices and wrong command lines. The
-# expected texts in tests/command were written from docs/COMMAND.md and document 01; tools/show.py compares many more sheets. Ends in
+# expected texts in tests/command were written from docs/COMMAND.md and docs/RULES.md; tools/show.py compares many more sheets. Ends in
 # 'N passed, M failed'.
 set -u
 cd "$(dirname "$0")/.." || exit 2
@@ -75,7 +75,7 @@ is_json() {
     python3 -m json.tool "$1" >"$work/tool"
 }
 
-# The name, the address and the parameters of the boundary pieces, and the sheet of K1 (document 01, "Boundary pieces").
+# The name, the address and the parameters of the boundary pieces, and the sheet of K1 (RULES K1).
 : >"$work/in"
 N=04646f6831076578616d706c6503636f6d00
 A=20010db8012203000000000000000001
@@ -226,7 +226,7 @@ address 1 DHCPv4 c0000201 192.0.2.1
 address 1 DHCPv4 00000000 0.0.0.0
 address 1 DHCPv4 ffffffff 255.255.255.255
 address 1 DHCPv4 0a096463 10.9.100.99
-# Examples of RFC 5952, sections 4 and 5, and the ends of each of its rules.
+# Examples of RFC 5952 §4 and §5, and the ends of each of its rules.
 while read -r hex text; do
     address 2 DHCPv6 "$hex" "$text"
 done <<'END'

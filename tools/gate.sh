@@ -1,8 +1,8 @@
 #!/bin/sh
 # Runs every check of the repository and ends in 'N passed, M failed', each check counted; fails where one fails or did not run.
 # Checks: the layout of the sources, rt ci (each crate, must-fail edit and program run), the library built from the proved crate, its header
-# held against the source, the host tests (cargo), the examples, the fuzzing corpus replayed, the pages held against the sources, the
-# vectors held against their generators, the command, and an installation.
+# held against the source, the host tests (cargo), the examples, the fuzzing corpus replayed, the pages and the citations of rules held
+# against the sources, the vectors held against their generators, the command, and an installation.
 set -u
 cd "$(dirname "$0")/.."
 log=$(mktemp -d) || exit 2
@@ -110,7 +110,9 @@ tool "replayed inputs" sh fuzz/replay.sh
 step "fuzz/corpus is that of its script" corpus_held
 step "docs/picture.svg is that of its script" picture_held
 step "docs/PROOFS.md names theorems where they stand" python3 tools/theorems.py
-step "docs/TRACE.md names what is there" python3 tools/trace.py
+step "docs/PROOFS.md lists what its statements rest on" python3 tools/believed.py
+step "docs/TRACE.md has each rule, and names what is there" python3 tools/trace.py
+step "citations are of rules that there are" python3 tools/citations.py
 step "vectors are those of the reference" made_anew vectors
 step "boundary cases are those of their generator" made_anew boundaries boundaries
 step "build/dnr" command_built

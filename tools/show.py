@@ -5,7 +5,7 @@ show.py SHEET            print the text of a sheet
 show.py --json SHEET     print its JSON
 show.py --compare DNR    run DNR on the sheets of `sheets`, as `show`, `write` and `read`; ends in 'N passed, M failed'
 
-It is written from the text of `dnr --help`'s rules (docs/COMMAND.md) and from document 01, not from crates/showing.
+It is written from the text of `dnr --help`'s rules (docs/COMMAND.md) and from docs/RULES.md, not from crates/showing.
 """
 import ipaddress
 import json

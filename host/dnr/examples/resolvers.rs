@@ -18,7 +18,7 @@ const PORT: u16 = 3;
 const BUILTIN: &[u8] = b"\x00\x90\x00\x30\x00\x01\x00\x12\x04doh1\x07example\x03com\x00\
     \x00\x10\x20\x01\x0d\xb8\x01\x22\x03\x00\x00\x00\x00\x00\x00\x00\x00\x01\x00\x01\x00\x04\x03dot";
 
-/// ALPN ids may hold any octet; comma, backslash and all that is not visible ASCII are written as \DDD (RFC 9460, appendix A.1).
+/// ALPN ids may hold any octet; comma, backslash and all that is not visible ASCII are written as \DDD (RFC 9460 §A.1).
 fn alpn(value: &[u8]) -> String {
     let mut text = String::new();
     let mut rest = value;

@@ -1,4 +1,4 @@
-//! The numbers given back (document 01, "Numbers given back"), each under a name and with its words.
+//! The numbers given back (RULES R0 to R44), each under a name and with its words.
 
 use std::error::Error;
 use std::fmt;
@@ -73,7 +73,7 @@ impl Refusal {
         self.0
     }
 
-    /// When the number is given, in the words of document 01.
+    /// When the number is given.
     pub fn words(self) -> &'static str {
         words(self.0)
     }
@@ -116,7 +116,7 @@ impl Fault {
         self.0
     }
 
-    /// When the number is given, in the words of document 01.
+    /// When the number is given.
     pub fn words(self) -> &'static str {
         words(self.0)
     }

@@ -1,4 +1,4 @@
-//! A view of the records in a sheet (document 01, "The record sheet"). It judges nothing that the library judges; it only stops where
+//! A view of the records in a sheet (RULES S1 to S5). It judges nothing that the library judges; it only stops where
 //! the octets do not fit.
 
 use crate::Carrier;
@@ -80,7 +80,7 @@ impl<'a> Record<'a> {
     }
 
     /// Seconds for which the resolver may be used, of a router advertisement: `u32::MAX` is for ever, and with zero it must no longer be
-    /// used (RFC 9463 section 6.1). Zero in all other carriers, where it says nothing.
+    /// used (RFC 9463 §6.1). Zero in all other carriers, where it says nothing.
     pub fn lifetime(&self) -> u32 {
         self.lifetime
     }
@@ -100,7 +100,7 @@ impl<'a> Record<'a> {
         self.addresses.chunks_exact(self.width).map(address)
     }
 
-    /// The service parameters as key and value, by rising key (RFC 9460 section 2.2).
+    /// The service parameters as key and value, by rising key (RFC 9460 §2.2).
     pub fn parameters(&self) -> impl Iterator<Item = (u16, &'a [u8])> + Clone + 'a {
         let mut rest = self.parameters;
         std::iter::from_fn(move || take_parameter(&mut rest))

@@ -1,4 +1,4 @@
-//! The two calls through the binding: the boundary pieces of document 01, every refusal and fault, and no octet past a result.
+//! The two calls through the binding: the boundary pieces (RULES K1 to K13), every refusal and fault, and no octet past a result.
 
 use dnr::{read, read_to_vec, write, write_to_vec, Carrier, Fault, Reading, Refusal};
 

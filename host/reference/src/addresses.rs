@@ -1,10 +1,10 @@
-//! Addresses (01 Names, addresses, parameters; points B19, B14).
+//! Addresses (RULES A1, A2).
 
 use std::net::{Ipv4Addr, Ipv6Addr};
 
 /// Whether an address of 4 or 16 octets is dropped when read: multicast
 /// (224.0.0.0/4, ff00::/8) and host loopback (127.0.0.0/8, ::1), RFC 9463
-/// sections 4.2, 5.2, 6.2. Nothing else is, mapped IPv4 addresses included.
+/// §4.2, §5.2, §6.2. Nothing else is, mapped IPv4 addresses included.
 pub fn is_dropped(address: &[u8]) -> bool {
     if let Ok(octets) = <[u8; 4]>::try_from(address) {
         let address = Ipv4Addr::from(octets);

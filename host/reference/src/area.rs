@@ -1,13 +1,13 @@
-//! The area walk (01 Area walk; points W1 to W11).
+//! The area walk (RULES W1 to W8).
 
 use crate::carrier::{Carrier, Eights};
 use crate::numbers::FRAMING;
 use crate::octets::{take, take_u16, take_u8};
 use std::borrow::Cow;
 
-/// DHCPv4: one octet of padding, no length (RFC 2132 section 3.1).
+/// DHCPv4: one octet of padding, no length (RFC 2132 §3.1).
 const PAD: u8 = 0;
-/// DHCPv4: ends the area, no length (RFC 2132 section 3.2).
+/// DHCPv4: ends the area, no length (RFC 2132 §3.2).
 const END: u8 = 255;
 
 /// The data of the carrier's own options or attributes, in area order; others
@@ -34,7 +34,7 @@ impl<'a> Iterator for OwnOptions<'a> {
                 while let [PAD, rest @ ..] = self.rest {
                     self.rest = rest;
                 }
-                // What follows is ignored, framed or not (point W2).
+                // What follows is ignored, framed or not (RULES W3).
                 if let [END, ..] = self.rest {
                     self.rest = &[];
                 }
@@ -59,15 +59,15 @@ fn take_option<'a>(carrier: Carrier, rest: &mut &'a [u8]) -> Option<(u16, &'a [u
     let (code, length) = match carrier {
         Carrier::Dhcp4 => (u16::from(take_u8(rest)?), usize::from(take_u8(rest)?)),
         Carrier::Dhcp6 => (take_u16(rest)?, usize::from(take_u16(rest)?)),
-        // RFC 4861 section 4.6: the length counts the two octets before, so a
-        // length of 0 is none, for every type (point W5).
+        // RFC 4861 §4.6: the length counts the two octets before, so a
+        // length of 0 is none, for every type (RULES W6).
         Carrier::Router => (
             u16::from(take_u8(rest)?),
             Eights(usize::from(take_u8(rest)?))
                 .in_octets()
                 .checked_sub(2)?,
         ),
-        // RFC 7296 section 3.15.1: the reserved bit is ignored.
+        // RFC 7296 §3.15.1: the reserved bit is ignored.
         Carrier::Ike4 | Carrier::Ike6 => (take_u16(rest)? & 0x7fff, usize::from(take_u16(rest)?)),
     };
     Some((code, take(rest, length)?))

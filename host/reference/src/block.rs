@@ -1,5 +1,5 @@
-//! A block's fields (01 Block layouts; points B1 to B13). Here a block can
-//! have the faults 20 and 29; its contents are judged elsewhere.
+//! A block's fields (RULES B1 to B8). Here a block can have the faults 20 and
+//! 29; its contents are judged elsewhere.
 
 use crate::carrier::Carrier;
 use crate::names::Name;
@@ -18,14 +18,14 @@ pub fn record(carrier: Carrier, data: &[u8]) -> Result<Record<'_>, u8> {
     }
 }
 
-/// Carrier 1: one instance off the joined data, which instances tile (points
-/// B1, B2). None where it runs past the end.
+/// Carrier 1: one instance off the joined data, which instances tile
+/// (RULES B4). None where it runs past the end.
 pub fn take_instance<'a>(joined: &mut &'a [u8]) -> Option<&'a [u8]> {
     let length = take_u16(joined)?;
     take(joined, usize::from(length))
 }
 
-/// RFC 9463 section 5.1. Name only when nothing follows the name, that is when
+/// RFC 9463 §5.1. Name only when nothing follows the name, that is when
 /// L = ADN length + 3; else the parameters are what is left of L.
 fn dhcp4(instance: &[u8]) -> Option<Record<'_>> {
     let mut rest = instance;
@@ -50,8 +50,8 @@ fn dhcp4(instance: &[u8]) -> Option<Record<'_>> {
     })
 }
 
-/// RFC 9463 section 4.1. Name only when nothing follows the name; a single
-/// octet behind it is an address length past the end (point B5).
+/// RFC 9463 §4.1. Name only when nothing follows the name; a single
+/// octet behind it is an address length past the end (RULES B5).
 fn dhcp6(data: &[u8]) -> Option<Record<'_>> {
     let mut rest = data;
     let priority = take_u16(&mut rest)?;
@@ -75,8 +75,8 @@ fn dhcp6(data: &[u8]) -> Option<Record<'_>> {
     })
 }
 
-/// RFC 9463 section 6.1. All fields are tested for 20 before the padding is
-/// for 29 (point B8).
+/// RFC 9463 §6.1. All fields are tested for 20 before the padding is
+/// for 29 (RULES T2).
 fn router(data: &[u8]) -> Result<Record<'_>, u8> {
     let (record, padding) = router_fields(data).ok_or(FIELD)?;
     if padding.len() > 7 || padding.iter().any(|octet| *octet != 0) {
@@ -87,7 +87,7 @@ fn router(data: &[u8]) -> Result<Record<'_>, u8> {
 
 /// The record and what is left behind its last field. Fewer than 8 octets
 /// after the name are padding whatever they hold, 8 or more are the full form
-/// (points B6, B7).
+/// (RULES B5, B6).
 fn router_fields(data: &[u8]) -> Option<(Record<'_>, &[u8])> {
     let mut rest = data;
     let priority = take_u16(&mut rest)?;
@@ -112,8 +112,8 @@ fn router_fields(data: &[u8]) -> Option<(Record<'_>, &[u8])> {
     Some((record, rest))
 }
 
-/// RFC 9464 section 3.1, Figure 1: the addresses stand before the name, and
-/// the parameters are the rest (point B10).
+/// RFC 9464 §3.1, Figure 1: the addresses stand before the name, and
+/// the parameters are the rest (RULES B1).
 fn ike(data: &[u8], width: usize) -> Option<Record<'_>> {
     let mut rest = data;
     let priority = take_u16(&mut rest)?;

@@ -1,4 +1,4 @@
-//! The five carriers (01 What the gateway takes and gives).
+//! The five carriers (RULES C1).
 
 #[derive(Clone, Copy, Debug, PartialEq, Eq)]
 pub enum Carrier {
@@ -25,8 +25,8 @@ impl Carrier {
         self as u8
     }
 
-    /// The code or type of its options or attributes: RFC 9463 sections 9.1
-    /// to 9.3, RFC 9464 section 8.
+    /// The code or type of its options or attributes: RFC 9463 §9.1
+    /// to §9.3, RFC 9464 §8.
     pub fn code(self) -> u16 {
         match self {
             Carrier::Dhcp4 => 162,
@@ -44,19 +44,19 @@ impl Carrier {
         }
     }
 
-    /// House rule: carriers 4 and 5 have no name-only mode.
+    /// House rule: carriers 4 and 5 have no name-only mode (RULES B5).
     pub fn has_name_only(self) -> bool {
         !matches!(self, Carrier::Ike4 | Carrier::Ike6)
     }
 
-    /// 01 The record sheet: lifetime is zero except for carrier 3.
+    /// A lifetime is zero except for carrier 3 (RULES S4).
     pub fn has_lifetime(self) -> bool {
         self == Carrier::Router
     }
 }
 
-/// A length in units of 8 octets, as carrier 3 counts it (RFC 4861 section
-/// 4.6), kept apart from lengths in octets.
+/// A length in units of 8 octets, as carrier 3 counts it (RFC 4861 §4.6;
+/// RULES B3), kept apart from lengths in octets.
 #[derive(Clone, Copy, Debug, PartialEq, Eq)]
 pub struct Eights(pub usize);
 

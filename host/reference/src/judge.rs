@@ -1,5 +1,4 @@
-//! The faults 21 to 28 of a record (01 Numbers given back; points B12 to B20,
-//! S8, S9, S13).
+//! The faults 21 to 28 of a record in their order (RULES T2, T4).
 
 use crate::addresses::count_kept;
 use crate::carrier::Carrier;
@@ -16,7 +15,7 @@ pub enum Call {
 
 /// How many addresses the record keeps, or its first fault of 21 to 28.
 pub fn judge(call: Call, carrier: Carrier, record: &Record) -> Result<usize, u8> {
-    // AliasMode (RFC 9460 section 2.4.2) is not supported, RFC 9464 section 3.1.
+    // AliasMode (RFC 9460 §2.4.2) is not supported, RFC 9464 §3.1.
     if record.priority == 0 {
         return Err(ALIAS);
     }
@@ -35,7 +34,7 @@ pub fn judge(call: Call, carrier: Carrier, record: &Record) -> Result<usize, u8>
     if full.addresses.is_empty() || !full.addresses.len().is_multiple_of(width) {
         return Err(NO_ADDRESS);
     }
-    // As carried, before any is dropped (point B14).
+    // As carried, before any is dropped (RULES L3).
     let carried = full.addresses.len() / width;
     if carried > MAX_ADDRESSES || full.params.len() > MAX_PARAMS {
         return Err(OVER_LIMIT);

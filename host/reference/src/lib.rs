@@ -1,10 +1,9 @@
 //! A reference codec for encrypted DNS resolver options: DHCPv4 option 162,
 //! DHCPv6 option 144, router advertisement option 144 and the IKEv2
 //! attributes 27 and 28 (RFC 9463, RFC 9464, RFC 9460), read into and written
-//! from record sheets as document 01 (`01-scope.md`) defines them.
+//! from record sheets as docs/RULES.md defines them.
 //!
-//! A comment `01 Names` names the part of document 01 that gives the rule; a
-//! comment such as `point B7` names an open point and the reading chosen.
+//! A comment such as `RULES B6` names the rule that is followed.
 
 #![forbid(unsafe_code)]
 
@@ -28,13 +27,13 @@ pub use params::params_fault;
 pub use read::{read, Reading};
 pub use write::{write, Writing};
 
-/// 01 The record sheet, limits: octets of an area or of a sheet taken.
+/// Octets of an area or of a sheet taken (RULES L1).
 pub const MAX_INPUT: usize = 40_960;
-/// 01 The record sheet, limits: records of a sheet.
+/// Records of a sheet (RULES L2).
 pub const MAX_RECORDS: usize = 16;
-/// 01 The record sheet, limits: addresses of a record.
+/// Addresses of a record (RULES L3).
 pub const MAX_ADDRESSES: usize = 63;
-/// 01 The record sheet, limits: octets of a record's parameters.
+/// Octets of a record's parameters (RULES L4).
 pub const MAX_PARAMS: usize = 1_024;
-/// 01 The record sheet: the largest sheet.
+/// Octets of the largest sheet (RULES L5).
 pub const MAX_SHEET: usize = 36_775;

@@ -1,4 +1,4 @@
-//! Names (01 Names, addresses, parameters; points G1, N1 to N4).
+//! Names (RULES N1 to N5).
 //!
 //! Wire form: RFC 1035 labels of 1 to 63 octets, each behind its length octet,
 //! no compression, one final root octet, 3 to 255 octets in all. Text form,
@@ -6,11 +6,11 @@
 //! octets. House rule: only letters, digits and hyphen, and a label begins and
 //! ends with a letter or a digit. Case is kept.
 
-/// RFC 1035 section 2.3.4: octets of a label.
+/// RFC 1035 §2.3.4: octets of a label.
 const MAX_LABEL: usize = 63;
-/// RFC 1035 section 2.3.4: octets of a name in wire form.
+/// RFC 1035 §2.3.4: octets of a name in wire form.
 const MAX_WIRE: usize = 255;
-/// 01 Names: octets of a name as text; the wire form has two more (point N2).
+/// Octets of a name as text; the wire form has two more (RULES N4).
 const MAX_TEXT: usize = 253;
 
 /// A name as it stands: text in blocks of carriers 4 and 5, else wire form.
@@ -47,7 +47,7 @@ impl Name<'_> {
 
 /// Checks a name in wire form. The error is the place, from 0, of the first
 /// octet at which no acceptable name can continue, or the name's length if it
-/// is only cut short (point G1).
+/// is only cut short (RULES N5).
 pub fn check_wire(name: &[u8]) -> Result<(), usize> {
     // Where the next length octet stands.
     let mut place = 0;
@@ -64,7 +64,7 @@ pub fn check_wire(name: &[u8]) -> Result<(), usize> {
                 _ => Err(place + 1),
             };
         }
-        // Pointers and reserved label types (RFC 1035 section 4.1.4) are no
+        // Pointers and reserved label types (RFC 1035 §4.1.4) are no
         // lengths of 1 to 63. Behind the label there must be a place for the
         // root within 255 octets, else the length octet itself is at fault.
         let next = place + 1 + length;
@@ -81,7 +81,7 @@ pub fn check_wire(name: &[u8]) -> Result<(), usize> {
 
 /// The first wrong octet among those present of a label of `length` octets.
 /// The length octet tells where the label ends, so a hyphen at its end is
-/// itself wrong (point G1).
+/// itself wrong (RULES N5).
 fn bad_in_label(present: &[u8], length: usize) -> Option<usize> {
     if present.first() == Some(&b'-') {
         return Some(0);
@@ -97,7 +97,7 @@ fn bad_in_label(present: &[u8], length: usize) -> Option<usize> {
 
 /// Checks a name in text form; the error is as for `check_wire`. Nothing tells
 /// where a label ends, so a hyphen is wrong only where no letter or digit of
-/// the same label can come behind it (point G1).
+/// the same label can come behind it (RULES N5).
 pub fn check_text(text: &[u8]) -> Result<(), usize> {
     // Octets of the current label so far, and whether it may end here.
     let mut length = 0;

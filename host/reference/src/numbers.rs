@@ -1,4 +1,4 @@
-//! 01 Numbers given back.
+//! The numbers given back (RULES R1 to R44).
 
 /// Reading: the carrier number is not 1 to 5.
 pub const NO_CARRIER: u8 = 1;

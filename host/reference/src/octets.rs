@@ -1,5 +1,5 @@
 //! Fields taken off a slice and put into a lent buffer, most significant
-//! octet first (01 What the gateway takes and gives).
+//! octet first (RULES C2).
 
 /// Takes `count` octets off the front of `rest`; none where fewer are left.
 pub fn take<'a>(rest: &mut &'a [u8], count: usize) -> Option<&'a [u8]> {

@@ -1,5 +1,4 @@
-//! Service parameters (01 Names, addresses, parameters; RFC 9460 section 2.2;
-//! points B16 to B18).
+//! Service parameters (RULES P1 to P8; RFC 9460 §2.2).
 
 use crate::numbers::{PARAMS_HINT, PARAMS_SHAPE, PARAMS_VALUE};
 use crate::octets::{take, take_u16, take_u8};
@@ -10,7 +9,7 @@ const NO_DEFAULT_ALPN: u16 = 2;
 const PORT: u16 = 3;
 const IPV4HINT: u16 = 4;
 const IPV6HINT: u16 = 6;
-/// RFC 9460 section 14.3.2: reserved ("Invalid key").
+/// RFC 9460 §14.3.2: reserved ("Invalid key").
 const INVALID: u16 = 65_535;
 
 /// One parameter: 16-bit key, 16-bit length, value. None where it runs past
@@ -22,7 +21,7 @@ fn take_param<'a>(rest: &mut &'a [u8]) -> Option<(u16, &'a [u8])> {
 }
 
 /// The fault of a parameter field, 0 if there is none. The whole field is
-/// looked at for 26, then for 27, then for 28 (point B16). The field may be
+/// looked at for 26, then for 27, then for 28 (RULES T3). The field may be
 /// empty.
 pub fn params_fault(params: &[u8]) -> u8 {
     let mut rest = params;
@@ -30,7 +29,7 @@ pub fn params_fault(params: &[u8]) -> u8 {
     let mut hints = false;
     let mut values_good = true;
     while !rest.is_empty() {
-        // RFC 9460 section 2.2: the parameters tile the field and their keys
+        // RFC 9460 §2.2: the parameters tile the field and their keys
         // rise strictly.
         let Some((key, value)) = take_param(&mut rest) else {
             return PARAMS_SHAPE;
@@ -39,7 +38,7 @@ pub fn params_fault(params: &[u8]) -> u8 {
             return PARAMS_SHAPE;
         }
         before = Some(key);
-        // RFC 9463 section 3.1.8: the addresses stand in the option instead.
+        // RFC 9463 §3.1.8: the addresses stand in the option instead.
         hints |= key == IPV4HINT || key == IPV6HINT;
         values_good = values_good && value_is_good(key, value);
     }
@@ -55,18 +54,18 @@ pub fn params_fault(params: &[u8]) -> u8 {
 /// What a value alone must be. Keys 5 and 7 to 65534 are carried as they are.
 fn value_is_good(key: u16, value: &[u8]) -> bool {
     match key {
-        // RFC 9460 section 8: a list of keys, not empty.
+        // RFC 9460 §8: a list of keys, not empty.
         MANDATORY => !value.is_empty() && value.len().is_multiple_of(2),
         ALPN => is_alpn(value),
-        // RFC 9460 section 7.1.1: empty.
+        // RFC 9460 §7.1.1: empty.
         NO_DEFAULT_ALPN => value.is_empty(),
-        // RFC 9460 section 7.2: 2 octets, any port.
+        // RFC 9460 §7.2: 2 octets, any port.
         PORT => value.len() == 2,
         _ => true,
     }
 }
 
-/// RFC 9460 section 7.1.1: one or more strings, each behind an 8-bit length of
+/// RFC 9460 §7.1.1: one or more strings, each behind an 8-bit length of
 /// at least 1, tiling the value.
 fn is_alpn(value: &[u8]) -> bool {
     let mut rest = value;
@@ -79,7 +78,7 @@ fn is_alpn(value: &[u8]) -> bool {
     !value.is_empty()
 }
 
-/// RFC 9460 section 8: the mandatory keys rise strictly, 0 is not among them,
+/// RFC 9460 §8: the mandatory keys rise strictly, 0 is not among them,
 /// and each is a key of the same parameters. `params` tiles, its keys rise,
 /// and a mandatory list has an even length.
 fn mandatory_are_present(params: &[u8]) -> bool {

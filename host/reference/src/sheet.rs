@@ -1,5 +1,4 @@
-//! The record sheet, house edition 1 (01 The record sheet; points S5 to S7,
-//! S14).
+//! The record sheet, edition 1 (RULES S1 to S5, T5).
 
 use crate::carrier::Carrier;
 use crate::names::Name;

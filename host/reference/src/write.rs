@@ -1,5 +1,4 @@
-//! Writing a record sheet as option octets (01 Block layouts, Numbers given
-//! back; points S8 to S16).
+//! Writing a record sheet as option octets (RULES E1 to E3, T5).
 
 use crate::carrier::{Carrier, Eights};
 use crate::judge::{judge, Call};
@@ -9,7 +8,7 @@ use crate::octets::Pen;
 use crate::record::Record;
 use crate::sheet::Sheet;
 
-/// 01 Numbers given back, 44: octets of a carrier 3 option when rounded.
+/// Octets of a carrier 3 option when rounded (RULES L6).
 const MAX_ROUTER: usize = 2_040;
 /// DHCPv4: the most octets of data in an option.
 const OPTION_DATA: usize = 255;
@@ -35,8 +34,8 @@ pub fn write(sheet: &[u8], out: &mut [u8]) -> Writing {
     }
 }
 
-/// 01 Numbers given back: writing checks 2, 40, 41, 42, 4, 43, then 21 to 28
-/// record by record, then 44, then 5.
+/// Writing tests 2, 40, 41, 42, 4, 43, then 21 to 28 record by record, then 44,
+/// then 5 (RULES T5).
 fn try_write(sheet: &[u8], out: &mut [u8]) -> Result<usize, u8> {
     let sheet = Sheet::take(sheet)?;
     let carrier = sheet.carrier;
@@ -117,7 +116,7 @@ fn wire_name<'a>(record: &Record<'a>) -> &'a [u8] {
     name
 }
 
-/// RFC 9463 section 4.1.
+/// RFC 9463 §4.1.
 fn put_dhcp6(pen: &mut Pen, record: &Record) {
     let name = wire_name(record);
     pen.put_u16(Carrier::Dhcp6.code());
@@ -132,7 +131,7 @@ fn put_dhcp6(pen: &mut Pen, record: &Record) {
     }
 }
 
-/// RFC 9463 section 6.1, with the fewest zeros behind.
+/// RFC 9463 §6.1, with the fewest zeros behind.
 fn put_router(pen: &mut Pen, record: &Record) {
     let name = wire_name(record);
     let eights = router_eights(record);
@@ -152,7 +151,7 @@ fn put_router(pen: &mut Pen, record: &Record) {
     pen.space(eights.in_octets() - octets).fill(0);
 }
 
-/// RFC 9464 section 3.1, Figure 1; the reserved bit is 0. A record of these
+/// RFC 9464 §3.1, Figure 1; the reserved bit is 0. A record of these
 /// carriers is never name only.
 fn put_ike(pen: &mut Pen, carrier: Carrier, record: &Record) {
     let name = wire_name(record);
@@ -169,7 +168,7 @@ fn put_ike(pen: &mut Pen, carrier: Carrier, record: &Record) {
     pen.put(params);
 }
 
-/// RFC 9463 section 5.1, one instance behind its length.
+/// RFC 9463 §5.1, one instance behind its length.
 fn put_instance(cutter: &mut Cutter, record: &Record) {
     let name = wire_name(record);
     cutter.put(&(body_length(Carrier::Dhcp4, record) as u16).to_be_bytes());
@@ -184,7 +183,7 @@ fn put_instance(cutter: &mut Cutter, record: &Record) {
 }
 
 /// Cuts joined octets into options 162 of 255 octets each and a last one of 1
-/// to 255 (RFC 3396; 01 Numbers given back).
+/// to 255 (RFC 3396; RULES E2).
 struct Cutter<'o> {
     pen: Pen<'o>,
     /// Joined octets still to be put.

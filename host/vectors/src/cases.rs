@@ -32,7 +32,7 @@ impl Kind {
 pub struct Cases {
     list: Vec<(Kind, Vec<u8>)>,
     seen: HashSet<(Kind, Vec<u8>)>,
-    /// What the papers say of some of them: octets, answer, source.
+    /// What RULES and RFC 9460 say of some of them: octets, answer, source.
     stated: Vec<(Kind, Vec<u8>, String, &'static str)>,
 }
 
@@ -45,7 +45,7 @@ impl Cases {
         }
     }
 
-    /// Adds a case with the answer that a paper gives.
+    /// Adds a case with the answer that its source gives.
     pub fn state(
         &mut self,
         source: &'static str,

@@ -2,10 +2,10 @@
 //! same octets every time.
 //!
 //! - `vectors DIRECTORY`: vectors over names, addresses and parameters, one a
-//!   line, and for each the line that the reference answers; what document 01
-//!   says of the first of them is stated, and the reference must confirm it.
+//!   line, and for each the line that the reference answers; what the rules
+//!   say of the first of them is stated, and the reference must confirm it.
 //! - `vectors boundaries DIRECTORY [LIST]`: boundary cases of reading and
-//!   writing, in octets, and for each the line that document 01 states and the
+//!   writing, in octets, and for each the line that the rules state and the
 //!   reference confirms. The file LIST tells the source of each line.
 
 mod addresses;
@@ -95,7 +95,7 @@ mod tests {
         assert_eq!(all_cases().stdin(), stdin);
     }
 
-    /// What document 01 says of the cases that are stated.
+    /// What the rules say of the cases that are stated.
     #[test]
     fn the_reference_agrees() {
         let disagreements = all_cases().disagreements();

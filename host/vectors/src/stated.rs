@@ -1,6 +1,6 @@
-//! Cases with the answer that document 01 gives, stated here, and the test
-//! vectors of RFC 9460, Appendix D, with document 01's numbers. The files are
-//! written only if the reference answers the same.
+//! Cases with the answer that the rules give, stated here, and the test vectors
+//! of RFC 9460 §D with the numbers of the rules. The files are written only if
+//! the reference answers the same.
 
 use crate::cases::{hex, Cases, Kind};
 use crate::names::{text, wire, with};
@@ -20,10 +20,10 @@ fn bad(place: usize) -> String {
     format!("bad {place}")
 }
 
-/// 01 Names, in wire form.
+/// Names in wire form (RULES N1, N2, N5).
 fn add_wire(cases: &mut Cases) {
     let mut state = |octets: &[u8], answer: String| {
-        cases.state("01 Names, wire form", Kind::Wire, octets, answer);
+        cases.state("RULES N1, wire form", Kind::Wire, octets, answer);
     };
     state(b"\x01a\0", ok("a"));
     state(b"\x04doh1\x07example\x03com\0", ok("doh1.example.com"));
@@ -47,10 +47,10 @@ fn add_wire(cases: &mut Cases) {
     state(&wire(&[63, 63, 63, 61, 1]), bad(254));
 }
 
-/// 01 Names, as text.
+/// Names as text (RULES N4, N5).
 fn add_text(cases: &mut Cases) {
     let mut state = |octets: &[u8], answer: String| {
-        cases.state("01 Names, text", Kind::Text, octets, answer);
+        cases.state("RULES N4, text", Kind::Text, octets, answer);
     };
     let doh1 = b"\x04doh1\x07example\x03com\0";
     state(b"doh1.example.com", ok(doh1));
@@ -89,10 +89,10 @@ fn sixteen(first: &[u8], last: &[u8]) -> Vec<u8> {
     [first, &zeros, last].concat()
 }
 
-/// 01 Addresses: multicast (224.0.0.0/4, ff00::/8) and host loopback
+/// RULES A1, A2: multicast (224.0.0.0/4, ff00::/8) and host loopback
 /// (127.0.0.0/8, ::1) are dropped, the rest keep their order.
 fn add_addresses(cases: &mut Cases) {
-    let source = "01 Addresses";
+    let source = "RULES A1, A2";
     let dropped = || "0 1".to_string();
     let kept = |count: usize, drops: u8, list: &[u8]| format!("{count} {drops} {}", hex(list));
     for first in [0, 126, 128, 223, 240, 255] {
@@ -127,65 +127,53 @@ fn add_addresses(cases: &mut Cases) {
 
 /// Parameter fields: what they show, the field, the fault or 0.
 const FIELDS: [(&str, &[u8], usize); 18] = [
-    ("01, the field may be empty", b"", 0),
-    ("01, P", b"\0\x01\0\x04\x03dot", 0),
-    ("RFC 9460 section D.2, port 53", b"\0\x03\0\x02\0\x35", 0),
-    ("RFC 9460 section D.2, key667", b"\x02\x9b\0\x05hello", 0),
+    ("RULES P1, the field may be empty", b"", 0),
+    ("RULES K1, P", b"\0\x01\0\x04\x03dot", 0),
+    ("RFC 9460 §D.2, port 53", b"\0\x03\0\x02\0\x35", 0),
+    ("RFC 9460 §D.2, key667", b"\x02\x9b\0\x05hello", 0),
     (
-        "01, mandatory alpn, alpn h2, no-default-alpn",
+        "RULES P4, mandatory alpn, alpn h2, no-default-alpn",
         b"\0\0\0\x02\0\x01\0\x01\0\x03\x02h2\0\x02\0\0",
         0,
     ),
-    ("01, key 65,534", b"\xff\xfe\0\0", 0),
-    ("01, key 65,535", b"\xff\xff\0\0", 26),
+    ("RULES P2, key 65,534", b"\xff\xfe\0\0", 0),
+    ("RULES P2, key 65,535", b"\xff\xff\0\0", 26),
     (
-        "RFC 9460 section D.3, key123 twice",
+        "RFC 9460 §D.3, key123 twice",
         b"\0\x7b\0\x03abc\0\x7b\0\x03def",
         26,
     ),
     (
-        "01, ipv4hint cut, 26 before 27",
+        "RULES T3, ipv4hint cut, 26 before 27",
         b"\0\x04\0\x04\xc0\0\x02",
         26,
     ),
     (
-        "RFC 9460 section D.2, mandatory alpn and ipv4hint",
+        "RFC 9460 §D.2, mandatory alpn and ipv4hint",
         b"\0\0\0\x04\0\x01\0\x04\0\x01\0\x09\x02h2\x05h3-19\0\x04\0\x04\xc0\0\x02\x01",
         27,
     ),
-    ("01, 27 before 28", b"\0\x01\0\x01\0\0\x06\0\0", 27),
+    ("RULES T3, 27 before 28", b"\0\x01\0\x01\0\0\x06\0\0", 27),
+    ("RFC 9460 §D.3, mandatory without a value", b"\0\0\0\0", 28),
+    ("RFC 9460 §D.3, alpn without a value", b"\0\x01\0\0", 28),
+    ("RFC 9460 §D.3, port without a value", b"\0\x03\0\0", 28),
     (
-        "RFC 9460 section D.3, mandatory without a value",
-        b"\0\0\0\0",
-        28,
-    ),
-    (
-        "RFC 9460 section D.3, alpn without a value",
-        b"\0\x01\0\0",
-        28,
-    ),
-    (
-        "RFC 9460 section D.3, port without a value",
-        b"\0\x03\0\0",
-        28,
-    ),
-    (
-        "RFC 9460 section D.3, no-default-alpn with a value",
+        "RFC 9460 §D.3, no-default-alpn with a value",
         b"\0\x02\0\x03abc",
         28,
     ),
     (
-        "RFC 9460 section D.3, a mandatory key is missing",
+        "RFC 9460 §D.3, a mandatory key is missing",
         b"\0\0\0\x02\0\x7b",
         28,
     ),
     (
-        "RFC 9460 section D.3, mandatory names itself",
+        "RFC 9460 §D.3, mandatory names itself",
         b"\0\0\0\x02\0\0",
         28,
     ),
     (
-        "RFC 9460 section D.3, a key twice in the mandatory list",
+        "RFC 9460 §D.3, a key twice in the mandatory list",
         b"\0\0\0\x04\0\x7b\0\x7b\0\x7b\0\x03abc",
         28,
     ),

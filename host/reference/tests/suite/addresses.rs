@@ -1,4 +1,4 @@
-//! 01 Addresses; point B19.
+//! Addresses (RULES A1, A2).
 
 use crate::common::*;
 use dnr_reference::{is_dropped, kept};
@@ -58,7 +58,7 @@ fn the_rest_keep_their_order() {
     assert!(kept(16, &[loopback, multicast].concat()).is_empty());
 }
 
-/// In all carriers (house rule for 4 and 5).
+/// In all carriers (RULES A1, a house rule for 4 and 5).
 #[test]
 fn dropped_in_every_carrier() {
     for carrier in 1..=5 {

@@ -1,4 +1,4 @@
-//! 01 Area walk; points W1 to W11, S2 to S4.
+//! From an area to blocks (RULES W1 to W10).
 
 use crate::common::*;
 use dnr_reference::read;
@@ -7,12 +7,12 @@ use dnr_reference::read;
 fn carrier_not_1_to_5_is_1() {
     for carrier in [0, 6, 7, 128, 255] {
         assert_eq!(read_number(carrier, &[]), 1);
-        // Before 2 (point S4).
+        // Before 2 (RULES T1).
         assert_eq!(read_number(carrier, &[0; 40_961]), 1);
     }
 }
 
-/// Point W1: the whole area counts, also behind code 255; 2 goes before 3.
+/// The whole area counts, also behind code 255 (RULES L1); 2 goes before 3.
 #[test]
 fn too_long_is_2() {
     let mut area = vec![255; 40_960];
@@ -26,7 +26,7 @@ fn too_long_is_2() {
 
 #[test]
 fn headers_and_bodies_past_the_end_are_3() {
-    // Points W3, W5, W6.
+    // RULES R3, W6.
     let cases: [(u8, &[u8]); 19] = [
         (1, &[1]),
         (1, &[162]),
@@ -53,7 +53,7 @@ fn headers_and_bodies_past_the_end_are_3() {
     }
 }
 
-/// Point W2: what follows 255 is not framed; 0 and 255 have no length.
+/// What follows 255 is not framed; 0 and 255 have no length (RULES W2, W3).
 #[test]
 fn dhcp4_end_and_padding() {
     let k2 = option(1, &block(1, 1, (N, None)));
@@ -73,7 +73,7 @@ fn dhcp4_end_and_padding() {
     }
 }
 
-/// Points W4, W8, B9: a block that has nothing in it.
+/// A block that has nothing in it (RULES W4, W7, R20).
 #[test]
 fn empty_blocks_are_20() {
     assert_eq!(counts(1, &[162, 0]), (1, 1, 20));
@@ -84,7 +84,8 @@ fn empty_blocks_are_20() {
     assert_eq!(counts(5, &[128, 28, 0, 0, 0, 28, 0, 0]), (2, 2, 20));
 }
 
-/// Others are skipped; four zeros are a foreign option in carriers 2, 4, 5.
+/// Others are skipped; four zeros are a foreign option in carriers 2, 4, 5
+/// (RULES W8).
 #[test]
 fn foreign_options() {
     let text = b"doh1.example.com";
@@ -122,7 +123,7 @@ fn foreign_options() {
     }
 }
 
-/// Point W9: the reserved bit is ignored when read.
+/// The reserved bit is ignored when read (RULES W7).
 #[test]
 fn reserved_bit() {
     for carrier in [4, 5] {
@@ -135,7 +136,7 @@ fn reserved_bit() {
     }
 }
 
-/// Points W10, B21: the same block twice gives two records.
+/// The same block twice gives two records (RULES W8).
 #[test]
 fn duplicates_are_kept() {
     let block = block(5, 7, full(b"a.b", A, P));
@@ -145,7 +146,7 @@ fn duplicates_are_kept() {
     assert_eq!(octets, sheet(5, &[one.clone(), one]));
 }
 
-/// Point W7, S2: 3 before 4 before 5, wherever it stands.
+/// 3 before 4 before 5, wherever it stands (RULES T1).
 #[test]
 fn order_of_refusals() {
     let mut area = block(2, 1, (N, None)).repeat(17);
@@ -157,7 +158,7 @@ fn order_of_refusals() {
 }
 
 /// Faulty blocks are discarded and the reading goes on; the first fault is
-/// given.
+/// given (RULES W9, W10).
 #[test]
 fn the_first_fault_and_the_counts() {
     let good = block(2, 4, full(N, A, P));

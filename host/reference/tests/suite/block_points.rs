@@ -1,8 +1,9 @@
-//! 01 Block layouts; points B1 to B15, B20.
+//! From a block to fields (RULES B1 to B8).
 
 use crate::common::*;
 
-/// Points B1, B2: instances in order, each with its first fault; they tile.
+/// Instances in order, each with its first fault (RULES T2); they tile
+/// (RULES B4).
 #[test]
 fn instances() {
     let good = block(1, 1, full(N, A4, P));
@@ -24,7 +25,7 @@ fn instances() {
     }
 }
 
-/// An instance is read from its own octets and nothing around them.
+/// An instance is read from its own octets and nothing around them (RULES B4).
 #[test]
 fn an_instance_ends_where_it_says() {
     // The address list would fit the joined data but not the instance.
@@ -36,7 +37,7 @@ fn an_instance_ends_where_it_says() {
     );
 }
 
-/// Points B3, B4.
+/// Name only in carrier 1, and L (RULES B5).
 #[test]
 fn instance_lengths() {
     for (instance, fault) in [
@@ -55,7 +56,8 @@ fn instance_lengths() {
     }
 }
 
-/// Points B5, B13.
+/// Carrier 2: what follows the name (RULES B5), and ADN lengths above 255
+/// (RULES N1).
 #[test]
 fn dhcp6_lengths() {
     for (data, fault) in [
@@ -86,7 +88,7 @@ fn router_with(tail: &[u8]) -> Vec<u8> {
     octets
 }
 
-/// Points B6, B7, B8.
+/// Carrier 3: name only, full form and padding (RULES B5 to B7, T2).
 #[test]
 fn router_padding() {
     for zeros in 0..40 {
@@ -137,7 +139,7 @@ fn router_padding() {
     assert_eq!(fault_of(3, &option(3, &long)), 22);
 }
 
-/// Point B20: lifetimes of every kind, with either mode.
+/// Lifetimes of every kind, with either mode (RULES S4).
 #[test]
 fn router_lifetime() {
     for lifetime in [0, 1, u32::MAX] {
@@ -148,7 +150,7 @@ fn router_lifetime() {
     }
 }
 
-/// Points B10 to B12.
+/// Carriers 4 and 5 (RULES B1, R23, N4).
 #[test]
 fn ike_lengths() {
     for (data, fault) in [
@@ -179,7 +181,7 @@ fn ike_lengths() {
     }
 }
 
-/// RFC 9464 appendix A.1, Figure 6: 1, 1, 15, 2001:db8:99:88:77:66:55:44,
+/// RFC 9464 §A.1, Figure 6: 1, 1, 15, 2001:db8:99:88:77:66:55:44,
 /// doh.example.com, alpn=h2 dohpath=/dns-query{?dns}.
 #[test]
 fn rfc_9464_example() {
@@ -205,7 +207,7 @@ fn rfc_9464_example() {
     );
 }
 
-/// The order 21 to 28 within one block.
+/// The order 21 to 28 within one block (RULES T2).
 #[test]
 fn first_fault_of_a_block() {
     let bad_params = hex("0003 0001 00 0006 0000 00");

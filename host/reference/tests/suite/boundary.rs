@@ -1,4 +1,4 @@
-//! 01 Boundary pieces.
+//! The boundary pieces (RULES K1 to K13).
 
 use crate::common::*;
 use dnr_reference::Reading;

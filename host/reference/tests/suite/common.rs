@@ -1,4 +1,4 @@
-//! Octets of the papers, builders of areas and sheets, and calls that also
+//! Octets of RULES, builders of areas and sheets, and calls that also
 //! test what every call promises of its buffer.
 
 use dnr_reference::{read, write, Reading};
@@ -31,8 +31,8 @@ fn u16_of(number: usize) -> [u8; 2] {
     u16::try_from(number).unwrap().to_be_bytes()
 }
 
-/// The fields of a block or instance after its header, as the table of
-/// document 01 lists them; in carrier 3 without padding.
+/// The fields of a block or instance after its header, as RULES B1 lists them;
+/// in carrier 3 without padding.
 pub fn body(carrier: u8, priority: u16, lifetime: u32, (name, parts): Fields) -> Vec<u8> {
     let mut octets = priority.to_be_bytes().to_vec();
     let length = |octets: usize| match carrier {

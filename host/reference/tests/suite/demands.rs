@@ -1,4 +1,4 @@
-//! Demands 1 to 3 of the customer's note, over generated sheets and areas.
+//! RULES D1 to D3 over generated sheets and areas.
 
 use crate::common::*;
 
@@ -71,7 +71,7 @@ fn uncut(octets: &[u8]) -> Vec<u8> {
     joined
 }
 
-/// Demand 2: reading what is written gives the sheet back.
+/// RULES D2: reading what is written gives the sheet back.
 #[test]
 fn sheets_go_round() {
     let mut numbers = Numbers(2);
@@ -90,7 +90,7 @@ fn sheets_go_round() {
     }
 }
 
-/// Demand 3: every cut of carriers 2 to 5.
+/// RULES D3: every cut of carriers 2 to 5.
 #[test]
 fn cuts() {
     let mut numbers = Numbers(3);
@@ -120,7 +120,7 @@ fn cuts() {
     }
 }
 
-/// Demand 3: leading octets exactly for leading records.
+/// RULES D3: leading octets exactly for leading records.
 #[test]
 fn leading_parts() {
     let mut numbers = Numbers(4);
@@ -143,7 +143,7 @@ fn leading_parts() {
     }
 }
 
-/// Demand 1: any octets, any room; damaged areas and sheets among them.
+/// RULES D1: any octets, any room; damaged areas and sheets among them.
 #[test]
 fn any_octets_and_any_room() {
     let mut numbers = Numbers(5);

@@ -1,4 +1,4 @@
-//! 01 The record sheet, limits; points B14, B15, S1, S16.
+//! The limits (RULES L1 to L5).
 
 use crate::common::*;
 
@@ -21,7 +21,7 @@ fn params_1024_and_1025() {
     assert_eq!(fault_of(2, &v6_with_params(&params_of(1_025))), 24);
 }
 
-/// Point B14: 64 addresses as carried are too many, also if 63 are dropped.
+/// 64 addresses as carried are too many, also if 63 are dropped (RULES L3).
 #[test]
 fn addresses_are_counted_as_carried() {
     let multicast = [vec![0xff], vec![0; 15]].concat();
@@ -30,7 +30,7 @@ fn addresses_are_counted_as_carried() {
     assert_eq!(fault_of(2, &block(2, 1, full(N, &list(63), P))), 24);
 }
 
-/// Point B15: carrier 1 cannot carry 64 addresses.
+/// Carrier 1 cannot carry 64 addresses (RULES L3, C1).
 #[test]
 fn dhcp4_address_lengths() {
     for (length, fault) in [(252, 0), (253, 23), (254, 23), (255, 23), (6, 23)] {
@@ -42,7 +42,7 @@ fn dhcp4_address_lengths() {
 }
 
 /// Sixteen of the largest records: a sheet of 36,775 octets, written as less
-/// than 40,960 (point S16).
+/// than 40,960 (RULES L5, L1).
 #[test]
 fn the_largest_sheet() {
     let name = longest_name();
@@ -66,8 +66,8 @@ fn the_largest_sheet() {
     goes_round(1, &written, &octets);
 }
 
-/// Point S1: 4 counts kept records; a fault in any instance, the 17th or
-/// later too, discards the block and there is no 4.
+/// 4 counts kept records; a fault in any instance, the 17th or later too,
+/// discards the block and there is no 4 (RULES T2).
 #[test]
 fn seventeen_instances() {
     let good = block(1, 3, (b"\x01a\0", None));
@@ -81,7 +81,7 @@ fn seventeen_instances() {
     assert_eq!(read_done(1, &area(20, &[0])).1, sheet(1, &[]));
 }
 
-/// Discarded blocks do not count towards 16.
+/// Discarded blocks do not count towards 16 (RULES R4).
 #[test]
 fn only_kept_records_count() {
     let good = block(2, 3, (N, None));

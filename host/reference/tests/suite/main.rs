@@ -1,4 +1,4 @@
-//! Tests of the reference codec against document 01 and the points chosen.
+//! Tests of the reference codec against docs/RULES.md and docs/DECISIONS.md.
 
 mod addresses;
 mod area_points;

@@ -1,4 +1,4 @@
-//! 01 Names; points N1 to N4; places of point G1.
+//! Names (RULES N1 to N4) and places (RULES N5).
 
 use crate::common::*;
 use dnr_reference::{check_text, check_wire, text_to_wire, wire_to_text};

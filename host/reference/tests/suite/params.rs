@@ -1,4 +1,4 @@
-//! 01 Parameters; RFC 9460; points B16 to B18.
+//! Service parameters (RULES P1 to P8; RFC 9460).
 
 use crate::common::*;
 use dnr_reference::params_fault;
@@ -18,7 +18,7 @@ fn good_fields() {
     );
     // Keys 5, 7 and 65534 as they are, empty or not.
     assert_eq!(fault("0005 0000 0007 0001 2f fffe 0000"), 0);
-    // RFC 9461 section 5: dohpath=/dns-query{?dns}
+    // RFC 9461 §5: dohpath=/dns-query{?dns}
     assert_eq!(fault("0007 0010 2f646e732d71756572797b3f646e737d"), 0);
     assert_eq!(
         params_fault(&[hex("ff00 03fc"), vec![0; 1_020]].concat()),
@@ -86,7 +86,7 @@ fn values_are_28() {
     }
 }
 
-/// Point B16: the whole field for 26, then for 27, then for 28.
+/// The whole field for 26, then for 27, then for 28 (RULES T3).
 #[test]
 fn the_earlier_number_wins_over_the_earlier_parameter() {
     assert_eq!(fault("0004 0000 0005 0001"), 26);
@@ -94,7 +94,7 @@ fn the_earlier_number_wins_over_the_earlier_parameter() {
     assert_eq!(fault("0000 0000 0001 0000 ffff 0000"), 26);
 }
 
-/// Point B17.
+/// A list that names key 4, 6 or 65535 (RULES P4).
 #[test]
 fn a_mandatory_hint() {
     assert_eq!(fault("0000 0002 0004 0004 0000"), 27);

@@ -1,4 +1,4 @@
-//! Places against a search (point G1): a place is found by asking of every
+//! Places against a search (RULES N5): a place is found by asking of every
 //! leading part whether some acceptable name begins so. Two searches are made:
 //! one over the states of a grammar that knows the limits only as "the whole
 //! name has at most so many octets", one over whole names.
@@ -45,7 +45,7 @@ fn short_text_names_by_states() {
     }
 }
 
-/// A label of the house rule, whole.
+/// A label as RULES N2 allows it, whole.
 fn is_label(label: &[u8]) -> bool {
     let good = |octet: &u8| octet.is_ascii_alphanumeric();
     (1..=63).contains(&label.len())

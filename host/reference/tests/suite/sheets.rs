@@ -1,4 +1,4 @@
-//! Taking and writing sheets; points S5 to S15, S18.
+//! Taking and writing sheets (RULES S1 to S5, T5, E1 to E3).
 
 use crate::common::*;
 
@@ -18,14 +18,14 @@ fn numbers_2_40_41_42_4_in_order() {
     for carrier in [0, 6, 255] {
         assert_eq!(write_number(&[b'R', b'S', b'V', 0, 1, carrier, 99]), 42);
     }
-    // Point S5: 4 even where the sheet does not tile; 2 before 40.
+    // 4 even where the sheet does not tile; 2 before 40 (RULES T5).
     assert_eq!(write_number(b"RSV\0\x01\x02\x11"), 4);
     assert_eq!(write_number(b"RSV\0\x01\x02\x10"), 43);
     assert_eq!(write_number(&[0; 40_960]), 40);
     assert_eq!(write_number(&[0; 40_961]), 2);
 }
 
-/// Points S6, S7, S14.
+/// RULES R43, over all records before any 21 (RULES T5).
 #[test]
 fn shape_is_43() {
     let good = sheet(2, &[name_only(2), record(2, 1, 0, full(N, A, P))]);
@@ -71,7 +71,7 @@ fn faults_21_to_28_of_a_record() {
         write_number(&sheet(2, &[record(2, 1, 0, (b"\0", None))])),
         22
     );
-    // Point S9: no addresses 23, above 63 of them 24.
+    // No addresses 23, above 63 of them 24 (RULES R23, R24).
     assert_eq!(
         write_number(&sheet(2, &[record(2, 1, 0, full(N, &[], P))])),
         23
@@ -88,7 +88,7 @@ fn faults_21_to_28_of_a_record() {
     assert_eq!(write_number(&params("00")), 26);
     assert_eq!(write_number(&params("0004 0000")), 27);
     assert_eq!(write_number(&params("0003 0000")), 28);
-    // Point S13: any address to be dropped.
+    // Any address to be dropped (RULES R25).
     for bad in [[127, 0, 0, 1], [224, 0, 0, 1], [239, 255, 255, 255]] {
         for list in [[A4, &bad].concat(), [&bad, A4].concat(), bad.to_vec()] {
             let octets = sheet(4, &[record(4, 1, 0, full(N, &list, P))]);
@@ -97,7 +97,7 @@ fn faults_21_to_28_of_a_record() {
     }
 }
 
-/// Point S8: mode 0 in carriers 4 and 5 is 23, at 23's place.
+/// Mode 0 in carriers 4 and 5 is 23, at 23's place (RULES T4).
 #[test]
 fn name_only_in_ike() {
     for carrier in [4, 5] {
@@ -114,7 +114,7 @@ fn name_only_in_ike() {
     }
 }
 
-/// Point S10: empty parameters are good.
+/// Empty parameters are good (RULES P1).
 #[test]
 fn empty_params() {
     for carrier in 1..=5 {
@@ -131,7 +131,7 @@ fn empty_params() {
     }
 }
 
-/// Points S11, S12: 44 after all records' faults, before 5.
+/// 44 after all records' faults, before 5 (RULES T5, R44).
 #[test]
 fn router_option_too_large() {
     // 14 + name 18 + addresses 1,008 + parameters.
@@ -156,7 +156,7 @@ fn router_option_too_large() {
     assert_eq!(write_number(&sheet(2, &[other])), 0);
 }
 
-/// Point S11: each record's first fault, of the first such record.
+/// Each record's first fault, of the first such record (RULES T5).
 #[test]
 fn the_first_record_with_a_fault() {
     let late = record(2, 1, 0, full(N, A, &hex("0003 0000")));
@@ -165,7 +165,7 @@ fn the_first_record_with_a_fault() {
     assert_eq!(write_number(&sheet(2, &[early, late])), 22);
 }
 
-/// Point S15: no records are written as nothing, and room 0 suffices.
+/// No records are written as nothing, and room 0 suffices (RULES E2).
 #[test]
 fn no_records() {
     for carrier in 1..=5 {

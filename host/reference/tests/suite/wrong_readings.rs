@@ -1,8 +1,8 @@
-//! 01 Wrong readings we have met.
+//! Wrong readings that were met before (RULES X1 to X6).
 
 use crate::common::*;
 
-/// K3's zeros are no address length of 0.
+/// K3's zeros are no address length of 0 (RULES X1).
 #[test]
 fn zeros_behind_a_router_name_are_padding() {
     for zeros in 0..8 {
@@ -15,7 +15,7 @@ fn zeros_behind_a_router_name_are_padding() {
     }
 }
 
-/// The fixed octets are taken off L once: the port is still there.
+/// The fixed octets are taken off L once: the port is still there (RULES X2).
 #[test]
 fn the_last_parameter_stays() {
     let params = [P, &hex("00 03 00 02 03 55")[..]].concat();
@@ -31,7 +31,8 @@ fn the_last_parameter_stays() {
     }
 }
 
-/// Options 162 are joined, wherever the cut is and whatever stands between.
+/// Options 162 are joined, wherever the cut is and whatever stands between
+/// (RULES X3).
 #[test]
 fn options_162_are_joined() {
     let joined = [block(1, 2, full(N, A4, P)), block(1, 1, (N, None))].concat();
@@ -51,7 +52,7 @@ fn options_162_are_joined() {
     }
 }
 
-/// The smaller priority number comes first, equals in arrival order.
+/// The smaller priority number comes first, equals in arrival order (RULES X4).
 #[test]
 fn smaller_priority_first_and_equals_stay() {
     let priorities = [9, 3, 65_535, 3, 1, 9, 1];
@@ -68,7 +69,7 @@ fn smaller_priority_first_and_equals_stay() {
     assert_eq!(read_done(2, &area).1, sheet(2, &records));
 }
 
-/// The reader drops a loopback address, the writer refuses it (point S13).
+/// The reader drops a loopback address, the writer refuses it (RULES X5).
 #[test]
 fn loopback_is_dropped_by_the_reader_only() {
     let loopback = [vec![0; 15], vec![1]].concat();
@@ -82,7 +83,7 @@ fn loopback_is_dropped_by_the_reader_only() {
     );
 }
 
-/// A mandatory key that is not there is a fault, in order or not.
+/// A mandatory key that is not there is a fault, in order or not (RULES X6).
 #[test]
 fn mandatory_keys_are_looked_for() {
     let present = [&hex("00 00 00 02 00 01")[..], P].concat();

@@ -1,6 +1,5 @@
 //! Fields and framing of carrier 2, faults in their order, and blocks that are
-//! discarded among blocks that are kept (01 Block layouts, Numbers given back;
-//! points W5, W7, B5).
+//! discarded among blocks that are kept (RULES B1, T2, W9).
 
 use super::layout::{address, area, coded, hex, letter_name, option, sheet, Resolver, A, N, P};
 use super::pieces::{k1, k12, k12_sheet, k1_sheet};
@@ -19,7 +18,7 @@ fn k1_with(changes: &[(usize, u8)]) -> Vec<u8> {
 /// The first of 20, 21 to 28 is given: K1 gets one fault more in each step, and
 /// each goes before the one there so far.
 fn add_orders(table: &mut Table) {
-    let source = "01 Numbers given back, order of faults in carrier 2";
+    let source = "RULES T2, order of faults in carrier 2";
     let loopback = (28..44).map(|place| (place, u8::from(place == 43)));
     let steps: [(Vec<(usize, u8)>, usize); 8] = [
         // alpn with an empty string, key 4, a value past the end, ::1.
@@ -41,7 +40,7 @@ fn add_orders(table: &mut Table) {
     }
     // Address lengths that end at the option's end, and one octet behind it.
     for (length, fault) in [(0, 23), (15, 23), (17, 23), (24, 23), (25, 20)] {
-        let source = format!("01 Numbers 23, K1 with address length {length}");
+        let source = format!("RULES R23, K1 with address length {length}");
         table.discarded(source, 2, &k1_with(&[(27, length)]), fault);
     }
     // 24 goes before 25, and 23 before 24.
@@ -52,15 +51,15 @@ fn add_orders(table: &mut Table) {
 }
 
 /// K1's fields cut after each octet, in an option of that length. They are whole
-/// after the name and after the address; one octet behind the name is 20 (point
-/// B5).
+/// after the name and after the address; one octet behind the name is 20
+/// (RULES B5).
 fn add_short(table: &mut Table) {
     let fields = &k1()[4..];
     let named = Done::kept(1, &sheet(2, &[Resolver::named(1, N)]));
     let full = Done::kept(1, &sheet(2, &[Resolver::full(1, N, A, &[])]));
     for length in 0..fields.len() {
         let octets = option(2, &fields[..length]);
-        let source = format!("01 Block layouts, K1's first {length} octets as an option");
+        let source = format!("RULES B1, K1's first {length} octets as an option");
         match length {
             22 => table.read(source, 2, ROOM, &octets, &named),
             40 => table.read(source, 2, ROOM, &octets, &full),
@@ -72,11 +71,11 @@ fn add_short(table: &mut Table) {
     }
 }
 
-/// Framing of carrier 2, which has no padding code (point W5), over the whole
-/// area before anything else (point W7).
+/// Framing of carrier 2, which has no padding code (RULES W5), over the whole
+/// area before anything else (RULES T1).
 fn add_framing(table: &mut Table) {
     let mut refused = |what: &str, octets: &[u8]| {
-        let source = format!("01 Numbers 3, carrier 2, {what}");
+        let source = format!("RULES R3, carrier 2, {what}");
         for room in [0, ROOM] {
             table.read_refused(source.clone(), 2, room, octets, 3);
         }
@@ -97,10 +96,10 @@ fn add_framing(table: &mut Table) {
     );
     let alias = k1_with(&[(5, 0)]);
     refused("a fault and a zero", &[alias, vec![0]].concat());
-    let source = "point W5, K1 and four zeros";
+    let source = "RULES W5, K1 and four zeros";
     let octets = [k1(), vec![0; 4]].concat();
     table.read(source, 2, ROOM, &octets, &Done::kept(1, &k1_sheet()));
-    let source = "01 Area walk, carrier 2, K12 among foreign options";
+    let source = "RULES W8, carrier 2, K12 among foreign options";
     let foreign = coded(2, 23, &k1());
     let octets = [&foreign[..], &k12()[..19], &foreign, &k12()[19..], &foreign].concat();
     table.read(source, 2, ROOM, &octets, &Done::kept(3, &k12_sheet()));
@@ -133,7 +132,7 @@ fn add_discarded(table: &mut Table) {
             fault: 27,
             sheet: sheet(carrier, &ordered),
         };
-        let source = format!("01 Area walk, blocks discarded among others, carrier {carrier}");
+        let source = format!("RULES W9, blocks discarded among others, carrier {carrier}");
         table.read_in_rooms(&source, carrier, &area(carrier, &arrived), &done);
         let mut turned = arrived;
         turned.reverse();
@@ -167,25 +166,25 @@ fn add_order(table: &mut Table) {
         ];
         let found = if carrier == 1 { 1 } else { 6 };
         let done = Done::kept(found, &sheet(carrier, &ordered.map(named)));
-        let source = format!("01 The record sheet, six by priority in carrier {carrier}");
+        let source = format!("RULES S5, six by priority in carrier {carrier}");
         let octets = area(carrier, &arrived.map(named));
         table.read(source, carrier, ROOM, &octets, &done);
     }
 }
 
-/// Refusals in their order: 3, 4, 5 (points S2, W7), and 5 for every room
+/// Refusals in their order: 3, 4, 5 (RULES T1), and 5 for every room
 /// below the sheet's length.
 fn add_rooms(table: &mut Table) {
-    let source = "01 Numbers 5, K1 in little room";
+    let source = "RULES R5, K1 in little room";
     for room in [0, 1, 6, 7, 8, 30, 58] {
         table.read_refused(source, 2, room, &k1(), 5);
     }
-    let source = "01 Numbers 5, K1's sheet in little room";
+    let source = "RULES R5, K1's sheet in little room";
     for room in [0, 1, 4, 26, 50] {
         table.write_refused(source, room, &k1_sheet(), 5);
     }
     // A discarded block leaves a sheet of 7 octets, which needs its room.
-    let source = "01 Numbers 5, K7 in little room";
+    let source = "RULES R5, K7 in little room";
     for room in [0, 6] {
         table.read_refused(source, 2, room, &k1_with(&[(5, 0)]), 5);
     }

@@ -1,4 +1,4 @@
-//! Demand 3: octets as they are written, cut after any number of octets. A cut
+//! RULES D3: octets as they are written, cut after any number of octets. A cut
 //! at an option's end gives exactly the records before it, any other cut gives
 //! refusal 3, whatever the room. In carrier 1, which the demand leaves out, K2
 //! is cut within its one option.
@@ -38,7 +38,7 @@ pub fn add(table: &mut Table) {
             .map(|count| area(carrier, &records[..count]).len())
             .collect();
         for cut in 0..=octets.len() {
-            let source = format!("demand 3, carrier {carrier} cut after {cut} octets");
+            let source = format!("RULES D3, carrier {carrier} cut after {cut} octets");
             let part = &octets[..cut];
             match ends.iter().position(|end| *end == cut) {
                 Some(count) => {
@@ -54,7 +54,7 @@ pub fn add(table: &mut Table) {
         }
     }
     for cut in 1..25 {
-        let source = format!("01 Numbers 3, K2 cut after {cut} octets");
+        let source = format!("RULES R3, K2 cut after {cut} octets");
         table.read_refused(source, 1, ROOM, &k2()[..cut], 3);
     }
 }

@@ -1,6 +1,5 @@
 //! Carrier 1: padding, code 255, options 162 cut at every place, and the
-//! lengths of instances (01 Area walk, Block layouts; points W1 to W4, W11,
-//! B1 to B4).
+//! lengths of instances (RULES W1 to W4, B4, B5).
 
 use super::layout::{hex, option, options_162, params_of, sheet, Resolver, A4, N};
 use super::pieces::{k2, k2_sheet, k8_joined, k8_sheet};
@@ -28,20 +27,20 @@ fn add_cuts(table: &mut Table) {
     let both = kept(&[small(), Resolver::named(1, b"\x01b\0")]);
     for cut in 0..=joined.len() {
         let (front, back) = joined.split_at(cut);
-        let source = format!("01 Area walk, options 162 cut after {cut} octets");
+        let source = format!("RULES W4, options 162 cut after {cut} octets");
         let octets = [option(1, front), option(1, back)].concat();
         table.read(source, 1, done.sheet.len(), &octets, &done);
     }
     for cut in 0..=two.len() {
         let (front, back) = two.split_at(cut);
-        let source = format!("point W11, cut after {cut} octets, others between");
+        let source = format!("RULES W4, cut after {cut} octets, others between");
         // Padding, an option 3 whose data look like an option 162, padding.
         let between = hex("00 00 03 02 a2 09 00");
         let end = hex("00 ff a2 01");
         let octets = [option(1, front), between, option(1, back), end].concat();
         table.read(source, 1, ROOM, &octets, &both);
     }
-    let source = "01 Area walk, every octet in an option 162 of its own";
+    let source = "RULES W4, every octet in an option 162 of its own";
     let single: Vec<u8> = joined.iter().flat_map(|octet| [162, 1, *octet]).collect();
     table.read(source, 1, ROOM, &single, &done);
 }
@@ -58,11 +57,11 @@ fn add_large_cuts(table: &mut Table) {
             octets.extend(option(1, data));
             rest = behind;
         }
-        let source = format!("01 Area walk, K8 in options of {cuts:?}");
+        let source = format!("RULES W4, K8 in options of {cuts:?}");
         table.read(source, 1, ROOM, &octets, &done);
     }
     // The first option alone: its instance runs past the joined data.
-    let source = "01 Numbers 20, K8's first option alone";
+    let source = "RULES R20, K8's first option alone";
     table.discarded(source, 1, &option(1, &joined[..255]), 20);
 }
 
@@ -82,14 +81,14 @@ fn add_options(table: &mut Table) {
         assert_eq!(resolver.block(1).len(), joined);
         let octets = options_162(&resolver.block(1));
         assert_eq!(octets.len(), joined + 2 * options);
-        let source = format!("01 Numbers given back, joined data of {joined} octets written");
+        let source = format!("RULES E2, joined data of {joined} octets written");
         table.goes_round(source, 1, &[resolver]);
     }
 }
 
 /// Octets before and behind K2, and whether it is found: code 0 is one octet of
 /// padding; code 255 ends the area, and what follows is ignored, framed or not
-/// (point W2).
+/// (RULES W2, W3).
 const AROUND_K2: [(&str, &str, &str, usize); 11] = [
     ("code 255 before", "ff", "", 0),
     ("padding and code 255 before", "00 00 ff", "", 0),
@@ -122,7 +121,7 @@ const NO_BLOCK: [(&str, &str); 5] = [
 fn add_codes(table: &mut Table) {
     let none = Done::kept(0, &sheet(1, &[]));
     for (what, before, behind, found) in AROUND_K2 {
-        let source = format!("01 Area walk, K2 with {what}");
+        let source = format!("RULES W2, W3, K2 with {what}");
         let octets = [hex(before), k2(), hex(behind)].concat();
         let done = match found {
             0 => none.clone(),
@@ -131,17 +130,17 @@ fn add_codes(table: &mut Table) {
         table.read(source, 1, ROOM, &octets, &done);
     }
     for (what, octets) in NO_BLOCK {
-        let source = format!("01 Area walk, carrier 1, {what}");
+        let source = format!("RULES W4, carrier 1, {what}");
         table.read(source, 1, ROOM, &hex(octets), &none);
     }
-    let source = "01 Area walk, carrier 1, 300 paddings";
+    let source = "RULES W2, carrier 1, 300 paddings";
     table.read(source, 1, ROOM, &[0; 300], &none);
     let twice = [Resolver::named(1, N), Resolver::named(1, N)];
-    let source = "01 Area walk, K2 twice is one block of two instances";
+    let source = "RULES W4, K2 twice is one block of two instances";
     table.read(source, 1, ROOM, &k2().repeat(2), &kept(&twice));
 }
 
-/// Octets before and behind K2 that are not framed (point W3).
+/// Octets before and behind K2 that are not framed (RULES R3).
 const NOT_FRAMED: [(&str, &str, &str); 6] = [
     ("a code 162 behind", "", "a2"),
     ("a foreign code behind", "", "0c"),
@@ -152,15 +151,15 @@ const NOT_FRAMED: [(&str, &str, &str); 6] = [
 ];
 
 /// Framing, and an option 162 without data, which is a block without an
-/// instance (point W4).
+/// instance (RULES R20).
 fn add_framing(table: &mut Table) {
     for (what, before, behind) in NOT_FRAMED {
-        let source = format!("01 Numbers 3, carrier 1, K2 with {what}");
+        let source = format!("RULES R3, carrier 1, K2 with {what}");
         let octets = [hex(before), k2(), hex(behind)].concat();
         table.read_refused(source, 1, ROOM, &octets, 3);
     }
     for octets in ["a2", "0c", "a2 01", "fe 01", "00 fe", "a2 02 00 00 0c"] {
-        let source = format!("01 Numbers 3, carrier 1, {octets}");
+        let source = format!("RULES R3, carrier 1, {octets}");
         table.read_refused(source, 1, ROOM, &hex(octets), 3);
     }
     for octets in [
@@ -169,12 +168,12 @@ fn add_framing(table: &mut Table) {
         "00 a2 00 ff",
         "a2 00 0c 01 00 a2 00",
     ] {
-        let source = format!("point W4, options 162 without data: {octets}");
+        let source = format!("RULES R20, options 162 without data: {octets}");
         table.discarded(source, 1, &hex(octets), 20);
     }
 }
 
-/// Joined data too short for a name (point B3).
+/// Joined data too short for a name (RULES R20, R22).
 const SHORT: [(&str, usize); 7] = [
     ("00", 20),
     ("0000", 20),
@@ -186,7 +185,7 @@ const SHORT: [(&str, usize); 7] = [
 ];
 
 /// Joined data with N: L, priority and ADN length before it, and what stands
-/// behind it (points B2, B4).
+/// behind it (RULES B4, B5).
 const WITH_N: [(&str, &str, &str, usize); 13] = [
     ("L one less than ADN length + 3", "0014 0001 12", "", 20),
     ("L one more than the joined data", "0016 0001 12", "", 20),
@@ -226,17 +225,17 @@ const WITH_N: [(&str, &str, &str, usize); 13] = [
 /// L and the fields within it.
 fn add_lengths(table: &mut Table) {
     for (joined, fault) in SHORT {
-        let source = format!("point B3, joined data {joined}");
+        let source = format!("RULES B1, joined data {joined}");
         table.discarded(source, 1, &option(1, &hex(joined)), fault);
     }
     for (what, before, behind, fault) in WITH_N {
-        let source = format!("01 Block layouts, carrier 1, {what}");
+        let source = format!("RULES B1, carrier 1, {what}");
         let joined = [&hex(before), N, &hex(behind)].concat();
         table.discarded(source, 1, &option(1, &joined), fault);
     }
 }
 
-/// The first instance with a fault gives it, whatever is behind (point B1), and
+/// The first instance with a fault gives it, whatever is behind (RULES T2), and
 /// the block is discarded whole, good instances with it.
 fn add_first_fault(table: &mut Table) {
     let alias = Resolver::named(0, N).block(1);
@@ -259,7 +258,7 @@ fn add_first_fault(table: &mut Table) {
         ("a next instance's octets", &[&borrowing, &good], 20),
     ];
     for (what, instances, fault) in rows {
-        let source = format!("point B1, {what}");
+        let source = format!("RULES T2, {what}");
         table.discarded(source, 1, &options_162(&instances.concat()), fault);
     }
 }

@@ -1,6 +1,6 @@
 //! Carriers 4 and 5: the reserved bit, the other family's attribute, and
-//! attributes without addresses or data (01 Area walk, Block layouts; points
-//! W5, W8, W9, W10, B10, B11).
+//! attributes without addresses or data (RULES W7, W8,
+//! B1).
 
 use super::layout::{address, hex, option, sheet, Resolver, A4, N, P};
 use super::pieces::{k5, k5_sheet};
@@ -52,10 +52,10 @@ fn reserved(mut attribute: Vec<u8>) -> Vec<u8> {
 }
 
 /// The reserved bit is ignored when read, in own and in foreign attributes
-/// (RFC 7296; RFC 9464 section 3.1).
+/// (RFC 7296; RFC 9464 §3.1).
 fn add_reserved(table: &mut Table, family: &Family) {
     let carrier = family.carrier;
-    let source = format!("01 Area walk, reserved bit set in carrier {carrier}");
+    let source = format!("RULES W7, reserved bit set in carrier {carrier}");
     let done = Done::kept(1, &family.whole);
     let set = reserved(family.own.clone());
     let foreign = reserved(hex("00 19 00 02 00 1b"));
@@ -75,25 +75,25 @@ fn add_reserved(table: &mut Table, family: &Family) {
     table.discarded(format!("{source}, priority 0"), carrier, &alias, 21);
 }
 
-/// The other family's attribute is foreign (point W9), and so are types that
+/// The other family's attribute is foreign (RULES W7), and so are types that
 /// differ from the own one in one of their 15 bits.
 fn add_types(table: &mut Table, family: &Family) {
     let carrier = family.carrier;
     let none = Done::kept(0, &sheet(carrier, &[]));
-    let source = format!("point W9, only the other family's in carrier {carrier}");
+    let source = format!("RULES W8, only the other family's in carrier {carrier}");
     for octets in [family.other.clone(), reserved(family.other.clone())] {
         table.read(source.clone(), carrier, ROOM, &octets, &none);
     }
     for bit in 0..15 {
         let mut octets = family.own.clone();
         octets[1 - bit / 8] ^= 1 << (bit % 8);
-        let source = format!("01 Area walk, 15-bit type, bit {bit} in carrier {carrier}");
+        let source = format!("RULES W7, 15-bit type, bit {bit} in carrier {carrier}");
         table.read(source, carrier, ROOM, &octets, &none);
     }
 }
 
-/// Attributes without data (point W8), without addresses (point B11), without
-/// a name (point B12), and with fields past their end (point B10). The head is
+/// Attributes without data (RULES W7), without addresses (RULES R23), without
+/// a name (RULES R22), and with fields past their end (RULES R20). The head is
 /// priority, number of addresses and ADN length.
 fn add_fields(table: &mut Table, carrier: u8) {
     let address = address(carrier, 1);
@@ -115,7 +115,7 @@ fn add_fields(table: &mut Table, carrier: u8) {
         ("a short ADN", "00 01 01 0f", &[&address, text, P], 26),
     ];
     for (what, head, fields, fault) in rows {
-        let source = format!("01 Block layouts, carrier {carrier}, {what}");
+        let source = format!("RULES B1, carrier {carrier}, {what}");
         let octets = option(carrier, &[hex(head), fields.concat()].concat());
         table.discarded(source.clone(), carrier, &octets, fault);
         let source = source + ", reserved bit set";
@@ -123,20 +123,20 @@ fn add_fields(table: &mut Table, carrier: u8) {
     }
 }
 
-/// Framing: four zeros are a foreign attribute, and fewer are 3 (point W5).
-/// The same attribute twice is two records (point W10).
+/// Framing: four zeros are a foreign attribute, and fewer are 3 (RULES R3).
+/// The same attribute twice is two records (RULES W8).
 fn add_framing(table: &mut Table, family: &Family) {
     let carrier = family.carrier;
     for zeros in 1..4 {
-        let source = format!("point W5, {zeros} zeros in carrier {carrier}");
+        let source = format!("RULES R3, {zeros} zeros in carrier {carrier}");
         let octets = [family.own.clone(), vec![0; zeros]].concat();
         table.read_refused(source, carrier, ROOM, &octets, 3);
     }
-    let source = format!("point W5, four zeros in carrier {carrier}");
+    let source = format!("RULES W8, four zeros in carrier {carrier}");
     let octets = [&family.own[..], &[0; 4]].concat();
     let done = Done::kept(1, &family.whole);
     table.read(source, carrier, ROOM, &octets, &done);
-    let source = format!("point W10, the same attribute twice in carrier {carrier}");
+    let source = format!("RULES W8, the same attribute twice in carrier {carrier}");
     let resolver = Resolver::full(1, N, &address(carrier, 1), P);
     table.goes_round(source, carrier, &[resolver.clone(), resolver]);
 }
@@ -144,7 +144,7 @@ fn add_framing(table: &mut Table, family: &Family) {
 /// The like of K5 in carrier 4, whose reserved bit is written as 0, and all of
 /// the above.
 pub fn add(table: &mut Table) {
-    let source = "01 Block layouts, the like of K5 in carrier 4";
+    let source = "RULES B1, the like of K5 in carrier 4";
     let done = Done::kept(1, &sheet_of_carrier_4());
     table.read_in_rooms(source, 4, &k5_of_carrier_4(), &done);
     table.write_in_rooms(source, &sheet_of_carrier_4(), &k5_of_carrier_4());

@@ -1,5 +1,5 @@
 //! The longest inputs: areas and sheets of 40,960 octets and of one more, and
-//! the largest records (01 The record sheet, limits; 01 Boundary pieces).
+//! the largest records (RULES L1, L5, K13).
 
 use super::layout::{
     addresses, area, coded, hex, name_of, own_code, params_of, sheet, Resolver, A, A4, N, P,
@@ -7,7 +7,7 @@ use super::layout::{
 use super::pieces::k1;
 use super::table::{Done, Table, ROOM};
 
-/// 01 The record sheet, limits: octets of the longest input.
+/// Octets of the longest input (RULES L1).
 const LONGEST: usize = 40_960;
 
 /// One resolver as each carrier has it: K2, K1, K4, K5, and the like of K5 for
@@ -55,11 +55,11 @@ fn filled(carrier: u8, length: usize) -> Vec<u8> {
 /// octets is well framed, but 2 goes before 3.
 fn add_areas(table: &mut Table) {
     for carrier in 1..=5 {
-        let source = format!("01 Boundary pieces, input of 40,960 in carrier {carrier}");
+        let source = format!("RULES K13, input of 40,960 in carrier {carrier}");
         let done = Done::kept(1, &sheet(carrier, &[piece(carrier)]));
         let longest = filled(carrier, LONGEST);
         table.read(source, carrier, ROOM, &longest, &done);
-        let source = format!("01 Boundary pieces, input of 40,961 in carrier {carrier}");
+        let source = format!("RULES K13, input of 40,961 in carrier {carrier}");
         let longer = match carrier {
             3 => [longest, vec![0]].concat(),
             _ => filled(carrier, LONGEST + 1),
@@ -88,7 +88,7 @@ fn add_own_options(table: &mut Table) {
         sheet: sheet(2, &records),
     };
     assert_eq!(done.sheet.len(), 36_775);
-    let source = "01 limits, 40,960 octets of own options";
+    let source = "RULES L1, 40,960 octets of own options";
     table.read(source, 2, 36_775, &octets, &done);
 }
 
@@ -108,12 +108,12 @@ fn largest_records(carrier: u8) -> Vec<Resolver> {
 fn add_largest(table: &mut Table) {
     let records = largest_records(1);
     assert_eq!(area(1, &records).len(), 16 * 1_537 + 2 * 97);
-    let source = "01 limits, sixteen of the largest records of carrier 1";
+    let source = "RULES L5, sixteen of the largest records of carrier 1";
     table.goes_round(source, 1, &records);
     let records = largest_records(2);
     let octets = area(2, &records);
     assert_eq!(octets.len(), 36_752);
-    let source = "01 limits, sixteen of the largest records of carrier 2 written";
+    let source = "RULES L5, sixteen of the largest records of carrier 2 written";
     table.write(source, octets.len(), &sheet(2, &records), &octets);
 }
 
@@ -123,25 +123,25 @@ fn add_largest(table: &mut Table) {
 fn add_sheets(table: &mut Table) {
     let around = sheet(2, &[Resolver::full(1, N, A, &[])]).len();
     let of = |length: usize| sheet(2, &[Resolver::full(1, N, A, &params_of(length - around))]);
-    let source = "01 limits, a sheet of 40,960 octets that tiles";
+    let source = "RULES L1, a sheet of 40,960 octets that tiles";
     table.write_refused(source, ROOM, &of(LONGEST), 24);
-    let source = "01 limits, a sheet of 40,961 octets with RSW";
+    let source = "RULES L1, a sheet of 40,961 octets with RSW";
     let mut longer = of(LONGEST + 1);
     longer[2] = b'W';
     table.write_refused(source, ROOM, &longer, 2);
 }
 
 /// Carrier numbers that are none: 1, which goes before 2. And 2 looks at the
-/// whole area, also behind a code 255 (point W1).
+/// whole area, also behind a code 255 (RULES L1).
 fn add_orders(table: &mut Table) {
-    let source = "01 Numbers given back, carrier 6 and 40,961 octets";
+    let source = "RULES T1, carrier 6 and 40,961 octets";
     table.read_refused(source, 6, ROOM, &[0; LONGEST + 1], 1);
     let mut ended = [area(1, &[piece(1)]), vec![255]].concat();
     ended.resize(LONGEST + 1, 0);
-    let source = "point W1, 40,961 octets with code 255 among the first";
+    let source = "RULES L1, 40,961 octets with code 255 among the first";
     table.read_refused(source, 1, ROOM, &ended, 2);
     for carrier in [0, 6, 7, 144, 255] {
-        let source = format!("01 Numbers given back, carrier {carrier} when reading");
+        let source = format!("RULES R1, carrier {carrier} when reading");
         table.read_refused(source, carrier, ROOM, &k1(), 1);
     }
 }

@@ -1,16 +1,15 @@
-//! Areas and sheets laid out after document 01, "Block layouts" and "The
-//! record sheet". Nothing here is taken from the reference, so that what a
-//! case states has a source of its own.
+//! Areas and sheets laid out after RULES B1 and S1 to S5. Nothing here is taken
+//! from the reference, so that what a case states has a source of its own.
 
-/// The name N of document 01, doh1.example.com, as RFC 9463 shows it in
-/// Figure 2.
+/// The name N of the boundary pieces (RULES K1), doh1.example.com, as RFC 9463
+/// shows it in Figure 2.
 pub const N: &[u8] = &[
     0x04, 0x64, 0x6f, 0x68, 0x31, 0x07, 0x65, 0x78, 0x61, 0x6d, 0x70, 0x6c, 0x65, 0x03, 0x63, 0x6f,
     0x6d, 0x00,
 ];
-/// The parameters P of document 01, alpn "dot".
+/// The parameters P of the boundary pieces, alpn "dot".
 pub const P: &[u8] = &[0x00, 0x01, 0x00, 0x04, 0x03, 0x64, 0x6f, 0x74];
-/// The address A of document 01, 2001:db8:122:300::1.
+/// The address A of the boundary pieces, 2001:db8:122:300::1.
 pub const A: &[u8] = &[
     0x20, 0x01, 0x0d, 0xb8, 0x01, 0x22, 3, 0, 0, 0, 0, 0, 0, 0, 0, 1,
 ];

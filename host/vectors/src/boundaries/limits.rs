@@ -1,5 +1,5 @@
 //! The limits of a record and of a sheet: 63 addresses, 1,024 octets of
-//! parameters, 16 records (01 The record sheet, limits; 01 Boundary pieces).
+//! parameters, 16 records (RULES L2 to L4, K13).
 
 use super::layout::{
     address, addresses, area, letter_name, options_162, params_of, sheet, width, Resolver, N, P,
@@ -14,27 +14,27 @@ fn multicast(carrier: u8) -> Vec<u8> {
 }
 
 /// 63 addresses: kept; 64: fault 24. In carrier 1 the 8-bit length cannot
-/// carry 64 (point B15).
+/// carry 64 (RULES L3, C1).
 fn add_addresses(table: &mut Table) {
     for carrier in 1..=5 {
         let with = |count: u8| Resolver::full(1, N, &addresses(carrier, count), P);
-        let source = format!("01 Boundary pieces, 63 addresses in carrier {carrier}");
+        let source = format!("RULES K13, 63 addresses in carrier {carrier}");
         table.goes_round(source, carrier, &[with(63)]);
-        let source = format!("01 Boundary pieces, 64 addresses in carrier {carrier}");
+        let source = format!("RULES K13, 64 addresses in carrier {carrier}");
         if carrier != 1 {
             table.discarded(source.clone(), carrier, &area(carrier, &[with(64)]), 24);
         }
         table.write_refused(source, ROOM, &sheet(carrier, &[with(64)]), 24);
     }
     for length in 253..=255 {
-        let source = format!("point B15, address length {length} in carrier 1");
+        let source = format!("RULES R23, address length {length} in carrier 1");
         let resolver = Resolver::full(1, N, &vec![9; length], P);
         table.discarded(source, 1, &area(1, &[resolver]), 23);
     }
 }
 
 /// The 63 are counted as carried: 62 to be dropped and one good address give
-/// that one, 63 and one give 24 (point B14).
+/// that one, 63 and one give 24 (RULES L3).
 fn add_addresses_as_carried(table: &mut Table) {
     for carrier in 1..=5 {
         let good = address(carrier, 9);
@@ -42,12 +42,12 @@ fn add_addresses_as_carried(table: &mut Table) {
             let list = [multicast(carrier).repeat(count), good.clone()].concat();
             Resolver::full(1, N, &list, P)
         };
-        let source = format!("01 Numbers 24, 62 dropped and 1 kept in carrier {carrier}");
+        let source = format!("RULES L3, 62 dropped and 1 kept in carrier {carrier}");
         let kept = sheet(carrier, &[Resolver::full(1, N, &good, P)]);
         let octets = area(carrier, &[with(62)]);
         table.read(source, carrier, kept.len(), &octets, &Done::kept(1, &kept));
         if carrier != 1 {
-            let source = format!("01 Numbers 24, 64 as carried in carrier {carrier}");
+            let source = format!("RULES L3, 64 as carried in carrier {carrier}");
             table.discarded(source, carrier, &area(carrier, &[with(63)]), 24);
         }
     }
@@ -58,13 +58,13 @@ fn add_addresses_as_carried(table: &mut Table) {
 fn add_params(table: &mut Table) {
     for carrier in 1..=5 {
         let with = |params: &[u8]| [Resolver::full(1, N, &address(carrier, 1), params)];
-        let source = format!("01 limits, 1,024 octets of parameters in carrier {carrier}");
+        let source = format!("RULES L4, 1,024 octets of parameters in carrier {carrier}");
         table.goes_round(source, carrier, &with(&params_of(1_024)));
-        let source = format!("01 limits, 1,025 octets of parameters in carrier {carrier}");
+        let source = format!("RULES L4, 1,025 octets of parameters in carrier {carrier}");
         let over = with(&params_of(1_025));
         table.discarded(source.clone(), carrier, &area(carrier, &over), 24);
         table.write_refused(source, ROOM, &sheet(carrier, &over), 24);
-        let source = format!("01 Numbers, 24 before 26 in carrier {carrier}");
+        let source = format!("RULES T2, 24 before 26 in carrier {carrier}");
         table.discarded(source, carrier, &area(carrier, &with(&[0xff; 1_025])), 24);
     }
 }
@@ -79,11 +79,11 @@ fn rising(carrier: u8, count: u8) -> Vec<Resolver> {
         .collect()
 }
 
-/// Sixteen records kept: done; seventeen: 4, which goes before 5 (point S2).
+/// Sixteen records kept: done; seventeen: 4, which goes before 5 (RULES T1).
 /// In carrier 1 they stand in one block.
 fn add_records(table: &mut Table) {
     for carrier in 1..=5 {
-        let source = format!("01 Boundary pieces, sixteen records in carrier {carrier}");
+        let source = format!("RULES K13, sixteen records in carrier {carrier}");
         table.goes_round(source.clone(), carrier, &rising(carrier, 16));
         let mut falling = rising(carrier, 16);
         falling.reverse();
@@ -91,7 +91,7 @@ fn add_records(table: &mut Table) {
         let done = Done::kept(found, &sheet(carrier, &rising(carrier, 16)));
         let source = source + ", falling priorities";
         table.read(source, carrier, ROOM, &area(carrier, &falling), &done);
-        let source = format!("01 Boundary pieces, seventeen records in carrier {carrier}");
+        let source = format!("RULES K13, seventeen records in carrier {carrier}");
         let seventeen = rising(carrier, 17);
         for room in [0, ROOM] {
             let octets = area(carrier, &seventeen);
@@ -103,10 +103,10 @@ fn add_records(table: &mut Table) {
 
 /// Only records that are kept count towards 16: a seventeenth block with
 /// priority 0 is discarded alone in carriers 2 to 5. In carrier 1 it is an
-/// instance of the one block, which is discarded whole (point S1).
+/// instance of the one block, which is discarded whole (RULES T2).
 fn add_records_kept(table: &mut Table) {
     for carrier in 2..=5 {
-        let source = format!("01 Numbers 4, sixteen kept and one discarded in carrier {carrier}");
+        let source = format!("RULES R4, sixteen kept and one discarded in carrier {carrier}");
         let mut blocks = rising(carrier, 17);
         blocks[8].priority = 0;
         let octets = area(carrier, &blocks);
@@ -122,14 +122,14 @@ fn add_records_kept(table: &mut Table) {
     for place in [0, 15, 16, 19] {
         let mut instances = rising(1, 20);
         instances[place].priority = 0;
-        let source = format!("point S1, twenty instances with a fault in number {place} from 0");
+        let source = format!("RULES T2, twenty instances with a fault in number {place} from 0");
         table.discarded(source, 1, &area(1, &instances), 21);
     }
     let instances: Vec<u8> = rising(1, 20)
         .iter()
         .flat_map(|resolver| resolver.block(1))
         .collect();
-    let source = "point S1, twenty instances and one octet more";
+    let source = "RULES T2, twenty instances and one octet more";
     let octets = options_162(&[instances, vec![0]].concat());
     table.discarded(source, 1, &octets, 20);
 }

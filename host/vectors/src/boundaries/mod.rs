@@ -12,14 +12,13 @@
 //! hexadecimal digits each, or `-` for none. KEPT is always `kept`: every octet
 //! of the output buffer from LENGTH to the room is as it was before the call.
 //!
-//! What a case answers is stated here, from document 01 and the points chosen,
+//! What a case answers is stated here, from docs/RULES.md and docs/DECISIONS.md,
 //! with octets laid out by hand. The files are written only if the reference
 //! gives the same answers, so each line has two sources.
 //!
-//! Every case names where its answer comes from: `01 Names` a part of document
-//! 01, `point B7` an open point and the reading chosen, `demand 3` the
-//! customer's note, and `RFC 9464 section A.1` an RFC's example. A call that
-//! several sources speak of stands once, with all of them.
+//! Every case names where its answer comes from: `RULES N1` a rule, and
+//! `RFC 9464 §A.1` an RFC's example. A call that several sources speak of stands
+//! once, with all of them.
 
 mod blocks;
 mod cuts;

@@ -1,5 +1,5 @@
-//! Names of the greatest and least lengths, and names that document 01 does
-//! not accept (01 Names, addresses, parameters; points N1 to N4, B12, B13).
+//! Names of the greatest and least lengths, and names that are not acceptable
+//! (RULES N1 to N4).
 
 use super::layout::{address, area, name_of, one, option, sheet, text, two, Resolver, P};
 use super::pieces::{k1, k3};
@@ -24,22 +24,22 @@ fn add_good(table: &mut Table) {
             (upper.clone(), "upper case"),
             (b"\x0dxn--bcher-kva\x011\0".to_vec(), "hyphens and digits"),
         ] {
-            let source = format!("01 Names, {what}, carrier {carrier}");
+            let source = format!("RULES N1 to N4, {what}, carrier {carrier}");
             table.goes_round(source, carrier, &with(carrier, &name));
         }
     }
 }
 
 /// 256 octets in wire form are possible with the 16-bit ADN length of carriers
-/// 2 and 3 (point B13), 254 and 255 octets of text with the 8-bit length of
-/// carriers 4 and 5 (point B12). A sheet cannot hold them.
+/// 2 and 3 (RULES N1), 254 and 255 octets of text with the 8-bit length of
+/// carriers 4 and 5 (RULES N4). A sheet cannot hold them.
 fn add_too_long(table: &mut Table) {
     let name = name_of(&[63, 63, 63, 62]);
     assert_eq!((name.len(), text(&name).len()), (256, 254));
     for carrier in [2, 3] {
-        let source = format!("01 Names, 256 octets in carrier {carrier}");
+        let source = format!("RULES N1, 256 octets in carrier {carrier}");
         table.discarded(source, carrier, &area(carrier, &with(carrier, &name)), 22);
-        let source = format!("point B13, ADN length 400 in carrier {carrier}");
+        let source = format!("RULES N1, ADN length 400 in carrier {carrier}");
         let name = name_of(&[63, 63, 63, 63, 63, 63, 14]);
         assert_eq!(name.len(), 400);
         table.discarded(source, carrier, &area(carrier, &with(carrier, &name)), 22);
@@ -48,7 +48,7 @@ fn add_too_long(table: &mut Table) {
         for last in [62, 63] {
             let name = name_of(&[63, 63, 63, last]);
             let length = text(&name).len();
-            let source = format!("01 Names, text of {length} octets in carrier {carrier}");
+            let source = format!("RULES N4, text of {length} octets in carrier {carrier}");
             table.discarded(source, carrier, &area(carrier, &with(carrier, &name)), 22);
         }
     }
@@ -59,7 +59,7 @@ fn add_long_labels(table: &mut Table) {
     for carrier in 1..=5 {
         for lengths in [&[64][..], &[3, 64]] {
             let resolvers = with(carrier, &name_of(lengths));
-            let source = format!("01 Names, a label of 64 octets, carrier {carrier}");
+            let source = format!("RULES N1, a label of 64 octets, carrier {carrier}");
             table.discarded(source.clone(), carrier, &area(carrier, &resolvers), 22);
             table.write_refused(source, ROOM, &sheet(carrier, &resolvers), 22);
         }
@@ -96,8 +96,8 @@ const BAD_TEXT: [(&[u8], &str); 14] = [
     (b"a.-b", "a hyphen after a dot"),
     (b"a-.b", "a hyphen before a dot"),
     (b"a_b", "an underscore"),
-    (b"a\0", "NULL at the end (RFC 9464 section 3.1)"),
-    (b"a\r", "CR at the end (RFC 9464 section 3.1)"),
+    (b"a\0", "NULL at the end (RFC 9464 §3.1)"),
+    (b"a\r", "CR at the end (RFC 9464 §3.1)"),
     (b"\x01a\0", "wire form"),
     (b"\xc3\xa4.example", "octets above 127"),
 ];
@@ -126,18 +126,18 @@ fn raw_block(carrier: u8, name: &[u8]) -> Vec<u8> {
 fn add_bad(table: &mut Table) {
     for (name, what) in BAD_WIRE {
         for carrier in 1..=3 {
-            let source = format!("01 Names, {what}, carrier {carrier}");
+            let source = format!("RULES N1 to N4, {what}, carrier {carrier}");
             table.discarded(source, carrier, &raw_block(carrier, name), 22);
         }
         for carrier in 1..=5 {
-            let source = format!("01 Names, {what}, sheet of carrier {carrier}");
+            let source = format!("RULES N1, N2, {what}, sheet of carrier {carrier}");
             let sheet = sheet(carrier, &with(carrier, name));
             table.write_refused(source, ROOM, &sheet, 22);
         }
     }
     for (name, what) in BAD_TEXT {
         for carrier in [4, 5] {
-            let source = format!("01 Names, text with {what}, carrier {carrier}");
+            let source = format!("RULES N4, text with {what}, carrier {carrier}");
             table.discarded(source, carrier, &raw_block(carrier, name), 22);
         }
     }
@@ -154,7 +154,7 @@ fn add_lengths(table: &mut Table) {
         for (length, fault) in faults {
             let mut octets = octets.clone();
             octets[place] = *length;
-            let source = format!("01 Names, ADN length {length} for N in carrier {carrier}");
+            let source = format!("RULES N1, ADN length {length} for N in carrier {carrier}");
             table.discarded(source, carrier, &octets, *fault);
         }
     }

@@ -1,5 +1,4 @@
-//! Parameters and the order of their faults (01 Names, addresses, parameters;
-//! points B16 to B18).
+//! Parameters and the order of their faults (RULES P1 to P8, T3).
 
 use super::layout::{address, area, hex, param, sheet, Resolver, N};
 use super::table::{Table, ROOM};
@@ -40,42 +39,30 @@ const BAD: [(&str, &str, usize); 29] = [
     ("a port without a value", "0003 0000", 28),
     ("a port of one octet", "0003 0001 35", 28),
     ("a port of three octets", "0003 0003 000355", 28),
-    // The whole list is looked at for 26, then for 27, then for 28.
+    // The whole list is looked at for 26, then for 27, then for 28 (RULES T3).
+    ("key 4, then an overrun", "0004 0000 0005 0001", 26),
+    ("a bad port, then key 6", "0003 0000 0006 0000", 27),
+    ("a bad port, then an octet", "0003 0000 00", 26),
+    ("all three", "0002 0001 00 0004 0000 ffff 0000", 26),
+    // A mandatory list that names hints or the reserved key (RULES P4).
     (
-        "point B16, key 4, then an overrun",
-        "0004 0000 0005 0001",
-        26,
-    ),
-    (
-        "point B16, a bad port, then key 6",
-        "0003 0000 0006 0000",
-        27,
-    ),
-    ("point B16, a bad port, then an octet", "0003 0000 00", 26),
-    (
-        "point B16, all three",
-        "0002 0001 00 0004 0000 ffff 0000",
-        26,
-    ),
-    // A mandatory list that names hints or the reserved key.
-    (
-        "point B17, list of key 4, which is there",
+        "list of key 4, which is there",
         "0000 0002 0004 0004 0000",
         27,
     ),
     (
-        "point B17, list of key 4 before P",
+        "list of key 4 before P",
         "0000 0002 0004 0001 0004 03646f74",
         28,
     ),
     (
-        "point B17, list of key 65535 before P",
+        "list of key 65535 before P",
         "0000 0002 ffff 0001 0004 03646f74",
         28,
     ),
 ];
 
-/// Good parameters (point B18).
+/// Good parameters (RULES P1, P5 to P8).
 const GOOD: [(&str, &str); 8] = [
     ("no parameters", ""),
     ("port 0", "0003 0002 0000"),
@@ -96,16 +83,16 @@ pub fn add(table: &mut Table) {
         let with = |params: &[u8]| [Resolver::full(1, N, &address(carrier, 1), params)];
         for (what, params, fault) in BAD {
             let resolvers = with(&hex(params));
-            let source = format!("01 Parameters, {what}, carrier {carrier}");
+            let source = format!("RULES P1 to P8, {what}, carrier {carrier}");
             table.discarded(source.clone(), carrier, &area(carrier, &resolvers), fault);
             table.write_refused(source, ROOM, &sheet(carrier, &resolvers), fault);
         }
         for (what, params) in GOOD {
-            let source = format!("01 Parameters, {what}, carrier {carrier}");
+            let source = format!("RULES P1 to P8, {what}, carrier {carrier}");
             table.goes_round(source, carrier, &with(&hex(params)));
         }
         let longest = param(1, &[&[255][..], &[b'x'; 255]].concat());
-        let source = format!("01 Parameters, alpn of 255 octets, carrier {carrier}");
+        let source = format!("RULES P5, alpn of 255 octets, carrier {carrier}");
         table.goes_round(source, carrier, &with(&longest));
     }
 }

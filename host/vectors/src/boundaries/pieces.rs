@@ -1,6 +1,6 @@
-//! The pieces K1 to K12 of document 01, "Boundary pieces", octet by octet as
-//! they stand there. What the paper leaves out, the sheets of K2 to K12 and
-//! the octets of K4, K5, K8, K9 and K12, is laid out by hand after its tables.
+//! The pieces RULES K1 to K12, octet by octet as they stand there. What the
+//! table leaves out, the sheets of K2 to K12 and the octets of K4, K5, K8, K9
+//! and K12, is laid out by hand after RULES S1, S2 and B1.
 
 use super::layout::{hex, A, A4, N, P};
 use super::table::{Done, Table, ROOM};
@@ -51,8 +51,8 @@ pub fn k3_sheet() -> Vec<u8> {
     [&hex("52 53 56 00 01 03 01 00 01 00 00 0e 10 00 12"), N].concat()
 }
 
-/// K4, carrier 3 with N, A, P: length octet 7, no padding. The paper gives
-/// neither priority nor lifetime; they are those of K3.
+/// K4, carrier 3 with N, A, P: length octet 7, no padding. RULES gives neither
+/// priority nor lifetime; they are those of K3.
 pub fn k4() -> Vec<u8> {
     let head = hex("90 07 00 01 00 00 0e 10 00 12");
     [&head, N, &hex("00 10"), A, &hex("00 08"), P].concat()
@@ -172,22 +172,22 @@ fn whole() -> Vec<(&'static str, u8, Vec<u8>, Vec<u8>)> {
     ]
 }
 
-/// K1 to K12, and "Output of 59 for K1: 5; of 60: done", which are two of the
-/// rooms of K1.
+/// K1 to K12, and of K13 a buffer of 59 and of 60 octets for K1, which are two
+/// of the rooms of K1.
 pub fn add(table: &mut Table) {
     for (name, carrier, octets, sheet) in whole() {
-        let source = format!("01 Boundary pieces, {name}");
+        let source = format!("RULES {name}");
         table.read_in_rooms(&source, carrier, &octets, &Done::kept(1, &sheet));
         table.write_in_rooms(&source, &sheet, &octets);
     }
     for carrier in 1..=5 {
-        let source = format!("01 Boundary pieces, K6 in carrier {carrier}");
+        let source = format!("RULES K6 in carrier {carrier}");
         let sheet = empty_sheet(carrier);
         table.read_in_rooms(&source, carrier, &[], &Done::kept(0, &sheet));
         table.write_in_rooms(&source, &sheet, &[]);
     }
     add_faulty(table);
-    let source = "01 Boundary pieces, K12";
+    let source = "RULES K12";
     table.read_in_rooms(source, 2, &k12(), &Done::kept(3, &k12_sheet()));
     let ordered = [
         k12_option(b'b', 1),
@@ -207,17 +207,17 @@ fn add_faulty(table: &mut Table) {
         sheet: empty_sheet(carrier),
     };
     let k7 = k1_with("00 00", A);
-    table.read_in_rooms("01 Boundary pieces, K7", 2, &k7, &none(2, 21));
+    table.read_in_rooms("RULES K7", 2, &k7, &none(2, 21));
     let k10 = k1_with("00 01", LOOPBACK);
-    table.read_in_rooms("01 Boundary pieces, K10", 2, &k10, &none(2, 25));
+    table.read_in_rooms("RULES K10", 2, &k10, &none(2, 25));
     let mut k11 = k3();
     *k11.last_mut().expect("K3 has octets") = 1;
-    table.read_in_rooms("01 Boundary pieces, K11", 3, &k11, &none(3, 29));
+    table.read_in_rooms("RULES K11", 3, &k11, &none(3, 29));
     let alias = k1_sheet_with("00 00", A);
     let loopback = k1_sheet_with("00 01", LOOPBACK);
     for room in [0, 51, 52, ROOM] {
-        table.write_refused("01 K7 as a sheet", room, &alias, 21);
-        table.write_refused("01 K10 as a sheet", room, &loopback, 25);
+        table.write_refused("RULES K7 as a sheet", room, &alias, 21);
+        table.write_refused("RULES K10 as a sheet", room, &loopback, 25);
     }
 }
 
@@ -226,7 +226,7 @@ mod tests {
     use super::super::layout::{area, params_of, sheet, Resolver};
     use super::*;
 
-    /// The lengths that the paper gives.
+    /// The lengths that the table gives.
     #[test]
     fn lengths_of_the_paper() {
         let lengths = [k1(), k1_sheet(), k2(), k3(), k8_joined(), k8(), k9()];
@@ -235,7 +235,7 @@ mod tests {
         assert_eq!((k4().len(), k5().len()), (7 * 8, 4 + 44));
     }
 
-    /// The layouts give the paper's octets.
+    /// The layouts give the table's octets.
     #[test]
     fn layouts_agree_with_the_pieces() {
         let full = Resolver::full(1, N, A, P);

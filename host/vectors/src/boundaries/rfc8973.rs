@@ -1,5 +1,5 @@
-//! Examples of RFC 8973 (source document 003), built into areas: its names,
-//! addresses and ports, and its own options as foreign ones.
+//! Examples of RFC 8973, built into areas: its names, addresses and ports, and
+//! its own options as foreign ones.
 
 use super::layout::{address, area, coded, hex, option, param, sheet, two, Resolver, A4, N};
 use super::pieces::{k1, k1_sheet, k2, k2_sheet, k3, k3_sheet};
@@ -13,19 +13,19 @@ fn port(number: usize) -> Vec<u8> {
     param(3, &two(number))
 }
 
-/// Section 5: one name and the two addresses 2001:db8:122:300::1 and ::2, with
+/// RFC 8973 §5: one name and the two addresses 2001:db8:122:300::1 and ::2, with
 /// the port 4646.
 fn add_name_and_addresses(table: &mut Table) {
     for carrier in [2, 3, 5] {
-        let source = format!("RFC 8973 section 5 and Figure 4 in carrier {carrier}");
+        let source = format!("RFC 8973 §5 and Figure 4 in carrier {carrier}");
         let both = [address(carrier, 1), address(carrier, 2)].concat();
         let resolver = Resolver::full(1, DOTS, &both, &port(4_646));
         table.goes_round(source, carrier, &[resolver]);
     }
-    let source = "RFC 8973 section 5.1.2, an IPv4-mapped address stays";
+    let source = "RFC 8973 §5.1.2, an IPv4-mapped address stays";
     let mapped = hex("0000 0000 0000 0000 0000 ffff c000 0201");
     table.goes_round(source, 2, &[Resolver::full(1, DOTS, &mapped, &[])]);
-    let source = "RFC 8973 section 5.1.3, more than one name in one field";
+    let source = "RFC 8973 §5.1.3, more than one name in one field";
     let fields = [&hex("00 01 00 24")[..], DOTS, N].concat();
     table.discarded(source, 2, &option(2, &fields), 22);
 }
@@ -33,13 +33,13 @@ fn add_name_and_addresses(table: &mut Table) {
 /// Its options 141, 142, 147 and 148 around K1, K2 and K3.
 fn add_foreign(table: &mut Table) {
     let both = [address(2, 1), address(2, 2)].concat();
-    let source = "RFC 8973 sections 5.1.1 and 5.1.2, options 141 and 142 around K1";
+    let source = "RFC 8973 §5.1.1, §5.1.2, options 141 and 142 around K1";
     let octets = [coded(2, 141, DOTS), k1(), coded(2, 142, &both)].concat();
     table.read(source, 2, ROOM, &octets, &Done::kept(1, &k1_sheet()));
-    let source = "RFC 8973 sections 5.2.1 and 5.2.2, options 147 and 148 around K2";
+    let source = "RFC 8973 §5.2.1, §5.2.2, options 147 and 148 around K2";
     let octets = [coded(1, 147, DOTS), k2(), coded(1, 148, A4)].concat();
     table.read(source, 1, ROOM, &octets, &Done::kept(1, &k2_sheet()));
-    let source = "RFC 8973 section 5.1, its option codes as types around K3";
+    let source = "RFC 8973 §5.1, its option codes as types around K3";
     let octets = [coded(3, 142, &both), k3(), coded(3, 141, DOTS)].concat();
     table.read(source, 3, ROOM, &octets, &Done::kept(1, &k3_sheet()));
 }
@@ -66,8 +66,8 @@ fn add_table_1(table: &mut Table) {
     }
 }
 
-/// Names of Figures 8 and 9 and of section 8.1, and the fault, 0 if there is
-/// none. The house rule accepts no underscore and no wildcard.
+/// Names of RFC 8973 Figures 8 and 9 and §8.1, and the fault, 0 if there is
+/// none. RULES N2 accepts no underscore and no wildcard.
 const NAMES: [(&[u8], usize); 5] = [
     (b"\x0c_dots-signal\x04_udp\x07example\x03net\0", 22),
     (b"\x0f_dots-call-home\x04_tcp\x07example\x03net\0", 22),

@@ -1,6 +1,6 @@
-//! The test vectors of RFC 9460, Appendix D, as resolvers: priority, target
-//! name and parameters of each record, with an address beside them. That RFC is
-//! not among the source documents; the answers are those of document 01.
+//! The test vectors of RFC 9460 §D as resolvers: priority, target name and
+//! parameters of each record, with an address beside them. The answers are
+//! those of RULES P1 to P8, R21 and R22.
 
 use super::layout::{address, area, hex, sheet, Resolver};
 use super::table::{Table, ROOM};
@@ -9,11 +9,11 @@ const COM: &[u8] = b"\x03foo\x07example\x03com\0";
 const ORG: &[u8] = b"\x03foo\x07example\x03org\0";
 const SHORT: &[u8] = b"\x07example\x03com\0";
 
-/// A record of Appendix D: what it shows, priority, target name, parameters,
+/// A record of RFC 9460 §D: what it shows, priority, target name, parameters,
 /// and the fault, 0 if it is good.
 type Row = (&'static str, u16, &'static [u8], &'static str, usize);
 
-/// Sections D.1 and D.2. AliasMode is refused, as are the root as a name and
+/// RFC 9460 §D.1 and §D.2. AliasMode is refused, as are the root as a name and
 /// the hints; the rest is good.
 const VALID: [Row; 9] = [
     ("D.1, AliasMode", 0, COM, "", 21),
@@ -64,7 +64,7 @@ const VALID: [Row; 9] = [
     ),
 ];
 
-/// Section D.3, failure cases, in wire form.
+/// RFC 9460 §D.3, failure cases, in wire form.
 const FAILURES: [Row; 10] = [
     (
         "D.3, the same key twice",
@@ -112,7 +112,7 @@ const FAILURES: [Row; 10] = [
 pub fn add(table: &mut Table) {
     for (what, priority, name, params, fault) in VALID.into_iter().chain(FAILURES) {
         for carrier in 1..=5 {
-            let source = format!("RFC 9460 section {what}, carrier {carrier}");
+            let source = format!("RFC 9460 §{what}, carrier {carrier}");
             let resolver = Resolver::full(priority, name, &address(carrier, 1), &hex(params));
             let resolvers = [resolver];
             if fault == 0 {

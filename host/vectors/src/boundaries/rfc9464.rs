@@ -1,6 +1,5 @@
-//! The examples of RFC 9464, Appendix A (source document 001), as runs of
-//! attributes in the layout of its Figure 1. The other attributes have the
-//! types of RFC 7296 and RFC 8598.
+//! The examples of RFC 9464 §A as runs of attributes in the layout of its
+//! Figure 1. The other attributes have the types of RFC 7296 and RFC 8598.
 
 use super::layout::{coded, hex, sheet, Resolver};
 use super::table::{Done, Table, ROOM};
@@ -83,19 +82,19 @@ fn add_replies(table: &mut Table) {
             [internal_address(), resolver(), domain],
         ),
     ] {
-        let source = format!("RFC 9464 section {what}");
+        let source = format!("RFC 9464 §{what}");
         let octets = octets.concat();
         table.read_in_rooms(&source, 5, &octets, &done);
         let none = Done::kept(0, &sheet(4, &[]));
         table.read(source + ", read as carrier 4", 4, ROOM, &octets, &none);
     }
-    let source = "RFC 9464 section A.1, the resolver alone";
+    let source = "RFC 9464 §A.1, the resolver alone";
     table.read_in_rooms(source, 5, &resolver(), &done);
     table.write_in_rooms(source, &resolver_sheet(), &resolver());
 }
 
-/// The requests, whose attributes are no whole records: without data (point
-/// W8), without a name, without an address, and with neither.
+/// The requests, whose attributes are no whole records: without data
+/// (RULES W7), without a name, without an address, and with neither.
 fn add_requests(table: &mut Table) {
     let own = |data: &[u8]| attribute(28, data);
     let algorithms = attribute(ENCDNS_DIGEST_INFO, &hex("03 00 00 02 00 03 00 04"));
@@ -114,13 +113,13 @@ fn add_requests(table: &mut Table) {
             20,
         ),
     ] {
-        let source = format!("RFC 9464 section {what}");
+        let source = format!("RFC 9464 §{what}");
         let octets = [requested(), octets].concat();
         table.discarded(source, 5, &octets, fault);
     }
 }
 
-/// Section 3.1: an example of a valid name is doh1.example.com, and addresses
+/// RFC 9464 §3.1: an example of a valid name is doh1.example.com, and addresses
 /// of both families stand in one payload, each for its own carrier.
 fn add_both_families(table: &mut Table) {
     let of = |carrier: u8, address: &[u8]| {
@@ -130,7 +129,7 @@ fn add_both_families(table: &mut Table) {
     };
     let (four, four_sheet) = of(4, &[198, 51, 100, 1, 203, 0, 113, 7]);
     let (six, six_sheet) = of(5, &preferred_address());
-    let source = "RFC 9464 section 3.1, attributes of both families";
+    let source = "RFC 9464 §3.1, attributes of both families";
     for octets in [[four.clone(), six.clone()], [six, four]] {
         let octets = octets.concat();
         table.read(source, 4, ROOM, &octets, &Done::kept(1, &four_sheet));

@@ -1,5 +1,5 @@
 //! Sheets that are refused for their form, and the order of the refusals of
-//! writing (01 The record sheet; 01 Numbers given back; points S5 to S15).
+//! writing (RULES R40 to R44, T5).
 
 use super::layout::{
     address, addresses, area, hex, letter_name, name_of, params_of, sheet, Resolver, A, N, P,
@@ -16,7 +16,7 @@ fn with(mut sheet: Vec<u8>, place: usize, octet: u8) -> Vec<u8> {
 /// 40 to 42 and the count, in their order: letters, version, carrier, count.
 fn add_headers(table: &mut Table) {
     let mut refused = |what: &str, sheet: &[u8], number| {
-        let source = format!("01 Numbers given back, writing: {what}");
+        let source = format!("RULES T5, writing: {what}");
         table.write_refused(source, ROOM, sheet, number);
     };
     let k1 = k1_sheet();
@@ -40,9 +40,9 @@ fn add_headers(table: &mut Table) {
     refused("41 before 42", &hex("52 53 56 00 02 00 11"), 41);
     refused("42 before 4", &hex("52 53 56 00 01 00 11"), 42);
     refused("4 before 43", &hex("52 53 56 00 01 02 11 00"), 4);
-    let source = "01 The record sheet, 7 octets and no record";
+    let source = "RULES S1, 7 octets and no record";
     for carrier in 1..=5 {
-        // Room 0 suffices (point S15); K6 has it too.
+        // Room 0 suffices (RULES E2); K6 has it too.
         table.write(source, 1, &empty_sheet(carrier), &[]);
     }
 }
@@ -51,7 +51,7 @@ fn add_headers(table: &mut Table) {
 /// is a lifetime where none belongs.
 fn add_shapes(table: &mut Table) {
     let mut refused = |what: &str, sheet: &[u8]| {
-        let source = format!("01 Numbers 43, {what}");
+        let source = format!("RULES R43, {what}");
         table.write_refused(source, ROOM, sheet, 43);
     };
     for (name, sheet) in [
@@ -90,37 +90,37 @@ fn add_shapes(table: &mut Table) {
     );
 }
 
-/// Lifetime is zero except for carrier 3 (point S14).
+/// Lifetime is zero except for carrier 3 (RULES S4).
 fn add_lifetimes(table: &mut Table) {
     for carrier in [1, 2, 4, 5] {
         for lifetime in [1, 3_600, 0xff00_0000, u32::MAX] {
             let resolver = Resolver::small(carrier, 1, N).living(lifetime);
-            let source = format!("01 Numbers 43, lifetime {lifetime} in carrier {carrier}");
+            let source = format!("RULES R43, lifetime {lifetime} in carrier {carrier}");
             table.write_refused(source, ROOM, &sheet(carrier, &[resolver]), 43);
         }
     }
     for lifetime in [0, 1, 3_600, 0xff00_0000, u32::MAX] {
-        let source = format!("01 The record sheet, lifetime {lifetime} in carrier 3");
+        let source = format!("RULES S4, lifetime {lifetime} in carrier 3");
         table.goes_round(source, 3, &[Resolver::named(1, N).living(lifetime)]);
     }
 }
 
 /// Sixteen and seventeen records announced: 4 is for the count alone, and a
-/// sheet of sixteen that falls short is 43 (point S5).
+/// sheet of sixteen that falls short is 43 (RULES T5).
 fn add_counts(table: &mut Table) {
     let records: Vec<Resolver> = (0..16)
         .map(|index| Resolver::named(7, &letter_name(b'a' + index)))
         .collect();
     let whole = sheet(2, &records);
-    let source = "01 Numbers 43, fifteen of sixteen records";
+    let source = "RULES R43, fifteen of sixteen records";
     table.write_refused(source, ROOM, &whole[..whole.len() - 11], 43);
-    let source = "01 Numbers 4, count 17 and sixteen records";
+    let source = "RULES R4, count 17 and sixteen records";
     table.write_refused(source, ROOM, &with(whole.clone(), 6, 17), 4);
-    let source = "01 Numbers 4, count 16 and equal priorities";
+    let source = "RULES R4, count 16 and equal priorities";
     table.write_in_rooms(source, &whole, &area(2, &records));
 }
 
-/// 43 over the whole sheet goes before 21 of its first record (point S6), and
+/// 43 over the whole sheet goes before 21 of its first record (RULES T5), and
 /// a priority 0 does not fall, it is 21.
 fn add_priorities(table: &mut Table) {
     let name = letter_name(b'a');
@@ -129,7 +129,7 @@ fn add_priorities(table: &mut Table) {
             .iter()
             .map(|priority| Resolver::named(*priority, &name))
             .collect();
-        let source = format!("01 Numbers given back, priorities {what}");
+        let source = format!("RULES T5, priorities {what}");
         table.write_refused(source, ROOM, &sheet(2, &records), number);
     };
     refused("0, 2, 1", &[0, 2, 1], 43);
@@ -137,17 +137,17 @@ fn add_priorities(table: &mut Table) {
     refused("1, 0", &[1, 0], 43);
     refused("256, 255", &[256, 255], 43);
     refused("65535, 1", &[65_535, 1], 43);
-    let source = "01 The record sheet, priorities 1, 255, 256, 65535";
+    let source = "RULES S5, priorities 1, 255, 256, 65535";
     let records = [1, 255, 256, 65_535].map(|priority| Resolver::named(priority, &name));
     table.goes_round(source, 2, &records);
 }
 
-/// 23 and 24 in sheets: name only in carriers 4 and 5 (point S8), no address
-/// (point S9), more of them than any record has, and empty parameters, which
-/// are good (point S10).
+/// 23 and 24 in sheets: name only in carriers 4 and 5 (RULES T4), no address
+/// (RULES R23), more of them than any record has, and empty parameters, which
+/// are good (RULES P1).
 fn add_records(table: &mut Table) {
     for carrier in [4, 5] {
-        let source = format!("point S8, mode 0 in carrier {carrier}");
+        let source = format!("RULES T4, mode 0 in carrier {carrier}");
         let named = |priority, name: &[u8]| sheet(carrier, &[Resolver::named(priority, name)]);
         table.write_refused(source.clone(), ROOM, &named(1, N), 23);
         table.write_refused(source.clone() + ", 21 before", ROOM, &named(0, N), 21);
@@ -155,17 +155,17 @@ fn add_records(table: &mut Table) {
     }
     for carrier in 1..=5 {
         let full = |addresses: &[u8]| [Resolver::full(1, N, addresses, &[])];
-        let source = format!("point S9, mode 1 without addresses in carrier {carrier}");
+        let source = format!("RULES R23, mode 1 without addresses in carrier {carrier}");
         table.write_refused(source, ROOM, &sheet(carrier, &full(&[])), 23);
-        let source = format!("point S10, no parameters in carrier {carrier}");
+        let source = format!("RULES P1, no parameters in carrier {carrier}");
         table.goes_round(source, carrier, &full(&address(carrier, 1)));
     }
     let many = Resolver::full(1, N, &addresses(4, 255), P);
-    let source = "point S9, 255 addresses in carrier 4";
+    let source = "RULES R24, 255 addresses in carrier 4";
     table.write_refused(source, ROOM, &sheet(4, &[many]), 24);
 }
 
-/// "21 to 28 record by record, then 44, then 5" (point S11).
+/// 21 to 28 record by record, then 44, then 5 (RULES T5).
 fn add_record_order(table: &mut Table) {
     let good = Resolver::full(1, N, A, P);
     let bad_name = Resolver::full(1, b"\x01_\0", A, P);
@@ -173,7 +173,7 @@ fn add_record_order(table: &mut Table) {
     let large = Resolver::full(1, N, &addresses(3, 63), &params_of(1_001));
     let mut refused = |what: &str, room: usize, records: &[&Resolver], number| {
         let records: Vec<Resolver> = records.iter().map(|record| (*record).clone()).collect();
-        let source = format!("point S11, {what}");
+        let source = format!("RULES T5, {what}");
         table.write_refused(source, room, &sheet(3, &records), number);
     };
     refused(
@@ -194,7 +194,7 @@ fn add_record_order(table: &mut Table) {
     refused("22 before 5", 0, &[&bad_name], 22);
     refused("5", 0, &[&good], 5);
     let longest = Resolver::named(1, &name_of(&[63, 63, 63, 61]));
-    let source = "point S12, name only is at most 272 octets in carrier 3";
+    let source = "RULES R44, name only is at most 272 octets in carrier 3";
     let octets = area(3, std::slice::from_ref(&longest));
     assert_eq!(octets.len(), 272);
     table.write_in_rooms(source, &sheet(3, &[longest]), &octets);

@@ -1,5 +1,5 @@
-//! The table of boundary cases: what goes in, what document 01 says of it, and
-//! where it says so.
+//! The table of boundary cases: what goes in, what the rules say of it, and
+//! which of them.
 
 use super::layout::{area, sheet, Resolver};
 use dnr_reference as reference;
@@ -37,7 +37,7 @@ struct Case {
     stated: Answer,
 }
 
-/// A reading that is done, as the paper has it.
+/// A reading that is done, as the rules have it.
 #[derive(Clone)]
 pub struct Done {
     pub found: usize,

@@ -1,6 +1,5 @@
-//! Each of the wrong readings that document 01 tells of, "Wrong readings we
-//! have met". Cuts of options 162 stand with carrier 1, and zeros behind the
-//! name with carrier 3.
+//! Each of the wrong readings that were met before (RULES X1 to X6). Cuts of
+//! options 162 stand with carrier 1, and zeros behind the name with carrier 3.
 
 use super::layout::{
     address, area, coded, hex, letter_name, option, sheet, width, Resolver, A, A4, N, P,
@@ -8,26 +7,26 @@ use super::layout::{
 use super::pieces::{k3, k3_sheet, k8_joined};
 use super::table::{Done, Table, ROOM};
 
-/// "K3's zeros taken as an address length of 0 and the option refused." K3 is
-/// read with another K3 and a foreign option around it.
+/// RULES X1: K3's zeros taken as an address length of 0. K3 is read with
+/// another K3 and a foreign option around it.
 fn add_zeros(table: &mut Table) {
     let named = Resolver::named(1, N).living(3_600);
-    let source = "01 Wrong readings, K3's zeros, K3 twice";
+    let source = "RULES X1, K3's zeros, K3 twice";
     table.goes_round(source, 3, &[named.clone(), named]);
-    let source = "01 Wrong readings, K3's zeros, a foreign option behind";
+    let source = "RULES X1, K3's zeros, a foreign option behind";
     let octets = [k3(), coded(3, 5, &[0; 6])].concat();
     table.read(source, 3, ROOM, &octets, &Done::kept(1, &k3_sheet()));
 }
 
-/// "The fixed octets taken off L by the walk and again by the instance: the
-/// last parameter, the port, disappears." The port is the last parameter in
-/// each carrier, with and without another one before it.
+/// RULES X2: the fixed octets taken off L by the walk and again by the
+/// instance, so that the last parameter, the port, disappears. The port is the
+/// last parameter in each carrier, with and without another one before it.
 fn add_port(table: &mut Table) {
     let port = hex("00 03 00 02 03 55");
     for carrier in 1..=5 {
         for params in [port.clone(), [P, &port].concat()] {
             let resolver = Resolver::full(1, N, &address(carrier, 1), &params);
-            let source = format!("01 Wrong readings, the port, carrier {carrier}");
+            let source = format!("RULES X2, the port, carrier {carrier}");
             table.goes_round(source.clone(), carrier, std::slice::from_ref(&resolver));
             // Two of them, so that a length that is too short or too long
             // also shows in the second.
@@ -36,10 +35,10 @@ fn add_port(table: &mut Table) {
     }
 }
 
-/// "Each option 162 read alone instead of joined." Two options that are whole
-/// instances of their own, and two that are not.
+/// RULES X3: each option 162 read alone instead of joined. Two options that are
+/// whole instances of their own, and two that are not.
 fn add_joined(table: &mut Table) {
-    let source = "01 Wrong readings, options 162 read alone";
+    let source = "RULES X3, options 162 read alone";
     let first = Resolver::full(2, &letter_name(b'a'), A4, P);
     let second = Resolver::named(1, &letter_name(b'b'));
     let ordered = sheet(1, &[second.clone(), first.clone()]);
@@ -67,8 +66,8 @@ const ORDERS: [(&[u16], &[usize]); 6] = [
     (&[256, 255, 1, 511, 512], &[2, 1, 0, 3, 4]),
 ];
 
-/// "Larger priority first, or equal priorities exchanged." The orders above in
-/// each carrier.
+/// RULES X4: larger priority first, or equal priorities exchanged. The orders
+/// above in each carrier.
 fn add_priorities(table: &mut Table) {
     for carrier in 1..=5 {
         for (priorities, order) in ORDERS {
@@ -80,7 +79,7 @@ fn add_priorities(table: &mut Table) {
             let (read, written) = (area(carrier, &arrived), area(carrier, &ordered));
             let sheet = sheet(carrier, &ordered);
             let found = if carrier == 1 { 1 } else { arrived.len() };
-            let source = format!("01 Wrong readings, priorities {priorities:?}");
+            let source = format!("RULES X4, priorities {priorities:?}");
             let source = format!("{source} in carrier {carrier}");
             table.read(
                 source.clone(),
@@ -108,8 +107,8 @@ fn dropped(carrier: u8) -> Vec<Vec<u8>> {
     all.iter().map(|text| hex(text)).collect()
 }
 
-/// Their nearest neighbours, and others that a reader might drop but document
-/// 01 does not (point B19).
+/// Their nearest neighbours, and others that a reader might drop but
+/// RULES A1 does not.
 fn not_dropped(carrier: u8) -> Vec<Vec<u8>> {
     let all: &[&str] = match width(carrier) {
         4 => &[
@@ -129,15 +128,15 @@ fn not_dropped(carrier: u8) -> Vec<Vec<u8>> {
     all.iter().map(|text| hex(text)).collect()
 }
 
-/// "The writer dropping a loopback address that the reader should have
-/// dropped." The reader drops it, and the writer refuses it with 25, also
-/// where another address would stay (point S13).
+/// RULES X5: the writer drops a loopback address that the reader should have
+/// dropped. The reader drops it, and the writer refuses it with 25, also
+/// where another address would stay (RULES R25).
 fn add_dropped(table: &mut Table) {
     for carrier in 1..=5 {
         let good = address(carrier, 1);
         let with = |addresses: &[u8]| [Resolver::full(1, N, addresses, P)];
         let kept = Done::kept(1, &sheet(carrier, &with(&good)));
-        let source = format!("01 Wrong readings, loopback and multicast in carrier {carrier}");
+        let source = format!("RULES X5, loopback and multicast in carrier {carrier}");
         for bad in dropped(carrier) {
             table.discarded(source.clone(), carrier, &area(carrier, &with(&bad)), 25);
             table.write_refused(source.clone(), ROOM, &sheet(carrier, &with(&bad)), 25);
@@ -147,7 +146,7 @@ fn add_dropped(table: &mut Table) {
                 table.write_refused(source.clone(), ROOM, &sheet(carrier, &both), 25);
             }
         }
-        let source = format!("point B19, addresses that stay in carrier {carrier}");
+        let source = format!("RULES A1, addresses that stay in carrier {carrier}");
         let stay = not_dropped(carrier).concat();
         table.goes_round(source.clone(), carrier, &with(&stay));
         // All kinds at once: those that stay keep their order.
@@ -161,8 +160,8 @@ fn add_dropped(table: &mut Table) {
     }
 }
 
-/// "A mandatory list checked for order only, so a key that isn't there
-/// passes." Lists before alpn and port, in carrier 2: read and written.
+/// RULES X6: a mandatory list checked for order only, so that a key that is not
+/// there passes. Lists before alpn and port, in carrier 2: read and written.
 fn add_mandatory(table: &mut Table) {
     let rest = [P, &hex("00 03 00 02 03 55")].concat();
     for (list, good) in [
@@ -183,7 +182,7 @@ fn add_mandatory(table: &mut Table) {
         ("00 00 00 01 01", false),
     ] {
         let resolvers = [Resolver::full(1, N, A, &[hex(list), rest.clone()].concat())];
-        let source = format!("01 Wrong readings, mandatory list {list}");
+        let source = format!("RULES X6, mandatory list {list}");
         if good {
             table.goes_round(source, 2, &resolvers);
         } else {
