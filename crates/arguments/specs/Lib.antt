@@ -2,4 +2,3 @@ pub mod Command
 pub mod Wrong
 pub mod Line
 pub mod LineLaws
-pub mod Examples

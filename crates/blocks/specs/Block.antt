@@ -14,7 +14,8 @@ use Rattle.carriers.specs.declared.Form.the-variants.{Wire, Padded, Text}
 use Rattle.blocks.specs.declared.Head.{Head}
 use Rattle.carriers.specs.Carriers.{headerOf, lengthWidth, formOf, lifetimeWidth, addressWidth}
 
--- what a block says (RULES B1); `name` and `addresses` are as carried, so in carriers 4 and 5 the name is text (RULES N4)
+-- what one body says (RULES B1), or what a record of a sheet holds (RULES S2): of a body name and addresses are as carried, in carriers 4 and 5 the name
+-- is text (RULES N4); of a record the name is in wire form
 pub record Fields : Type 0 where
   pub priority : ℕ
   pub lifetime : ℕ

@@ -34,7 +34,7 @@ pub data Back : Type 0 where
 
 -- a sentence in words
 pub data Claim : Type 0 where
-  -- "52 octets"; "Sheet, 60 octets"; "N .. 18 octets", of a part
+  -- "52 octets"; "Sheet, 60 octets"; of a part: N is "18 octets"
   octets : ℕ → Claim
   sheetOctets : ℕ → Claim
   partOctets : List ℕ → ℕ → Claim
@@ -42,12 +42,12 @@ pub data Claim : Type 0 where
   number : (width place n : ℕ) → Claim
   -- "no padding": the last octets of the area
   ends : List ℕ → Claim
-  -- "Joined data 300 octets, written as options of 255 and 45"
+  -- "joined data of 300 octets, written as options of 255 and 45"
   joined : ℕ → Claim
   options : List ℕ → Claim
-  -- "K1 with A replaced by ::1": another area with `new` in the place of the `old` octets, from a place on
+  -- "K1 with ::1 in the place of A": another area with `new` in the place of the `old` octets, from a place on
   replaced : (area : List ℕ) (place : ℕ) (old new : List ℕ) → Claim
-  -- "Output of 59 for K1: 5; of 60: done"
+  -- "A buffer of 59 octets for K1 is 5, one of 60 done" (RULES K13)
   short : ℕ → Claim
   enough : ℕ → Claim
 

@@ -95,7 +95,7 @@ k3 = record {
   says = octets 32 ∷ [];
 }
 
--- K4 carrier 3 with N, A, P: length octet 7, no padding. It names no priority and no lifetime: 1 and 3,600, as in K3.
+-- K4 carrier 3, priority 1, lifetime 3,600, with N, A and P: length octet 7, no padding.
 abbrev pub k4 : Piece
 k4 = record {
   k = 4;
@@ -116,7 +116,7 @@ k4 = record {
   says = number 1 1 7 ∷ ends P ∷ [];
 }
 
--- K5 carrier 5 with the same: length 44, ADN length 16. The priority is 1 here too.
+-- K5 carrier 5, priority 1, with N as text, A and P: length 44, ADN length 16.
 abbrev pub k5 : Piece
 k5 = record {
   k = 5;
@@ -134,7 +134,7 @@ k5 = record {
   says = number 2 2 44 ∷ number 1 7 16 ∷ partOctets T 16 ∷ [];
 }
 
--- K6 empty area: a 7-octet sheet with count 0, found 0. It names no carrier, so the table has all five.
+-- K6 the empty area: a sheet of 7 octets with count 0, found 0; in any carrier, so the table has all five.
 abbrev pub k6 : ℕ → Piece
 k6 carrier = record {
   k = 6;
@@ -161,8 +161,8 @@ k7 = record {
   says = replaced (k1 .area) 4 (0x00 ∷ 0x01 ∷ []) (0x00 ∷ 0x00 ∷ []) ∷ [];
 }
 
--- K8 carrier 1, one record: priority 1, N, address 192.0.2.1, one parameter with key 65,280 and 268 zero octets. Joined data 300 octets,
--- written as options of 255 and 45.
+-- K8 carrier 1, one record: priority 1, N, address 192.0.2.1, one parameter with key 65,280 and 268 zeros: joined data of 300 octets, written as options
+-- of 255 and 45; a sheet of 312 octets, found 1.
 abbrev pub k8 : Piece
 k8 = record {
   k = 8;
@@ -181,10 +181,10 @@ k8 = record {
       1;
   records = whole 1 0 N A4 (zeroed 268) ∷ [];
   back = again;
-  says = joined 300 ∷ options (255 ∷ 45 ∷ []) ∷ [];
+  says = joined 300 ∷ options (255 ∷ 45 ∷ []) ∷ sheetOctets 312 ∷ [];
 }
 
--- K9 the same with 223 zero octets: joined data 255, one option.
+-- K9 the same with 223 zeros: joined data of 255 octets, one option.
 abbrev pub k9 : Piece
 k9 = record {
   k = 9;
@@ -205,7 +205,7 @@ k9 = record {
   says = joined 255 ∷ options (255 ∷ []) ∷ [];
 }
 
--- K10 K1 with A replaced by ::1: fault 25.
+-- K10 K1 with ::1 in the place of A: fault 25.
 abbrev pub k10 : Piece
 k10 = record {
   k = 10;

@@ -18,8 +18,8 @@ pub record EndOf (c : Carrier) (rs : List Fields) (k n : ℕ) : Type 0 where
   pub within : k ≤ length rs
   pub whole : n ≡ length (octetsOf c (take k rs))
 
--- the same of a call that was lent the buffer `sheet`, which afterwards holds `sheet′`, and that read the part before a cut of n octets: every
--- number that it returned, and the whole buffer (RULES D3)
+-- what a call returned and left that was lent the buffer `sheet`, which afterwards holds `sheet′`, and that read the part before a cut after n octets:
+-- every number, and the whole buffer (RULES D3, D8, D9)
 pub data CutCall (c : Carrier) (rs : List Fields) (n : ℕ) (sheet : List ℕ) (r : Reading) (sheet′ : List ℕ) : Type 0 where
   first-records : (k : ℕ) → EndOf c rs k n → length (sheetOf c (take k rs)) ≤ length sheet
       → Reads (done (faultless (sheetOf c (take k rs)) k)) sheet r sheet′ → CutCall c rs n sheet r sheet′

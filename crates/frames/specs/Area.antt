@@ -1,4 +1,4 @@
--- An area as the run of options that it is (RULES W1 to W8), without a walk: `frame` gives the bodies of this run, and a fault where there is
+-- An area as the run of options that it is (RULES W1 to W8), without a walk: `frame` gives the bodies of this run, and nothing where there is
 -- none (`frame-exactly`, `fault-exactly`). It speaks of lists of numbers; that they are octets is a premise of the laws. Assumes nothing: these
 -- are definitions.
 use mathlib.Core.Path.{_≡_}

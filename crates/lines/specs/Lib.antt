@@ -1,4 +1,3 @@
 pub mod Messages
 pub mod HexLines
 pub mod HexLinesLaws
-pub mod Examples

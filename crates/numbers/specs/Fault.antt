@@ -2,7 +2,7 @@
 -- Assumes nothing: these are definitions.
 use Prim.Native.Nat.{ℕ}
 
--- a field runs past the block's end, an instance past the joined data, or no instance (RULES R20)
+-- a field runs past its body's end, an instance past the joined data, or no instance (RULES R20)
 abbrev pub field : ℕ
 field = 20
 

@@ -26,6 +26,6 @@ recordSize = 2298
 abbrev pub sheetSize : ℕ
 sheetSize = 36775
 
--- octets of a carrier 3 record when rounded: 255 units of 8 (RULES L6)
+-- octets of a carrier 3 option: 255 units of 8 (RULES L6)
 abbrev pub option : ℕ
 option = 2040

@@ -41,7 +41,7 @@ impl Refusal {
 pub struct Fault();
 
 impl Fault {
-    // A field runs past the block's end, an instance past the joined data, or there is no instance.
+    // A field runs past its body's end, an instance past the joined data, or there is no instance.
     pub const FIELD: usize = 20;
 
     // Priority 0, AliasMode (RFC 9460 §2.4.2).

@@ -1,4 +1,4 @@
--- Joined octets as options 162 (RULES E2: "options 162 of 255 octets each and a last one of 1 to 255; nothing for no records, and no code 255").
+-- Joined octets as options 162 (RULES E2: 255 octets of data each and a last one with 1 to 255; nothing for no records).
 -- Assumes nothing: these are definitions.
 use mathlib.Core.List.{List, [], _∷_}
 use Prim.Native.Nat.{ℕ, zero, suc, _+_, _*_, _/_}

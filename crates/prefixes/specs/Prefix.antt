@@ -19,8 +19,8 @@ Leading {A} a b = (rest : List A) × (b ≡ a ++ rest)
 abbrev pub SelfDelimiting : {A : Type 0} → (A → Type 0) → (A → List ℕ) → Type 0
 SelfDelimiting {A} P e = (a b : A) (x y : List ℕ) → P a → P b → e a ++ x ≡ e b ++ y → (a ≡ b) × (x ≡ y)
 
--- the octets that RULES D3 speaks of: in carriers 2 to 5 those that are written, in carrier 1 the data of the options that are written, joined
--- (RULES D6)
+-- the octets that RULES D3 speaks of: in carriers 2 to 5 those that are written, in carrier 1 the data of the options that are written, joined;
+-- the law `joined-defined` says that these are the records' instances one after another (RULES D6)
 abbrev pub JoinedBy : Bool → List ℕ → List ℕ → Type 0
 JoinedBy true octets joined = (bodies : List (List ℕ)) × Area Dhcp4 octets bodies × (joined ≡ flat bodies)
 JoinedBy false octets joined = joined ≡ octets

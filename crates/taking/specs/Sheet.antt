@@ -1,5 +1,5 @@
 -- What a sheet is, said of the whole list, in place of the tests 2, 40, 41, 42, 4 and 43 (RULES T5): the octets of a carrier and a list of at most
--- 16 records (RULES S1 to S5). It speaks of lists of numbers; that they are octets is a premise of the laws. Assumes nothing: these are
+-- 16 records (RULES S1 to S5, L2). It speaks of lists of numbers; that they are octets is a premise of the laws. Assumes nothing: these are
 -- definitions.
 use mathlib.Core.Path.{_≡_}
 use mathlib.Core.Bool.{Bool, true, false}
@@ -38,7 +38,7 @@ pub record IsHead (s : List ℕ) (carrier count : ℕ) : Type 0 where
   pub is : s ≡ letters ++ (be 2 edition ++ (carrier ∷ count ∷ rest))
   pub short : length s ≤ limit.input
 
--- s is the sheet of carrier c and records rs, which passes 2, 40, 41, 42, 4 and 43 (RULES T5)
+-- s is the sheet of carrier c and records rs, which passes 2, 40, 41, 42, 4 and 43 (RULES T5, L1, L2)
 pub record IsSheet (s : List ℕ) (c : Carrier) (rs : List Fields) : Type 0 where
   pub is : s ≡ sheetOf c rs
   pub few : length rs ≤ limit.records

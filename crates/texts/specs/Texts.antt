@@ -1,4 +1,4 @@
--- Names as text (RULES N4: "the same labels stand as text, joined by dots, without a final dot: 1 to 253 octets").
+-- Names as text (RULES N4): the same labels joined by dots, without a final dot, 1 to 253 octets.
 -- Assumes nothing: these are definitions.
 use mathlib.Core.Path.{_≡_}
 use mathlib.Core.Bool.{cond}

@@ -1,5 +1,5 @@
 -- Which sheets writing accepts (RULES D4), said of their records and stated as what is true of the octets, not as steps to take; the law
--- `accepted-exactly` says that it is these. Assumes nothing: these are definitions.
+-- `accepted-exactly` says that writing accepts exactly these. Assumes nothing: these are definitions.
 use mathlib.Core.Path.{_≡_}
 use mathlib.Core.Logic.{_⊎_}
 use mathlib.Core.List.{List}
@@ -18,7 +18,7 @@ use Rattle.taking.specs.Sheet.{FitsRecord, IsSheet}
 abbrev pub Sized : Carrier → Fields → Type 0
 Sized c r = c ≡ Router → optionSize r ≤ limit.option
 
--- a record that writing accepts: it has room in a sheet (RULES R43), the RFCs and the limits allow it with no address to be dropped
+-- a record that writing accepts: its fields fit a sheet's record (RULES S2, S4), the RFCs and the limits allow it with no address to be dropped
 -- (RULES R21 to R28), and its option is not too large (RULES R44)
 pub record Sound (c : Carrier) (r : Fields) : Type 0 where
   pub fits : FitsRecord c r

@@ -85,7 +85,7 @@ impl Refusal {
 }
 
 impl Fault {
-    /// 20: a field runs past the block's end, an instance past the joined data, or there is no instance.
+    /// 20: a field runs past its body's end, an instance past the joined data, or there is no instance.
     pub const FIELD: Fault = Fault(20);
     /// 21: priority 0, which is AliasMode.
     pub const PRIORITY: Fault = Fault(21);
