@@ -10,7 +10,7 @@ use lib.Dec.{ltb}
 use lib.ListN.{length}
 use Rattle.octets.specs.Numbers.{Octet, Bytes}
 use Rattle.octets.specs.Lists.{All, flat}
-use Rattle.octets.specs.ListsLaws.{all-append, all-map}
+use Rattle.octets.specs.ListsLaws.{all-flat, all-map}
 use Rattle.numbers.specs.Refusal as refusal
 use Rattle.numbers.specs.Limit as limit
 use Rattle.carriers.specs.declared.Carrier.{Carrier}
@@ -37,10 +37,6 @@ use Rattle.exactly.specs.Answers.{BlocksAre, none, more, Arranged, ReadA
 use Rattle.exactly.specs.BlockLaws.{block-is}
 
 -- ---- the blocks of an area
-
-flat-bytes : (bs : List (List ℕ)) → All Bytes bs → Bytes (flat bs)
-flat-bytes [] h = tt
-flat-bytes (b ∷ bs) h = all-append Octet b (flat bs) (h .0) (flat-bytes bs (h .1))
 
 -- what holds of each body, and in carrier 1 of their data joined, holds of each block
 each-block : (P : Carrier → List ℕ → Type 0) → ((bs : List (List ℕ)) → All (P Dhcp4) bs → P Dhcp4 (flat bs))
@@ -78,7 +74,7 @@ pub every-block : (c : Carrier) (area : List ℕ) (bodies : List (List ℕ)) (ys
 every-block c area bodies ys h a =
     let e : frame c area ≡ framed bodies = frame-exactly c area bodies h .1 a in
     let octets : All Bytes bodies = bodies-bytes c area bodies h e in
-    let blocks : All Bytes (blocksOf c bodies) = each-block (λ c. Bytes) flat-bytes c bodies octets in
+    let blocks : All Bytes (blocksOf c bodies) = each-block (λ c. Bytes) (all-flat Octet) c bodies octets in
     let possible : All (Possible c) (blocksOf c bodies) = each-block Possible (λ bs h. tt) c bodies (possible-bodies c area bodies octets e) in
     (λ e. subst (BlocksAre c (blocksOf c bodies)) e (is-blocks c (blocksOf c bodies) blocks possible), blocks-answer c blocks possible)
 
