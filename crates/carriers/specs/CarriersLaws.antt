@@ -61,6 +61,14 @@ number-chosen n c =
         go true t e = let j : d ≡ c = cc in eqb-true n k t ∙ sym i ∙ ap numberOf j
         go false t e = h e
 
+-- a number that no carrier has chooses none
+pub chosen-unknown : (n : ℕ) → ((c : Carrier) → numberOf c ≡ n → ⊥) → chosenOf n ≡ Unknown
+chosen-unknown n never = go (chosenOf n) refl
+  where
+    go : (o : Chosen) → chosenOf n ≡ o → o ≡ Unknown
+    go Unknown e = refl
+    go (Known c) e = absurd (never c (sym (number-chosen n c e)))
+
 -- the carrier that was chosen has the number, or none has it, whatever number refuses
 pub chosen-chooses : (none n : ℕ) (r : Chosen) → r ≡ chosenOf n → Chooses none n r
 chosen-chooses none n (Known c) e = inl (refl, sym (number-chosen n c (sym e)))

@@ -20,7 +20,7 @@ use Rattle.carriers.specs.declared.Chosen.the-variants.{Known, Unknown}
 use Rattle.carriers.specs.declared.Form.{Form}
 use Rattle.carriers.specs.declared.Form.the-variants.{Wire, Padded, Text}
 use Rattle.carriers.specs.Carriers.{chosenOf, numberOf, formOf}
-use Rattle.carriers.specs.CarriersLaws.{by-joined, padded-router, chosen-number, number-chosen}
+use Rattle.carriers.specs.CarriersLaws.{by-joined, padded-router, chosen-number, number-chosen, chosen-unknown}
 use Rattle.order.specs.OrderLaws.{sort-sorted, sort-stable, sort-only, sort-length}
 use Rattle.frames.specs.Frame.{Framed, framed, frame}
 use Rattle.frames.specs.Area.{joined, blocksOf, Area}
@@ -90,13 +90,6 @@ arranged-once {came} {rs} a = sort-only (λ (r : Fields). r .priority) came rs (
 
 chosen-known : {n : ℕ} (c : Carrier) → numberOf c ≡ n → chosenOf n ≡ Known c
 chosen-known c e = ap chosenOf (sym e) ∙ chosen-number c
-
-chosen-unknown : (n : ℕ) → ((c : Carrier) → numberOf c ≡ n → ⊥) → chosenOf n ≡ Unknown
-chosen-unknown n h = go (chosenOf n) refl
-  where
-    go : (k : Chosen) → chosenOf n ≡ k → k ≡ Unknown
-    go Unknown e = refl
-    go (Known c) e = absurd (h c (sym (number-chosen n c e)))
 
 -- ---- the answer
 

@@ -9,7 +9,7 @@ use lib.ListN.{length, take, drop, length-drop}
 use lib.Seq.{drop-length, drop-drop}
 use lib.Dec.{ltb, leb}
 use borrow.Author.Tests.{lt-ltb, le-ltb, le-leb, lt-leb, eq-eqb, ne-eqb, ltb-true, ltb-false, leb-true, leb-false}
-use Rattle.octets.specs.ListsLaws.{take-rest, drop-take}
+use Rattle.octets.specs.ListsLaws.{take-rest, drop-take, skip-within, skip-past}
 use Rattle.carriers.specs.declared.Carrier.{Carrier}
 use Rattle.carriers.specs.declared.Carrier.the-variants.{Router}
 use Rattle.carriers.specs.Carriers.{headerOf, octets}
@@ -27,15 +27,11 @@ fault-framed e = let z : _≡_ {A = ℕ} 0 1 = cc in omega arith
 -- octets to be skipped are skipped, where they are there
 pub skip : (c : Carrier) (k : ℕ) (s : List ℕ) → k ≤ length s → frameFrom c k s ≡ frame c (drop k s)
 unfolding frameFrom
-skip c zero s h = refl
-skip c (suc k) [] h = absurd (not-suc-le-zero h)
-skip c (suc k) (x ∷ xs) h = skip c k xs (le-of-suc-le-suc h)
+skip c = skip-within (frameFrom c) (λ k x xs. refl)
 
 pub past : (c : Carrier) (k : ℕ) (s : List ℕ) → length s < k → frameFrom c k s ≡ fault
 unfolding frameFrom
-past c zero s h = absurd (not-suc-le-zero h)
-past c (suc k) [] h = refl
-past c (suc k) (x ∷ xs) h = past c k xs (le-of-suc-le-suc h)
+past c = skip-past (frameFrom c) (λ k x xs. refl) (λ k. refl)
 
 pub frame-none : (c : Carrier) → frame c [] ≡ framed []
 unfolding frameFrom

@@ -16,9 +16,8 @@ use Rattle.numbers.specs.Refusal as refusal
 use Rattle.numbers.specs.Limit as limit
 use Rattle.carriers.specs.declared.Carrier.{Carrier}
 use Rattle.carriers.specs.declared.Chosen.{Chosen}
-use Rattle.carriers.specs.declared.Chosen.the-variants.{Known, Unknown}
 use Rattle.carriers.specs.Carriers.{chosenOf, numberOf}
-use Rattle.carriers.specs.CarriersLaws.{chosen-number, number-room, number-chosen}
+use Rattle.carriers.specs.CarriersLaws.{chosen-number, number-room, number-chosen, chosen-unknown}
 use Rattle.blocks.specs.Block.{Fields}
 use Rattle.records.specs.Records.{recordOf}
 use Rattle.sheets.specs.Sheets.{letters, edition, frontSize, versionAt, carrierAt, countAt, frontOf, recordsOf, sheetOf}
@@ -186,11 +185,7 @@ module _ (s : List ℕ) where
   head-taken {k} {n} i = rw (head-exactly s k n .1 i)
 
   pub take-carrier : {k n : ℕ} → IsHead s k n → ((c : Carrier) → numberOf c ≡ k → ⊥) → takeOf s ≡ refuse refusal.sheetCarrier
-  take-carrier {k} {n} i never = head-taken i ∙ go (chosenOf k) refl
-    where
-      go : (o : Chosen) → chosenOf k ≡ o → takeCarrier o n (drop frontSize s) ≡ refuse refusal.sheetCarrier
-      go Unknown e = refl
-      go (Known c) e = absurd (never c (sym (number-chosen k c e)))
+  take-carrier {k} {n} i never = head-taken i ∙ ap (λ (o : Chosen). takeCarrier o n (drop frontSize s)) (chosen-unknown k never)
 
   module _ (c : Carrier) {n : ℕ} (i : IsHead s (numberOf c) n) where
     carrier-taken : takeOf s ≡ takeRecords c n (drop frontSize s)

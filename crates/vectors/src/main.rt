@@ -20,7 +20,6 @@ ghost use Rattle.texts.specs.Texts.{IsText, textOf, wireOf};
 ghost use Rattle.texts.specs.TextCheck.{textCheck};
 ghost use Rattle.addresses.specs.Addresses.{Width};
 ghost use Rattle.hexes.specs.Decoding.{decodeOf};
-ghost use Rattle.words.specs.Encoded.{breakAt};
 ghost use Rattle.vectors.specs.Answers.{numberText, hexText, goodText, badText, nameText, dropsOf, keptText, addressesText};
 ghost use Rattle.vectors.specs.Answers.{answerText, caseText, letterOf, decodedText, lineText, answersText};
 ghost use Rattle.vectors.specs.Answers as answers;
@@ -223,21 +222,6 @@ fn put_line(out: &mut [u8], at: usize, line: &[u8]) -> usize
     put_decoded(out, at, letter, &line[2..])
 }
 
-// The index of the first line end of s from `at` on, or the length of s.
-fn line_end(s: &[u8], at: usize) -> usize
-    requires { ⌜ at ≤ length (now s) ⌝ }
-    ensures { λ r. ⌜ (r ≡ at + breakAt (drop at (now (s .entry)))) × (r ≤ length (now (s .entry))) ⌝ }
-{
-    let mut end = at;
-    while end < s.len() {
-        if s[end] == b'\n' {
-            return end;
-        }
-        end += 1;
-    }
-    end
-}
-
 // Writes the answer of each line of s, and returns how many octets that is.
 fn run(s: &[u8], out: &mut [u8]) -> usize
     ensures { λ r. ⌜ Counts r (now (out .exit)) ⌝ }
@@ -246,7 +230,7 @@ fn run(s: &[u8], out: &mut [u8]) -> usize
     let mut at = 0;
     let mut o = 0;
     while at < s.len() {
-        let end = line_end(s, at);
+        let end = words::line_end(s, at);
         o = put_line(out, o, &s[at..end]);
         o = put(out, o, b'\n');
         at = end + 1;

@@ -58,7 +58,7 @@ pub fn put_found(out: &mut [u8], at: usize, number: usize, table: &[u8]) -> usiz
 }
 
 // The index of the first line break of s at `from` or after it, or its end.
-fn line_end(s: &[u8], from: usize) -> usize
+pub fn line_end(s: &[u8], from: usize) -> usize
     requires { ⌜ from ≤ length (now s) ⌝ }
     ensures { λ r. ⌜ (r ≡ from + breakAt (drop from (now (s .entry)))) × (r ≤ length (now (s .entry))) ⌝ }
 {
