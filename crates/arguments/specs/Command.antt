@@ -10,8 +10,11 @@ write = 2
 abbrev pub show : ℕ
 show = 3
 
+abbrev pub octets : ℕ
+octets = 4
+
 abbrev pub help : ℕ
-help = 4
+help = 5
 
 abbrev pub version : ℕ
-version = 5
+version = 6

@@ -1,115 +1,139 @@
 -- What a command line asks for (docs/COMMAND.md): the state of the line, word after word, and what is settled at its end. An argument is
 -- kept by its index; 0, the program's own name, stands for none. Assumes nothing: these are definitions.
 use mathlib.Core.Path.{_≡_}
-use mathlib.Core.Bool.{Bool, true, false, cond}
+use mathlib.Core.Bool.{Bool, true, false, cond, not, _&&_, _||_}
 use mathlib.Core.List.{List, [], _∷_}
-use Prim.Native.Nat.{ℕ, _+_, _-_}
-use lib.Dec.{ltb, leb, eqb}
-use lib.ListN.{length, getD}
+use Prim.Native.Nat.{ℕ, _+_}
+use lib.Dec.{leb, eqb}
+use lib.ListN.{length}
 use Rattle.octets.specs.Lists.{same}
 use Rattle.chars.specs.Ascii.{ascii}
 use Rattle.arguments.specs.declared.Asked.{Asked}
 use Rattle.arguments.specs.Command as command
+use Rattle.arguments.specs.Form as form
+use Rattle.arguments.specs.Options as option
 use Rattle.arguments.specs.Wrong as wrong
-
--- ---- what a word means
-
--- an option: a hyphen and more
-abbrev pub isOption : List ℕ → Bool
-isOption w = cond (ltb (length w) 2) false (eqb (getD w 0 0) 45)
-
-abbrev pub isHelp : List ℕ → Bool
-isHelp w = cond (same w (ascii "--help")) true (same w (ascii "-h"))
-
--- the number of a carrier by its name, or 0
-abbrev pub carrierNamed : List ℕ → ℕ
-carrierNamed w =
-    cond (same w (ascii "dhcp4")) 1
-    (cond (same w (ascii "dhcp6")) 2
-    (cond (same w (ascii "ra")) 3
-    (cond (same w (ascii "ike4")) 4
-    (cond (same w (ascii "ike6")) 5 0))))
-
--- by its digit, 1 to 5, or 0
-abbrev pub carrierDigit : ℕ → ℕ
-carrierDigit x = cond (ltb x 49) 0 (cond (ltb 53 x) 0 (x - 48))
-
--- by its digit or its name, or 0
-abbrev pub carrierOf : List ℕ → ℕ
-carrierOf w = cond (eqb (length w) 1) (carrierDigit (getD w 0 0)) (carrierNamed w)
+use Rattle.arguments.specs.Tables.{commandOf, optionOf, carrierOf, isOption, frontOf}
 
 -- ---- the state of a line
 
-abbrev asked : ℕ → ℕ → ℕ → ℕ → ℕ → Bool → Bool → Bool → Bool → ℕ → ℕ → Asked
-asked c k n i o p j h r w at =
-    record { command = c; carrier = k; words = n; input = i; output = o; pending = p; json = j; hex = h; raw = r; wrong = w; at = at }
+abbrev asked : ℕ → ℕ → ℕ → ℕ → ℕ → ℕ → Bool → Bool → Bool → ℕ → Bool → Bool → Bool → ℕ → ℕ → Asked
+asked c k n i o f p e j h v s g w at =
+    record {
+      command = c;
+      carrier = k;
+      words = n;
+      input = i;
+      output = o;
+      front = f;
+      pending = p;
+      ended = e;
+      json = j;
+      form = h;
+      value = v;
+      strict = s;
+      force = g;
+      wrong = w;
+      at = at;
+    }
 
 -- a command, and nothing more yet: `words` counts the carrier and the file, and only `read` has a carrier
 abbrev pub only : ℕ → ℕ → Asked
-only c n = asked c 0 n 0 0 false false false false 0 0
+only c n = asked c 0 n 0 0 0 false false false form.none false false false 0 0
 
--- what is wrong, and the argument that is
+-- the same line, but with another part of it: what is wrong, and the argument that is
 abbrev pub but : ℕ → ℕ → Asked → Asked
-but w at a = asked (a .command) (a .carrier) (a .words) (a .input) (a .output) (a .pending) (a .json) (a .hex) (a .raw) w at
+but w at a =
+    asked (a .command) (a .carrier) (a .words) (a .input) (a .output) (a .front) (a .pending)
+    (a .ended) (a .json) (a .form) (a .value) (a .strict) (a .force) w at
+
+-- the command
+abbrev asking : ℕ → Asked → Asked
+asking c a =
+    asked c (a .carrier) (a .words) (a .input) (a .output) (a .front) (a .pending)
+    (a .ended) (a .json) (a .form) (a .value) (a .strict) (a .force) (a .wrong) (a .at)
+
+-- the carrier, how many words have stood, and the file that is read
+abbrev pub from : ℕ → ℕ → ℕ → Asked → Asked
+from k n i a =
+    asked (a .command) k n i (a .output) (a .front) (a .pending)
+    (a .ended) (a .json) (a .form) (a .value) (a .strict) (a .force) (a .wrong) (a .at)
+
+-- the file that is written, how many octets stand before its name, and whether the next word is its name
+abbrev into : ℕ → ℕ → Bool → Asked → Asked
+into o f p a =
+    asked (a .command) (a .carrier) (a .words) (a .input) o f p
+    (a .ended) (a .json) (a .form) (a .value) (a .strict) (a .force) (a .wrong) (a .at)
+
+-- `--`, `--json`, the form, `--value`, `--strict`, `--force`
+abbrev with : Bool → Bool → ℕ → Bool → Bool → Bool → Asked → Asked
+with e j h v s g a =
+    asked (a .command) (a .carrier) (a .words) (a .input) (a .output) (a .front) (a .pending) e j h v s g (a .wrong) (a .at)
 
 -- no further word matters after an error, and after a command that has no more words
 abbrev pub decided : Asked → Bool
 decided a = cond (eqb (a .wrong) 0) (leb command.help (a .command)) true
 
--- the file that is written
-abbrev pub withOutput : ℕ → Asked → Asked
-withOutput i a = asked (a .command) (a .carrier) (a .words) (a .input) i false (a .json) (a .hex) (a .raw) (a .wrong) (a .at)
+-- ---- an option
 
--- `-o`: the next word names that file
+-- a form of the input: the same one may be asked for twice
+abbrev pub withForm : ℕ → ℕ → Asked → Asked
+withForm i h a =
+    cond (eqb (a .form) h) a
+    (cond (eqb (a .form) form.none) (with (a .ended) (a .json) h (a .value) (a .strict) (a .force) a) (but wrong.form i a))
+
+-- `-o`: the next word names the file that is written
 abbrev pub withPending : ℕ → Asked → Asked
-withPending i a =
-    cond (eqb (a .output) 0)
-    (asked (a .command) (a .carrier) (a .words) (a .input) (a .output) true (a .json) (a .hex) (a .raw) (a .wrong) (a .at))
-    (but wrong.output i a)
+withPending i a = cond (eqb (a .output) 0) (into (a .output) (a .front) true a) (but wrong.output i a)
 
-abbrev pub withJson : Asked → Asked
-withJson a = asked (a .command) (a .carrier) (a .words) (a .input) (a .output) (a .pending) true (a .hex) (a .raw) (a .wrong) (a .at)
+-- its name, in an argument of its own
+abbrev pub withOutput : ℕ → Asked → Asked
+withOutput i a = into i 0 false a
 
-abbrev pub withHex : Asked → Asked
-withHex a = asked (a .command) (a .carrier) (a .words) (a .input) (a .output) (a .pending) (a .json) true (a .raw) (a .wrong) (a .at)
+-- `-oFILE`, `--output=FILE`: f octets before the name, in a word of n octets
+unfoldable pub attached : ℕ → ℕ → ℕ → Asked → Asked
+attached i n f a =
+    cond (eqb f 0) (but wrong.option i a)
+    (cond (eqb (a .output) 0) (cond (eqb n f) (but wrong.noName i a) (into i f (a .pending) a)) (but wrong.output i a))
 
-abbrev pub withRaw : Asked → Asked
-withRaw a = asked (a .command) (a .carrier) (a .words) (a .input) (a .output) (a .pending) (a .json) (a .hex) true (a .wrong) (a .at)
+-- the option with the number k; the last is `--`
+unfoldable pub chosen : ℕ → ℕ → Asked → Asked
+chosen i k a =
+    cond (leb k form.base64) (withForm i k a)
+    (cond (eqb k option.output) (withPending i a)
+    (cond (eqb k option.json) (with (a .ended) true (a .form) (a .value) (a .strict) (a .force) a)
+    (cond (eqb k option.value) (with (a .ended) (a .json) (a .form) true (a .strict) (a .force) a)
+    (cond (eqb k option.strict) (with (a .ended) (a .json) (a .form) (a .value) true (a .force) a)
+    (cond (eqb k option.force) (with (a .ended) (a .json) (a .form) (a .value) (a .strict) true a)
+    (cond (eqb k option.help) (asking command.help a)
+    (with true (a .json) (a .form) (a .value) (a .strict) (a .force) a)))))))
 
-abbrev pub withHelp : Asked → Asked
-withHelp a = asked command.help (a .carrier) (a .words) (a .input) (a .output) (a .pending) (a .json) (a .hex) (a .raw) (a .wrong) (a .at)
-
+-- a word that no table has may hold the name of the file that is written
 abbrev pub withOption : ℕ → List ℕ → Asked → Asked
-withOption i w a =
-    cond (same w (ascii "-o")) (withPending i a)
-    (cond (same w (ascii "--json")) (withJson a)
-    (cond (same w (ascii "--hex")) (withHex a)
-    (cond (same w (ascii "--raw")) (withRaw a)
-    (cond (isHelp w) (withHelp a)
-    (but wrong.option i a)))))
+withOption i w a = cond (eqb (optionOf w) 0) (attached i (length w) (frontOf w) a) (chosen i (optionOf w) a)
 
--- the carrier k that a word names, or 0
-abbrev pub named : ℕ → Asked → Asked
-named k a = asked (a .command) k 1 (a .input) (a .output) (a .pending) (a .json) (a .hex) (a .raw) (a .wrong) (a .at)
+-- ---- a word that is no option
 
+-- the carrier k, or 0
 unfoldable pub carried : ℕ → ℕ → Asked → Asked
-carried i k a = cond (eqb k 0) (but wrong.carrier i (named k a)) (named k a)
+carried i k a = cond (eqb k 0) (but wrong.carrier i a) (from k 1 (a .input) a)
 
 abbrev pub withCarrier : ℕ → List ℕ → Asked → Asked
 withCarrier i w a = carried i (carrierOf w) a
 
--- the file at an index; `-` is standard input, as no file is
-abbrev file : ℕ → Asked → Asked
-file i a = asked (a .command) (a .carrier) 2 i (a .output) (a .pending) (a .json) (a .hex) (a .raw) (a .wrong) (a .at)
-
+-- the file that is read; `-` is standard input, as no file is
 abbrev pub withInput : ℕ → List ℕ → Asked → Asked
 withInput i w a =
     cond (eqb (a .words) 2) (but wrong.file i a)
-    (cond (same w (ascii "-")) (file (a .input) a) (file i a))
+    (cond (same w (ascii "-")) (from (a .carrier) 2 (a .input) a) (from (a .carrier) 2 i a))
 
--- one word more: an option, the carrier, or the file
+-- `read` has the carrier first
+abbrev pub withPlain : ℕ → List ℕ → Asked → Asked
+withPlain i w a = cond (eqb (a .words) 0) (withCarrier i w a) (withInput i w a)
+
+-- one word more: after `--` none is an option
 abbrev pub withWord : ℕ → List ℕ → Asked → Asked
-withWord i w a = cond (isOption w) (withOption i w a) (cond (eqb (a .words) 0) (withCarrier i w a) (withInput i w a))
+withWord i w a = cond (a .ended) (withPlain i w a) (cond (isOption w) (withOption i w a) (withPlain i w a))
 
 -- ---- a line
 
@@ -131,39 +155,52 @@ unfoldable pub withRest : ℕ → List Argument → Asked → Asked
 withRest i [] a = a
 withRest i (x ∷ xs) a = withRest (i + 1) xs (withArgument i x a)
 
--- the first word is the command
-abbrev pub commandOf : List ℕ → Asked
-commandOf w =
-    cond (same w (ascii "read")) (only command.read 0)
-    (cond (same w (ascii "write")) (only command.write 1)
-    (cond (same w (ascii "show")) (only command.show 1)
-    (cond (isHelp w) (only command.help 0)
-    (cond (same w (ascii "--version")) (only command.version 0)
-    (but wrong.command 1 (only 0 0))))))
+-- `--`, and a line without its carrier, its file and what is wrong with it: the command and its options (arguments/Ended says what `--` leaves of them)
+abbrev pub end : Argument
+end = word (ascii "--")
+
+abbrev pub optionsOf : Asked → Asked
+optionsOf a = but 0 0 (from 0 0 0 a)
+
+-- the first word is the command k, or none (0)
+unfoldable pub begun : ℕ → Asked
+begun k = cond (eqb k 0) (but wrong.command 1 (only 0 0)) (cond (eqb k command.read) (only k 0) (only k 1))
 
 abbrev pub firstOf : Argument → Asked
-firstOf (word w) = commandOf w
+firstOf (word w) = begun (commandOf w)
 firstOf long = but wrong.long 1 (only 0 0)
 
--- what can only be told at the end: a name after `-o`, a carrier, one form of the input, and which options exclude each other
-unfoldable pub settledJson : Asked → Asked
-settledJson a =
-    cond (a .json)
-    (cond (eqb (a .command) command.write) (but wrong.writeJson 0 a) (cond (eqb (a .output) 0) a (but wrong.jsonOutput 0 a)))
-    a
+-- ---- the end of a line
 
-unfoldable pub settledOutput : Asked → Asked
-settledOutput a =
-    cond (eqb (a .output) 0) (settledJson a) (cond (eqb (a .command) command.show) (but wrong.showOutput 0 a) (settledJson a))
+-- `--value`, `--strict` or `--force`, without `read`
+abbrev pub readless : Asked → Bool
+readless a = not (eqb (a .command) command.read) && (a .value || (a .strict || a .force))
 
-unfoldable pub settledForm : Asked → Asked
-settledForm a = cond (a .hex) (cond (a .raw) (but wrong.form 0 a) (settledOutput a)) (settledOutput a)
+-- `-o` with `show`
+abbrev pub shownInto : Asked → Bool
+shownInto a = eqb (a .command) command.show && not (eqb (a .output) 0)
+
+-- `--json`, neither with `read` nor with `show`
+abbrev pub jsonless : Asked → Bool
+jsonless a = a .json && (not (eqb (a .command) command.read) && not (eqb (a .command) command.show))
+
+-- `--json` with `-o`
+abbrev pub jsonInto : Asked → Bool
+jsonInto a = a .json && not (eqb (a .output) 0)
+
+-- what can only be told at the end is wrong, or 0: the first of these
+unfoldable pub wrongOf : Asked → ℕ
+wrongOf a =
+    cond (a .pending) wrong.noName
+    (cond (eqb (a .words) 0) wrong.noCarrier
+    (cond (readless a) wrong.onlyRead
+    (cond (shownInto a) wrong.showOutput
+    (cond (jsonless a) wrong.writeJson
+    (cond (jsonInto a) wrong.jsonOutput
+    0)))))
 
 abbrev pub settledOf : Asked → Asked
-settledOf a =
-    cond (decided a) a
-    (cond (a .pending) (but wrong.noName 0 a)
-    (cond (eqb (a .words) 0) (but wrong.noCarrier 0 a) (settledForm a)))
+settledOf a = cond (decided a) a (but (wrongOf a) 0 a)
 
 -- the first argument, the command word, and those after it
 unfoldable pub askedOf : Argument → List Argument → Asked

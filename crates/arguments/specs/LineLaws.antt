@@ -8,21 +8,41 @@ use native.Mathlib.Omega.{arith}
 use borrow.Author.Tests.{eq-eqb, ne-eqb}
 use lib.ListN.{length, length-append}
 use Rattle.arguments.specs.declared.Asked.{Asked}
-use Rattle.arguments.specs.Line.{but, decided, named, carried, withOutput, Argument, withGiven, withArgument, withRest, askedOf}
-use Rattle.arguments.specs.Line.{settledJson, settledOutput, settledForm, settledOf, Argued, Begun, Given}
-use Rattle.arguments.specs.Command as command
+use Rattle.arguments.specs.Tables.{optionOf, isOption, frontOf}
+use Rattle.arguments.specs.Line.{attached, chosen, withOption, withPlain, withWord}
+use Rattle.arguments.specs.Line.{but, from, decided, carried, withOutput, Argument, withGiven, withArgument, withRest, settledOf, askedOf}
+use Rattle.arguments.specs.Line.{Argued, Begun, Given}
 use Rattle.arguments.specs.Wrong as wrong
 
 -- ---- one word more
 
 module _ (i k : ℕ) (a : Asked) where
-  pub carried-none : k ≡ 0 → but wrong.carrier i (named k a) ≡ carried i k a
+  pub carried-none : k ≡ 0 → but wrong.carrier i a ≡ carried i k a
   unfolding carried
   carried-none e = rw (eq-eqb k 0 e)
 
-  pub carried-some : (k ≡ 0 → ⊥) → named k a ≡ carried i k a
+  pub carried-some : (k ≡ 0 → ⊥) → from k 1 (a .input) a ≡ carried i k a
   unfolding carried
   carried-some n = rw (ne-eqb k 0 n)
+
+module _ (i : ℕ) (w : List ℕ) (a : Asked) where
+  -- an option that no table has, and one that has the number k
+  module _ {k : ℕ} (e : k ≡ optionOf w) where
+    pub option-none : k ≡ 0 → attached i (length w) (frontOf w) a ≡ withOption i w a
+    option-none z = rw (eq-eqb (optionOf w) 0 (sym e ∙ z))
+
+    pub option-some : (k ≡ 0 → ⊥) → chosen i k a ≡ withOption i w a
+    option-some n = rw (ne-eqb (optionOf w) 0 (λ z. n (e ∙ z))) (ap (λ (j : ℕ). chosen i j a) e)
+
+  -- after `--` no word is an option
+  pub word-ended : a .ended ≡ true → withPlain i w a ≡ withWord i w a
+  word-ended e = rw e
+
+  pub word-option : a .ended ≡ false → isOption w ≡ true → withOption i w a ≡ withWord i w a
+  word-option e t = rw (e, t)
+
+  pub word-plain : a .ended ≡ false → isOption w ≡ false → withPlain i w a ≡ withWord i w a
+  word-plain e t = rw (e, t)
 
 -- ---- one argument more
 
@@ -36,53 +56,6 @@ module _ (i : ℕ) (x : Argument) (a : Asked) where
 
     pub argued-word : a .pending ≡ false → withGiven i x a ≡ withArgument i x a
     argued-word p = rw (d, p)
-
--- ---- what is settled at the end
-
-module _ (a : Asked) where
-  pub json-none : a .json ≡ false → a ≡ settledJson a
-  unfolding settledJson
-  json-none j = rw j
-
-  module _ (j : a .json ≡ true) where
-    pub json-write : a .command ≡ command.write → but wrong.writeJson 0 a ≡ settledJson a
-    unfolding settledJson
-    json-write e = rw (j, eq-eqb (a .command) command.write e)
-
-    pub json-alone : (a .command ≡ command.write → ⊥) → a .output ≡ 0 → a ≡ settledJson a
-    unfolding settledJson
-    json-alone n e = rw (j, ne-eqb (a .command) command.write n, eq-eqb (a .output) 0 e)
-
-    pub json-output : (a .command ≡ command.write → ⊥) → (a .output ≡ 0 → ⊥) → but wrong.jsonOutput 0 a ≡ settledJson a
-    unfolding settledJson
-    json-output n m = rw (j, ne-eqb (a .command) command.write n, ne-eqb (a .output) 0 m)
-
-  pub form-other : a .hex ≡ false → settledOutput a ≡ settledForm a
-  unfolding settledForm
-  form-other h = rw h
-
-  module _ (h : a .hex ≡ true) where
-    pub form-both : a .raw ≡ true → but wrong.form 0 a ≡ settledForm a
-    unfolding settledForm
-    form-both t = rw (h, t)
-
-    pub form-hex : a .raw ≡ false → settledOutput a ≡ settledForm a
-    unfolding settledForm
-    form-hex t = rw (h, t)
-
-  pub settled-decided : decided a ≡ true → a ≡ settledOf a
-  settled-decided d = rw d
-
-  module _ (d : decided a ≡ false) where
-    pub settled-pending : a .pending ≡ true → but wrong.noName 0 a ≡ settledOf a
-    settled-pending p = rw (d, p)
-
-    module _ (p : a .pending ≡ false) where
-      pub settled-none : a .words ≡ 0 → but wrong.noCarrier 0 a ≡ settledOf a
-      settled-none e = rw (d, p, eq-eqb (a .words) 0 e)
-
-      pub settled-some : (a .words ≡ 0 → ⊥) → settledForm a ≡ settledOf a
-      settled-some n = rw (d, p, ne-eqb (a .words) 0 n)
 
 -- ---- a line
 

@@ -33,18 +33,22 @@ noName = 7
 abbrev pub output : ℕ
 output = 8
 
--- `--hex` with `--raw`
+-- a second form of the input
 abbrev pub form : ℕ
 form = 9
 
+-- `--value`, `--strict` or `--force` without `read`
+abbrev pub onlyRead : ℕ
+onlyRead = 10
+
 -- `-o` with `show`
 abbrev pub showOutput : ℕ
-showOutput = 10
+showOutput = 11
 
--- `--json` with `write`
+-- `--json` with `write` or `octets`
 abbrev pub writeJson : ℕ
-writeJson = 11
+writeJson = 12
 
 -- `--json` with `-o`
 abbrev pub jsonOutput : ℕ
-jsonOutput = 12
+jsonOutput = 13

@@ -1,12 +1,14 @@
 // The command line, taken word by word (docs/COMMAND.md). An argument is kept by its index; 0, the program's own name, stands for none.
 // What each word means and what is settled at the end is `arguments/Line`, which a reader can compute for any line; the system is asked only by
 // `first`, `with_argument` and `given`, of which the contracts say that their answer is what some arguments ask for.
+mod ends;
+mod tables;
+
 ghost use mathlib.Core.Path.{_≡_};
-ghost use Rattle.arguments.specs.Line.{isOption, isHelp, carrierNamed, carrierDigit, carrierOf, only, but, decided};
-ghost use Rattle.arguments.specs.Line.{withOutput, withPending, withOption, withCarrier, withInput, withWord, commandOf};
-ghost use Rattle.arguments.specs.Line.{settledJson, settledOutput, settledForm, settledOf, Argued, Begun, Given};
+ghost use Rattle.arguments.specs.Line.{only, but, decided, withForm, withPending, withOutput, attached, chosen, withOption};
+ghost use Rattle.arguments.specs.Line.{withCarrier, withInput, withPlain, withWord, begun, settledOf, Argued, Begun, Given};
 use octets::same;
-use octets::wide;
+use tables::Options;
 
 // What is asked for.
 pub struct Command();
@@ -18,9 +20,25 @@ impl Command {
 
     pub const SHOW: usize = 3;
 
-    pub const HELP: usize = 4;
+    pub const OCTETS: usize = 4;
 
-    pub const VERSION: usize = 5;
+    pub const HELP: usize = 5;
+
+    pub const VERSION: usize = 6;
+}
+
+// The form of the input.
+pub struct Form();
+
+impl Form {
+    // None is asked for: the input itself decides.
+    pub const NONE: usize = 0;
+
+    pub const HEX: usize = 1;
+
+    pub const RAW: usize = 2;
+
+    pub const BASE64: usize = 3;
 }
 
 // What is wrong with a command line.
@@ -51,17 +69,20 @@ impl Wrong {
     // A second `-o`.
     pub const OUTPUT: usize = 8;
 
-    // `--hex` with `--raw`.
+    // A second form of the input.
     pub const FORM: usize = 9;
 
-    // `-o` with `show`.
-    pub const SHOW_OUTPUT: usize = 10;
+    // `--value`, `--strict` or `--force` without `read`.
+    pub const ONLY_READ: usize = 10;
 
-    // `--json` with `write`.
-    pub const WRITE_JSON: usize = 11;
+    // `-o` with `show`.
+    pub const SHOW_OUTPUT: usize = 11;
+
+    // `--json` with `write` or `octets`.
+    pub const WRITE_JSON: usize = 12;
 
     // `--json` with `-o`.
-    pub const JSON_OUTPUT: usize = 12;
+    pub const JSON_OUTPUT: usize = 13;
 }
 
 // What was asked so far.
@@ -73,13 +94,19 @@ pub struct Asked {
     pub words: usize,
     // The file that is read; none, or `-`, is standard input.
     pub input: usize,
-    // The file that is written.
+    // The file that is written, and how many octets of the argument stand before its name.
     pub output: usize,
+    pub front: usize,
     // Whether the next word names the file that is written.
     pub pending: bool,
+    // Whether `--` has stood.
+    pub ended: bool,
     pub json: bool,
-    pub hex: bool,
-    pub raw: bool,
+    // The form of the input.
+    pub form: usize,
+    pub value: bool,
+    pub strict: bool,
+    pub force: bool,
     // What is wrong, or 0, and the argument that is.
     pub wrong: usize,
     pub at: usize,
@@ -96,13 +123,30 @@ impl Asked {
             words,
             input: 0,
             output: 0,
+            front: 0,
             pending: false,
+            ended: false,
             json: false,
-            hex: false,
-            raw: false,
+            form: Form::NONE,
+            value: false,
+            strict: false,
+            force: false,
             wrong: 0,
             at: 0,
         }
+    }
+
+    // The command by its number, or none (0).
+    fn begun(command: usize) -> Self
+        ensures { λ r. ⌜ r ≡ begun command ⌝ }
+    {
+        if command == 0 {
+            return Self::only(0, 0).but(Wrong::COMMAND, 1);
+        }
+        if command == Command::READ {
+            return Self::only(command, 0);
+        }
+        Self::only(command, 1)
     }
 
     // Wrong, at an argument.
@@ -124,13 +168,18 @@ impl Asked {
         true
     }
 
-    // With the file that is written.
-    fn with_output(mut self, i: usize) -> Self
-        ensures { λ r. ⌜ r ≡ withOutput i self ⌝ }
+    // With a form of the input.
+    fn with_form(mut self, i: usize, form: usize) -> Self
+        ensures { λ r. ⌜ r ≡ withForm i form self ⌝ }
     {
-        self.pending = false;
-        self.output = i;
-        self
+        if self.form == form {
+            return self;
+        }
+        if self.form == Form::NONE {
+            self.form = form;
+            return self;
+        }
+        self.but(Wrong::FORM, i)
     }
 
     // With `-o`.
@@ -144,41 +193,89 @@ impl Asked {
         self.but(Wrong::OUTPUT, i)
     }
 
-    // With an option.
-    fn with_option(mut self, i: usize, word: &[u8]) -> Self
-        ensures { λ r. ⌜ r ≡ withOption i (now (word .entry)) self ⌝ }
+    // With the file that is written.
+    fn with_output(mut self, i: usize) -> Self
+        ensures { λ r. ⌜ r ≡ withOutput i self ⌝ }
     {
-        if same(word, b"-o") {
+        self.output = i;
+        self.front = 0;
+        self.pending = false;
+        self
+    }
+
+    // With the file that is written, in one word of n octets with the option.
+    fn with_attached(mut self, i: usize, n: usize, front: usize) -> Self
+        ensures { λ r. ⌜ r ≡ attached i n front self ⌝ }
+    {
+        if front == 0 {
+            return self.but(Wrong::OPTION, i);
+        }
+        if self.output != 0 {
+            return self.but(Wrong::OUTPUT, i);
+        }
+        if n == front {
+            return self.but(Wrong::NO_NAME, i);
+        }
+        self.output = i;
+        self.front = front;
+        self
+    }
+
+    // With an option by its number; the last is `--`.
+    fn with_chosen(mut self, i: usize, option: usize) -> Self
+        ensures { λ r. ⌜ r ≡ chosen i option self ⌝ }
+    {
+        if option <= Form::BASE64 {
+            return self.with_form(i, option);
+        }
+        if option == Options::OUTPUT {
             return self.with_pending(i);
         }
-        if same(word, b"--json") {
+        if option == Options::JSON {
             self.json = true;
             return self;
         }
-        if same(word, b"--hex") {
-            self.hex = true;
+        if option == Options::VALUE {
+            self.value = true;
             return self;
         }
-        if same(word, b"--raw") {
-            self.raw = true;
+        if option == Options::STRICT {
+            self.strict = true;
             return self;
         }
-        if is_help(word) {
+        if option == Options::FORCE {
+            self.force = true;
+            return self;
+        }
+        if option == Options::HELP {
             self.command = Command::HELP;
             return self;
         }
-        self.but(Wrong::OPTION, i)
+        self.ended = true;
+        self
+    }
+
+    // With an option.
+    fn with_option(self, i: usize, word: &[u8]) -> Self
+        ensures { λ r. ⌜ r ≡ withOption i (now (word .entry)) self ⌝ }
+    {
+        let option = tables::option_named(word);
+        if option == 0 {
+            return self.with_attached(i, word.len(), tables::front_of(word));
+        }
+        self.with_chosen(i, option)
     }
 
     // With a carrier.
     fn with_carrier(mut self, i: usize, word: &[u8]) -> Self
         ensures { λ r. ⌜ r ≡ withCarrier i (now (word .entry)) self ⌝ }
     {
-        self.words = 1;
-        self.carrier = carrier_of(word);
-        if self.carrier == 0 {
+        let carrier = tables::carrier_named(word);
+        if carrier == 0 {
             return self.but(Wrong::CARRIER, i);
         }
+        self.carrier = carrier;
+        self.words = 1;
         self
     }
 
@@ -197,17 +294,27 @@ impl Asked {
         self
     }
 
-    // With one word more.
-    fn with_word(self, i: usize, word: &[u8]) -> Self
-        ensures { λ r. ⌜ r ≡ withWord i (now (word .entry)) self ⌝ }
+    // With a word that is no option.
+    fn with_plain(self, i: usize, word: &[u8]) -> Self
+        ensures { λ r. ⌜ r ≡ withPlain i (now (word .entry)) self ⌝ }
     {
-        if is_option(word) {
-            return self.with_option(i, word);
-        }
         if self.words == 0 {
             return self.with_carrier(i, word);
         }
         self.with_input(i, word)
+    }
+
+    // With one word more.
+    fn with_word(self, i: usize, word: &[u8]) -> Self
+        ensures { λ r. ⌜ r ≡ withWord i (now (word .entry)) self ⌝ }
+    {
+        if self.ended {
+            return self.with_plain(i, word);
+        }
+        if tables::is_option(word) {
+            return self.with_option(i, word);
+        }
+        self.with_plain(i, word)
     }
 
     // With one argument more.
@@ -235,142 +342,8 @@ impl Asked {
         if self.is_decided() {
             return self;
         }
-        if self.pending {
-            return self.but(Wrong::NO_NAME, 0);
-        }
-        if self.words == 0 {
-            return self.but(Wrong::NO_CARRIER, 0);
-        }
-        self.settled_form()
+        self.but(ends::wrong_of(self), 0)
     }
-
-    // Whether the input has one form.
-    fn settled_form(self) -> Self
-        ensures { λ r. ⌜ r ≡ settledForm self ⌝ }
-    {
-        if !self.hex {
-            return self.settled_output();
-        }
-        if self.raw {
-            return self.but(Wrong::FORM, 0);
-        }
-        self.settled_output()
-    }
-
-    // Whether a file that is written belongs there.
-    fn settled_output(self) -> Self
-        ensures { λ r. ⌜ r ≡ settledOutput self ⌝ }
-    {
-        if self.output == 0 {
-            return self.settled_json();
-        }
-        if self.command == Command::SHOW {
-            return self.but(Wrong::SHOW_OUTPUT, 0);
-        }
-        self.settled_json()
-    }
-
-    // Whether JSON belongs there.
-    fn settled_json(self) -> Self
-        ensures { λ r. ⌜ r ≡ settledJson self ⌝ }
-    {
-        if !self.json {
-            return self;
-        }
-        if self.command == Command::WRITE {
-            return self.but(Wrong::WRITE_JSON, 0);
-        }
-        if self.output == 0 {
-            return self;
-        }
-        self.but(Wrong::JSON_OUTPUT, 0)
-    }
-}
-
-// Whether a word is an option: a hyphen and more.
-fn is_option(word: &[u8]) -> bool
-    ensures { λ r. ⌜ r ≡ isOption (now (word .entry)) ⌝ }
-{
-    if word.len() < 2 {
-        return false;
-    }
-    word[0] == b'-'
-}
-
-fn is_help(word: &[u8]) -> bool
-    ensures { λ r. ⌜ r ≡ isHelp (now (word .entry)) ⌝ }
-{
-    if same(word, b"--help") {
-        return true;
-    }
-    same(word, b"-h")
-}
-
-// The number of a carrier by its name, or 0.
-fn carrier_named(word: &[u8]) -> usize
-    ensures { λ r. ⌜ r ≡ carrierNamed (now (word .entry)) ⌝ }
-{
-    if same(word, b"dhcp4") {
-        return 1;
-    }
-    if same(word, b"dhcp6") {
-        return 2;
-    }
-    if same(word, b"ra") {
-        return 3;
-    }
-    if same(word, b"ike4") {
-        return 4;
-    }
-    if same(word, b"ike6") {
-        return 5;
-    }
-    0
-}
-
-// The number of a carrier by its digit, or 0.
-fn carrier_digit(digit: u8) -> usize
-    ensures { λ r. ⌜ r ≡ carrierDigit digit ⌝ }
-{
-    if digit < b'1' {
-        return 0;
-    }
-    if b'5' < digit {
-        return 0;
-    }
-    wide(digit - b'0')
-}
-
-// The number of a carrier by its digit or its name, or 0.
-fn carrier_of(word: &[u8]) -> usize
-    ensures { λ r. ⌜ r ≡ carrierOf (now (word .entry)) ⌝ }
-{
-    if word.len() == 1 {
-        return carrier_digit(word[0]);
-    }
-    carrier_named(word)
-}
-
-// The command that the first word names.
-fn command_of(word: &[u8]) -> Asked
-    ensures { λ r. ⌜ r ≡ commandOf (now (word .entry)) ⌝ }
-{
-    if same(word, b"read") {
-        return Asked::only(Command::READ, 0);
-    }
-    if same(word, b"write") {
-        return Asked::only(Command::WRITE, 1);
-    }
-    if same(word, b"show") {
-        return Asked::only(Command::SHOW, 1);
-    }
-    if is_help(word) {
-        return Asked::only(Command::HELP, 0);
-    }
-    if same(word, b"--version") {
-        return Asked::only(Command::VERSION, 0);
-    }
-    Asked::only(0, 0).but(Wrong::COMMAND, 1)
 }
 
 // The command of the first argument.
@@ -382,7 +355,7 @@ fn first() -> Asked
     if os::errno() != 0 {
         return Asked::only(0, 0).but(Wrong::LONG, 1);
     }
-    command_of(&word[..n])
+    Asked::begun(tables::command_named(&word[..n]))
 }
 
 // What the arguments ask for.

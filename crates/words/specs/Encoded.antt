@@ -1,9 +1,10 @@
--- A table of words as octets, the form in which the code holds it, and the lookup of a number in it. Assumes nothing: these are definitions.
+-- A table of words as octets, the form in which the code holds it, and the lookup of a number and of words in it. Assumes nothing: these are definitions.
 use Prim.Native.Nat.{ℕ, zero, suc}
 use mathlib.Core.Bool.{Bool, true, false, cond, _&&_}
 use mathlib.Core.List.{List, [], _∷_, _++_}
 use lib.Dec.{eqb}
 use lib.ListN.{take}
+use Rattle.octets.specs.Lists.{same}
 use Rattle.words.specs.Words.{Worded, unknown}
 
 -- each entry is its number, its words and a line break
@@ -25,6 +26,16 @@ wordsFrom k (suc j) (x ∷ t) = wordsFrom k j t
 -- the words of the number k in octets, whether they are a table or not
 abbrev pub wordsAt : ℕ → List ℕ → List ℕ
 wordsAt k t = wordsFrom k 0 t
+
+-- the number of the first entry with the words x, or 0, with the first j octets still to be skipped
+unfoldable pub numberFrom : List ℕ → ℕ → List ℕ → ℕ
+numberFrom x j [] = 0
+numberFrom x zero (k ∷ t) = cond (same (take (breakAt t) t) x) k (numberFrom x (suc (breakAt t)) t)
+numberFrom x (suc j) (k ∷ t) = numberFrom x j t
+
+-- the number of the words x in octets, whether they are a table or not
+abbrev pub numberAt : List ℕ → List ℕ → ℕ
+numberAt x t = numberFrom x 0 t
 
 -- no line break stands in a text
 unfoldable pub plain : List ℕ → Bool

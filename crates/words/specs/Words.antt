@@ -3,16 +3,17 @@ use Prim.Native.Nat.{ℕ}
 use mathlib.Core.Bool.{cond}
 use mathlib.Core.List.{List, [], _∷_}
 use lib.Dec.{eqb}
+use Rattle.octets.specs.Lists.{same}
 use Rattle.numbers.specs.Refusal as refusal
 use Rattle.numbers.specs.Fault as fault
 use Rattle.chars.specs.Ascii.{ascii}
 
--- a number given back and its words
+-- a number and its words
 pub record Worded : Type 0 where
   pub number : ℕ
   pub words : List ℕ
 
-abbrev worded : ℕ → List ℕ → Worded
+abbrev pub worded : ℕ → List ℕ → Worded
 worded k ws = record { number = k; words = ws }
 
 -- the table
@@ -49,6 +50,11 @@ unknown = ascii "unknown number"
 unfoldable pub wordsIn : List Worded → ℕ → List ℕ
 wordsIn [] k = unknown
 wordsIn (w ∷ ws) k = cond (eqb (w .number) k) (w .words) (wordsIn ws k)
+
+-- the number of the first entry that has these words; of any other words, 0
+unfoldable pub numberIn : List Worded → List ℕ → ℕ
+numberIn [] x = 0
+numberIn (w ∷ ws) x = cond (same (w .words) x) (w .number) (numberIn ws x)
 
 abbrev pub wordsOf : ℕ → List ℕ
 wordsOf k = wordsIn table k

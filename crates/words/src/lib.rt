@@ -1,11 +1,12 @@
-// The numbers given back, in words (RULES R0 to R44), and the lookup of a number in any such table.
+// The numbers given back, in words (RULES R0 to R44), and the lookup of a number, or of words, in any such table.
 ghost use mathlib.Core.Path.{_≡_};
 ghost use Prim.Native.Nat.{_+_, _≤_};
 ghost use lib.ListN.{length, drop};
 ghost use Rattle.chars.specs.Puts.{Puts};
 ghost use Rattle.words.specs.Words.{wordsOf};
-ghost use Rattle.words.specs.Encoded.{wordsAt, breakAt};
+ghost use Rattle.words.specs.Encoded.{wordsAt, numberAt, breakAt};
 use chars::put_all;
+use octets::same;
 use octets::wide;
 
 // Writes the words of a number. The table has an entry to a line: the number as an octet (in hexadecimal; `words/Words` has it by name, and the
@@ -55,6 +56,22 @@ pub fn put_found(out: &mut [u8], at: usize, number: usize, table: &[u8]) -> usiz
         i = end + 1;
     }
     put_all(out, at, b"unknown number")
+}
+
+// The number of the first entry of a table that has these words, or 0.
+pub fn number_of(table: &[u8], word: &[u8]) -> usize
+    ensures { λ r. ⌜ r ≡ numberAt (now (word .entry)) (now (table .entry)) ⌝ }
+{
+    let mut entry = 0;
+    while entry < table.len() {
+        let from = entry + 1;
+        let end = line_end(table, from);
+        if same(&table[from..end], word) {
+            return wide(table[entry]);
+        }
+        entry = end + 1;
+    }
+    0
 }
 
 // The index of the first line break of s at `from` or after it, or its end.

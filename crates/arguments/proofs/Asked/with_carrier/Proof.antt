@@ -9,17 +9,17 @@ use Rattle.arguments.proofs.Asked.with_carrier.Tie as tie
 
 returns : tie.Need-returns
 returns c =
-    let k = c .before .before .before in
+    let k = c .before .before in
     let a = k .before .before .args in
     c .but .ensures
-    ∙ carried-none (a .i) (k .carrier-of .result) (a .self) (c .before .if1 .taken)
-    ∙ ap (λ (n : ℕ). carried (a .i) n (a .self)) (k .carrier-of .ensures)
+    ∙ carried-none (a .i) (k .carrier-named .result) (a .self) (c .before .if1 .taken)
+    ∙ ap (λ (n : ℕ). carried (a .i) n (a .self)) (k .carrier-named .ensures)
 
 returns-2 : tie.Need-returns-2
 returns-2 c =
-    let k = c .before .before in
+    let k = c .before in
     let a = k .before .before .args in
-    carried-some (a .i) (k .carrier-of .result) (a .self) (c .if1 .left) ∙ ap (λ (n : ℕ). carried (a .i) n (a .self)) (k .carrier-of .ensures)
+    carried-some (a .i) (k .carrier-named .result) (a .self) (c .if1 .left) ∙ ap (λ (n : ℕ). carried (a .i) n (a .self)) (k .carrier-named .ensures)
 
 pub with-carrier-spec : {M : Type 1} → statement M
 with-carrier-spec =

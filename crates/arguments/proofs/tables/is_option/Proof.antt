@@ -1,8 +1,8 @@
--- `arguments::is_option` meets its contract: the tests in order. Assumes nothing.
+-- `arguments::tables::is_option` meets its contract: the tests in order. Assumes nothing.
 use borrow.Author.Needs.{needs}
 use borrow.Author.Tests.{lt-ltb, le-ltb}
-use Rattle.arguments.proofs.is_option.Statement.{statement}
-use Rattle.arguments.proofs.is_option.Tie as tie
+use Rattle.arguments.proofs.tables.is_option.Statement.{statement}
+use Rattle.arguments.proofs.tables.is_option.Tie as tie
 
 returns : tie.Need-returns
 returns c = simp (lt-ltb _ _ (c .if1 .taken))
