@@ -15,14 +15,14 @@ use Rattle.hexes.specs.Spelled.{Digit, decimal, upper, lower, Separator,
 
 -- ---- characters
 
-digit-says : (x : ℕ) → digit x ≡ true → Digit x (value x)
+pub digit-says : (x : ℕ) → digit x ≡ true → Digit x (value x)
 digit-says x e =
     by-digit x e
     (λ h k. let v = value-decimal x (omega arith) in decimal (omega arith) (omega arith))
     (λ h k. let v = value-upper x h (omega arith) in upper (omega arith) (omega arith) (omega arith))
     (λ h k. let v = value-lower x h in lower (omega arith) (omega arith) (omega arith))
 
-digit-is : {x v : ℕ} → Digit x v → (digit x ≡ true) × (value x ≡ v)
+pub digit-is : {x v : ℕ} → Digit x v → (digit x ≡ true) × (value x ≡ v)
 digit-is {x} {v} (decimal h e) = (digit-decimal x (omega arith) (omega arith), value-decimal x (omega arith) ∙ omega arith)
 digit-is {x} {v} (upper h k e) = (digit-upper x (omega arith) (omega arith), value-upper x (omega arith) (omega arith) ∙ omega arith)
 digit-is {x} {v} (lower h k e) = (digit-lower x (omega arith) (omega arith), value-lower x (omega arith) ∙ omega arith)

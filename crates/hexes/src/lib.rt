@@ -32,7 +32,7 @@ fn within(x: u8, lo: u8, hi: u8) -> bool
 }
 
 // Whether x is a digit, of either case.
-fn is_digit(x: u8) -> bool
+pub fn is_digit(x: u8) -> bool
     ensures { λ r. ⌜ r ≡ hexes.digit x ⌝ }
 {
     if within(x, b'0', b'9') {
@@ -45,7 +45,7 @@ fn is_digit(x: u8) -> bool
 }
 
 // The value of a digit.
-fn value(x: u8) -> u8
+pub fn value(x: u8) -> u8
     requires { ⌜ hexes.digit x ≡ true ⌝ }
     ensures { λ r. ⌜ r ≡ hexes.value x ⌝ }
     ensures { λ r. ⌜ r < 16 ⌝ }

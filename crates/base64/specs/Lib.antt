@@ -1,0 +1,10 @@
+pub mod Base64
+pub mod Base64Laws
+pub mod Turns
+pub mod Encoded
+pub mod EncodedLaws
+pub mod Back
+pub mod Says
+pub mod Exactly
+pub mod Bounds
+pub mod Examples

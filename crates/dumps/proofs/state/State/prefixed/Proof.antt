@@ -1,0 +1,24 @@
+-- `dumps::state::State::prefixed` meets its contract: the tests in order. Assumes nothing.
+use mathlib.Core.Path.{_∙_}
+use borrow.Author.Needs.{needs}
+use borrow.Author.Tests.{eq-eqb, ne-eqb}
+use Rattle.dumps.specs.States.{prefixed}
+use Rattle.dumps.proofs.state.State.prefixed.Statement.{statement}
+use Rattle.dumps.proofs.state.State.prefixed.Tie as tie
+
+returns : tie.Need-returns
+unfolding prefixed
+returns c = c .to .ensures ∙ simp (eq-eqb _ _ (c .before .if1 .taken))
+
+returns-2 : tie.Need-returns-2
+unfolding prefixed
+returns-2 c = c .but .ensures ∙ simp (ne-eqb _ _ (c .before .if1 .left))
+
+pub prefixed-spec : {M : Type 1} → statement M
+prefixed-spec =
+    tie.close
+    (tie.spec
+    (λ c κs. search needs)
+    returns
+    (λ c κs. search needs)
+    returns-2)
