@@ -1,7 +1,7 @@
 #!/bin/sh
 # Runs build/dnr, or the program that DNR names, as a user would: each command, each exit status, files, devices and wrong command lines. The
-# expected texts in tests/command were written from docs/COMMAND.md and docs/RULES.md; tools/show.py compares many more sheets. Ends in
-# 'N passed, M failed'.
+# expected texts in tests/command were written from docs/COMMAND.md and docs/RULES.md; tests/command/inputs.py has many more inputs, tools/show.py
+# many more sheets. Ends in 'N passed, M failed'.
 set -u
 cd "$(dirname "$0")/.." || exit 2
 work=$(mktemp -d) || exit 2
@@ -10,6 +10,11 @@ dnr=${DNR:-build/dnr}
 tests=tests/command
 passed=0
 failed=0
+if [ ! -x "$dnr" ]; then
+    echo "command: there is no program $dnr"
+    echo "0 passed, 1 failed"
+    exit 1
+fi
 
 # step NAME COMMAND..: one check that passes when the command does.
 step() {
@@ -58,17 +63,27 @@ says() {
 
 # octets HEX: the octets themselves.
 octets() {
-    python3 -c 'import sys; sys.stdout.buffer.write(bytes.fromhex(sys.argv[1]))' "$1"
+    printf %s "$1" | tr a-f A-F | basenc --base16 -d
 }
 
 # repeated N TEXT
 repeated() {
-    python3 -c 'import sys; sys.stdout.write(int(sys.argv[1]) * sys.argv[2])' "$1" "$2"
+    yes "$2" | head -n "$1" | tr -d '\n'
 }
 
 # words NUMBER
 words() {
     sed -n "s/^$1 //p" "$tests/words.txt"
+}
+
+# nothing CARRIER N: what is said of N octets in which nothing is found, without the name of the input.
+nothing() {
+    case $1 in
+        1) echo "no option 162 in $2 octets" ;;
+        2 | 3) echo "no option 144 in $2 octets" ;;
+        4) echo "no attribute 27 in $2 octets" ;;
+        5) echo "no attribute 28 in $2 octets" ;;
+    esac
 }
 
 is_json() {
@@ -91,6 +106,7 @@ for hex in examples/*-*.hex; do
     said=
     case $piece in
         cut-*) continue ;;
+        k06-*) said="dnr: $hex: $(nothing 2 0)" ;;
         escaped-*) said="dnr: warning: 1 of 2 blocks discarded; the first for fault 20: $(words 20)" ;;
         k07-*) said="dnr: warning: 1 of 1 blocks discarded; the first for fault 21: $(words 21)" ;;
         k10-*) said="dnr: warning: 1 of 1 blocks discarded; the first for fault 25: $(words 25)" ;;
@@ -101,33 +117,29 @@ for hex in examples/*-*.hex; do
         says "read --json $piece" 0 "@$tests/$piece.json" "$said" "$dnr" read "$carrier" --json "$hex"
         step "$piece is JSON" is_json "$work/out"
     fi
+    rm -f "$work/sheet" "$work/again"
     says "read -o $piece" 0 '' "$said" "$dnr" read "$carrier" "$hex" -o "$work/sheet"
     says "write -o $piece" 0 '' '' "$dnr" write "$work/sheet" -o "$work/area"
-    says "read $piece again" 0 '' '' "$dnr" read --raw "$carrier" "$work/area" -o "$work/again"
+    said=
+    case $piece in
+        k06-* | k07-* | k10-*) said="dnr: $work/area: $(nothing 2 0)" ;;
+        k11-*) said="dnr: $work/area: $(nothing 3 0)" ;;
+    esac
+    says "read $piece again" 0 '' "$said" "$dnr" read --raw "$carrier" "$work/area" -o "$work/again"
     step "the sheet of $piece again" cmp "$work/sheet" "$work/again"
 done
 says "read cut" 1 '' "dnr: examples/cut-dhcp6.hex: refused, 3: $(words 3)" "$dnr" read dhcp6 examples/cut-dhcp6.hex
 
 # What writing gives of these is the area itself.
 for piece in k01-dhcp6 k02-dhcp4 k03-ra k04-ra k05-ike6 k08-dhcp4 k09-dhcp4; do
-    python3 -c 'import sys; b = bytes.fromhex(sys.stdin.read()); [print(b[i:i + 16].hex(" ")) for i in range(0, len(b), 16)]' \
-        <"examples/$piece.hex" >"$work/hex"
+    (tr -d ' \n' <"examples/$piece.hex" && echo) | fold -w 32 | sed 's/../& /g; s/ $//' >"$work/hex"
     "$dnr" read "${piece##*-}" "examples/$piece.hex" -o - >"$work/in"
     says "write $piece" 0 "@$work/hex" '' "$dnr" write
 done
 "$dnr" read 2 examples/k01-dhcp6.hex -o "$work/sheet"
 step "the sheet of K1" cmp "$work/k1.rsv" "$work/sheet"
 
-# ---- carriers by number and by name, and forms of input
-
-for carrier in 1 dhcp4; do
-    says "read $carrier" 0 "@$tests/k02-dhcp4.txt" '' "$dnr" read $carrier examples/k02-dhcp4.hex
-done
-says "read 2" 0 "@$tests/k01-dhcp6.txt" '' "$dnr" read 2 examples/k01-dhcp6.hex
-says "read 3" 0 "@$tests/k03-ra.txt" '' "$dnr" read 3 examples/k03-ra.hex
-says "read 4" 0 "@$tests/escaped-ike4.txt" "dnr: warning: 1 of 2 blocks discarded; the first for fault 20: $(words 20)" \
-    "$dnr" read 4 examples/escaped-ike4.hex
-says "read 5" 0 "@$tests/k05-ike6.txt" '' "$dnr" read 5 examples/k05-ike6.hex
+# ---- forms of input (tools/forms.py tries them at length)
 
 area=0090003000010012${N}0010${A}${P}
 printed='00 90 00 30 00 01 00 12 04 64 6f 68 31 07 65 78
@@ -156,45 +168,44 @@ printf ' \t%s \r\n' "$area" >"$work/in"
 form "blanks around" ''
 printf '%s\n' "$area" >"$work/in"
 says "digits taken as octets" 1 '' "dnr: standard input: refused, 3: $(words 3)" "$dnr" read 2 --raw
+known='not octets in a form I know; --raw takes the input as it is'
 octets "$area" >"$work/in"
-says "octets taken as digits" 2 '' "dnr: standard input: not hexadecimal text" "$dnr" read 2 --hex
+says "octets taken as digits" 2 '' "dnr: standard input: line 1: $known" "$dnr" read 2 --hex
 printf '%s0' "$area" >"$work/odd"
-says "an odd digit" 2 '' "dnr: $work/odd: not hexadecimal text" "$dnr" read --hex 2 "$work/odd"
-for text in 1:2 '12 3' 1g 0x12; do
-    printf %s "$text" >"$work/in"
-    says "no pairs of digits: $text" 2 '' "dnr: standard input: not hexadecimal text" "$dnr" read 2 --hex
+says "an odd digit" 2 '' "dnr: $work/odd: line 1: $known" "$dnr" read --hex 2 "$work/odd"
+says "an odd digit, without --hex" 2 '' "dnr: $work/odd: line 1: $known" "$dnr" read 2 "$work/odd"
+printf '%s\n' "$area" | base64 >"$work/in"
+says "base64, without --base64" 2 '' "dnr: standard input: line 1: $known" "$dnr" read 2
+octets "$area" | base64 >"$work/in"
+form "base64" --base64
+none="dnr: standard input: $(nothing 2 0)"
+says "nothing" 0 "@$tests/k06-dhcp6.txt" "$none" "$dnr" read 2
+for flag in --hex --raw --base64; do
+    says "nothing, $flag" 0 "@$tests/k06-dhcp6.txt" "$none" "$dnr" read 2 $flag -
 done
-says "nothing" 0 "@$tests/k06-dhcp6.txt" '' "$dnr" read 2
-says "nothing, --hex" 0 "@$tests/k06-dhcp6.txt" '' "$dnr" read 2 --hex -
-says "nothing, --raw" 0 "@$tests/k06-dhcp6.txt" '' "$dnr" read 2 --raw
 printf ' \n' >"$work/in"
-says "a blank line, --hex" 0 "@$tests/k06-dhcp6.txt" '' "$dnr" read 2 --hex
+says "a blank line, --hex" 0 "@$tests/k06-dhcp6.txt" "$none" "$dnr" read 2 --hex
 printf '\n' >"$work/in"
 says "a line break as an octet" 1 '' "dnr: standard input: refused, 3: $(words 3)" "$dnr" read 2 --raw
 
-# ---- the most that is taken
+# ---- octets
 
-none='DHCPv4 (carrier 1), 0 records
-found 0, discarded 0'
-long="dnr: standard input: refused, 2: $(words 2)"
-head -c 40960 /dev/zero >"$work/in"
-says "40,960 octets" 0 "$none" '' "$dnr" read 1
-head -c 40961 /dev/zero >"$work/in"
-says "40,961 octets" 1 '' "$long" "$dnr" read 1
-head -c 163840 /dev/zero >"$work/in"
-says "163,840 octets" 1 '' "$long" "$dnr" read 1
-head -c 163841 /dev/zero >"$work/in"
-says "163,841 octets" 1 '' "$long" "$dnr" read 1
-repeated 40960 '00 ' >"$work/in"
-says "hexadecimal text of 40,960 octets" 0 "$none" '' "$dnr" read 1
-repeated 65537 00 >"$work/in"
-says "hexadecimal text of 65,537 octets" 1 '' "$long" "$dnr" read 1
-repeated 40960 '00: ' >"$work/in"
-says "hexadecimal text of 163,840 characters" 0 "$none" '' "$dnr" read 1
-(repeated 40960 '00: ' && echo) >"$work/in"
-says "hexadecimal text of 163,841 characters" 1 '' "$long" "$dnr" read 1 --hex
-head -c 40961 /dev/zero >"$work/in"
-says "a sheet of 40,961 octets" 1 '' "$long" "$dnr" write
+printf '%s\n' "$area" >"$work/in"
+says "octets of digits" 0 "$printed" '' "$dnr" octets
+octets "$area" >"$work/octets"
+says "octets as they are" 0 "$printed" '' "$dnr" octets "$work/octets"
+base64 "$work/octets" >"$work/in"
+says "octets of base64" 0 "$printed" '' "$dnr" octets --base64 -
+for dump in xxd hexdump-C od-Ax-tx1 tshark-x tcpdump-xx; do
+    says "octets of $dump" 0 '' '' "$dnr" octets "tests/forms/text/$dump.area-dhcp6.txt" -o "$work/new"
+    step "octets of $dump: a file" cmp "$work/octets" "$work/new"
+done
+says "octets -o -" 0 "@$work/octets" '' "$dnr" octets "$work/new" -o -
+printf '00\n' >"$work/in"
+says "octets of digits, --raw" 0 '30 30 0a' '' "$dnr" octets --raw
+says "octets of nothing" 0 '' '' "$dnr" octets
+says "octets of nothing, -o" 0 '' '' "$dnr" octets /dev/null -o "$work/new"
+step "octets of nothing, -o: a file of no octets" test -e "$work/new" -a ! -s "$work/new"
 
 # ---- sheets
 
@@ -209,7 +220,6 @@ cp "$work/k1.rsv" "$work/in"
 says "write prints" 0 "$printed" '' "$dnr" write
 octets 52535600010500 >"$work/in"
 says "write of no records" 0 '' '' "$dnr" write
-octets "$area" >"$work/octets"
 cp "$work/k1.rsv" "$work/in"
 says "write -o -" 0 "@$work/octets" '' "$dnr" write -o -
 
@@ -298,127 +308,44 @@ says "a length of 0" 1 '' "dnr: standard input: refused, 3: $(words 3)" "$dnr" r
 
 # ---- command lines
 
-says "--help" 0 "@$tests/help.txt" '' "$dnr" --help
-says "-h" 0 "@$tests/help.txt" '' "$dnr" -h
-says "help after a command" 0 "@$tests/help.txt" '' "$dnr" read --help
+tab=$(printf '\t')
+while IFS=$tab read -r ends what line; do
+    case $ends in
+        prints)
+            "$dnr" $line <"$work/in" >"$work/printed" 2>"$work/err"
+            status=$?
+            head -1 "$work/printed" >"$work/out"
+            carrier=${what#*(carrier }
+            step "dnr $line" gave 0 "$what" "dnr: /dev/null: $(nothing "${carrier%%)*}" 0)" $status
+            ;;
+        fails) says "dnr $line" 2 '' "dnr: $what" "$dnr" $line ;;
+        wrong) says "dnr $line" 2 '' "dnr: $what
+try dnr --help" "$dnr" $line ;;
+        help) says "dnr $line" 0 "@$tests/help.txt" '' "$dnr" $line ;;
+        version) says "dnr $line" 0 "dnr $(cat VERSION)" '' "$dnr" $line ;;
+    esac
+done <"$tests/arguments.txt"
 says "no argument" 2 '' "@$tests/help.txt" "$dnr"
-says "--version" 0 "dnr $(cat VERSION)" '' "$dnr" --version
-
-# wrong MESSAGE WORDS..: the command line is refused.
-wrong() {
-    message=$1
-    shift
-    says "wrong: $message" 2 '' "dnr: $message
-try dnr --help" "$dnr" "$@"
-}
-wrong "unknown command: list" list
-wrong "unknown command: --json" --json read 2
-wrong "unknown option: --xml" read 2 --xml
-wrong "unknown option: --" write -- "$work/k1.rsv"
-wrong "unknown option: -ofile" write -ofile
-wrong "unknown carrier: 6" read 6
-wrong "unknown carrier: 0" read 0
-wrong "unknown carrier: dhcp" read dhcp examples/k01-dhcp6.hex
-wrong "read needs a carrier" read
-wrong "read needs a carrier" read --json
-wrong "a second file: b" read 2 a b
-wrong "a second file: -" show - -
-wrong "-o needs a file name" write -o
-wrong "-o is given twice" write -o a -o b
-wrong "show has no -o" show -o a
-wrong "write has no --json" write --json
-wrong "--json and -o exclude each other" read 2 --json -o "$work/new"
-wrong "--hex and --raw exclude each other" show --hex --raw
-wrong "an argument is too long" show "$(repeated 4097 a)"
-step "a wrong command line makes no file" test ! -e "$work/new"
+says "a long argument" 2 '' "dnr: an argument is too long
+try dnr --help" "$dnr" show "$(repeated 4097 a)"
+says "--json and -o" 2 '' "dnr: --json and -o exclude each other
+try dnr --help" "$dnr" read 2 --json -o "$work/none"
+step "a wrong command line makes no file" test ! -e "$work/none"
 says "options first" 0 "@$tests/k01-dhcp6.json" '' "$dnr" read --json --hex dhcp6 examples/k01-dhcp6.hex
 
-# ---- files
+# ---- files, and readings without all that was to be found
 
-none='No such file or directory'
-says "a file that is not there" 2 '' "dnr: $work/none: $none" "$dnr" show "$work/none"
-says "a folder is no file" 2 '' "dnr: $work: Is a directory" "$dnr" read 2 "$work"
-says "a file without a name" 2 '' "dnr: : $none" "$dnr" read 2 ''
+. "$tests/files.sh"
+. "$tests/left.sh"
 
-# saved NAME TARGET: K1's octets are saved there, and nothing else is left.
-saved() {
-    says "$1" 0 '' '' "$dnr" write "$work/k1.rsv" -o "$2"
-    step "$1: the octets" cmp "$work/octets" "$2"
-    step "$1: nothing half-written" test ! -e "$2.part"
-}
-saved "a new file" "$work/new"
-echo longer than the octets that take its place, so that an end of it would be seen >"$work/new"
-saved "a file that is there" "$work/new"
-says "a folder that is not there" 2 '' "dnr: $work/none/new: $none" "$dnr" write "$work/k1.rsv" -o "$work/none/new"
-says "a folder" 2 '' "dnr: $work: Is a directory" "$dnr" write "$work/k1.rsv" -o "$work"
-step "a folder: nothing half-written" test ! -e "$work.part"
-: >"$work/new.part"
-echo old >"$work/new"
-says "a half-written file of another" 2 '' "dnr: $work/new: File exists" "$dnr" write "$work/k1.rsv" -o "$work/new"
-step "the file of another stays" test -e "$work/new.part" -a "$(cat "$work/new")" = old
-rm "$work/new.part"
-says "a refusal" 1 '' "dnr: /dev/null: refused, 40: $(words 40)" "$dnr" write /dev/null -o "$work/new"
-step "a refusal leaves the file" test "$(cat "$work/new")" = old
-(
-    trap '' XFSZ
-    ulimit -f 0
-    "$dnr" write "$work/k1.rsv" -o "$work/new" 2>&1
-    echo "status $?"
-) | cat >"$work/out"
-printf 'dnr: %s: File too large\nstatus 2\n' "$work/new" >"$work/wanted"
-step "a disk that is full" cmp "$work/wanted" "$work/out"
-step "a disk that is full leaves the file" test "$(cat "$work/new")" = old -a ! -e "$work/new.part"
+# ---- many inputs, and many sheets
 
-# links
-mkdir "$work/folder"
-ln -s folder/linked "$work/link"
-saved "a link that leads nowhere yet" "$work/link"
-echo old >"$work/folder/linked"
-ln -s "$work/link" "$work/folder/links"
-saved "a link to a link" "$work/folder/links"
-step "links stay links" test -L "$work/link" -a -L "$work/folder/links" -a ! -L "$work/folder/linked"
-
-# A folder where nothing may be made, for a user who is not root.
-cp "$dnr" "$work/dnr"
-chmod 755 "$work" "$work/dnr"
-chmod 555 "$work/folder"
-user=
-[ "$(id -u)" -ne 0 ] || user="setpriv --reuid=65534 --regid=65534 --clear-groups"
-if $user true 2>/dev/null; then
-    says "a folder that is read-only" 2 '' "dnr: $work/folder/new: Permission denied" \
-        $user "$work/dnr" write "$work/k1.rsv" -o "$work/folder/new"
-    chmod 000 "$work/octets"
-    says "a file that may not be read" 2 '' "dnr: $work/octets: Permission denied" $user "$work/dnr" read 2 "$work/octets"
-    chmod 644 "$work/octets"
-fi
-chmod 755 "$work/folder"
-
-# pipes and devices, which are written to and stay
-mkfifo "$work/pipe"
-(sleep 1 && cat "$work/pipe") >"$work/piped" &
-says "a pipe" 0 '' '' "$dnr" write "$work/k1.rsv" -o "$work/pipe"
-wait
-if [ -p "$work/pipe" ]; then
-    step "a pipe: the octets" cmp "$work/octets" "$work/piped"
-    says "/dev/null" 0 '' '' "$dnr" write "$work/k1.rsv" -o /dev/null
-    step "/dev/null stays" test -c /dev/null -a ! -e /dev/null.part
-    says "/dev/full" 2 '' 'dnr: /dev/full: No space left on device' "$dnr" write "$work/k1.rsv" -o /dev/full
-    step "/dev/full stays" test -c /dev/full -a ! -e /dev/full.part
-fi
-: >"$work/out"
-"$dnr" show "$work/k1.rsv" >/dev/full 2>"$work/err"
-step "standard output that is full" gave 2 '' 'dnr: standard output: No space left on device' $?
-"$dnr" write "$work/k1.rsv" -o - >&- 2>"$work/err"
-step "standard output that is closed" gave 2 '' 'dnr: standard output: Bad file descriptor' $?
-"$dnr" read 2 <&- 2>"$work/err"
-step "standard input that is closed" gave 2 '' 'dnr: standard input: Bad file descriptor' $?
-
-# ---- many sheets
-
-python3 tools/show.py --compare "$dnr" >"$work/compared"
-cat "$work/compared"
-set -- $(tail -1 "$work/compared")
-passed=$((passed + ${1:-0}))
-failed=$((failed + ${3:-1}))
+for script in tests/command/inputs.py "tools/show.py --compare"; do
+    python3 $script "$dnr" >"$work/compared"
+    cat "$work/compared"
+    set -- $(tail -1 "$work/compared")
+    passed=$((passed + ${1:-0}))
+    failed=$((failed + ${3:-1}))
+done
 echo "$passed passed, $failed failed"
 [ "$failed" -eq 0 ]

@@ -1,3 +1,5 @@
 pub mod Numbers
 pub mod NumbersLaws
+pub mod Hints
+pub mod HintsLaws
 pub mod InputLaws

@@ -1,12 +1,17 @@
 -- By which number the command refuses octets, what it takes its input for (docs/COMMAND.md, "Input"), and the exit status of each. Assumes nothing:
 -- these are definitions.
 use mathlib.Core.Path.{_≡_}
-use mathlib.Core.Bool.{Bool, true, false, cond}
-use mathlib.Core.List.{List, []}
+use mathlib.Core.Bool.{Bool, true, false, cond, _&&_}
+use mathlib.Core.List.{List}
 use Prim.Native.Nat.{ℕ}
 use lib.Dec.{eqb}
 use lib.IntN.{ℤ, pos}
+use lib.ListN.{take}
 use Rattle.numbers.specs.Limit as limit
+use Rattle.carriers.specs.declared.Chosen.{Chosen}
+use Rattle.carriers.specs.declared.Chosen.the-variants.{Known, Unknown}
+use Rattle.carriers.specs.Carriers.{chosenOf}
+use Rattle.reading.specs.declared.Reading.{Reading}
 use Rattle.reading.specs.Result as reading
 use Rattle.reading.specs.Reading.{readOf}
 use Rattle.vetting.specs.declared.Vetted.{Vetted}
@@ -15,15 +20,35 @@ use Rattle.vetting.specs.Vetting.{vetOf}
 use Rattle.vetting.specs.Vetting as vetting
 use Rattle.written.specs.Writing.{writeOf}
 use Rattle.writing.specs.Writes as writing
-use Rattle.hexes.specs.Decoding.{Answer, written, noRoom, other, decodeOf}
-use Rattle.lines.specs.HexLines.{blank}
+use Rattle.inputs.specs.declared.Read.{Read}
+use Rattle.inputs.specs.declared.Read.the-variants.{Octets, Bad, Long}
+use Rattle.decoding.specs.Decoding.{Answer}
+use Rattle.decoding.specs.Decoding as decoding
 use Rattle.arguments.specs.declared.Asked.{Asked}
 use Rattle.arguments.specs.Command as command
-use Rattle.files.specs.Status.{Delivered, Answers, refused, failed}
+use Rattle.files.specs.Status.{Delivered, Denied, Answers, refused, failed}
 
--- the number that reading an area answers, with room for any sheet
-abbrev pub readNumber : ℕ → List ℕ → ℕ
-readNumber carrier area = reading.told (readOf carrier area limit.sheetSize) .number
+-- ---- reading
+
+-- what reading an area answers, with room for any sheet
+abbrev pub readingOf : ℕ → List ℕ → Reading
+readingOf carrier area = reading.told (readOf carrier area limit.sheetSize)
+
+-- nothing was found, or something was discarded
+abbrev pub less : Reading → Bool
+less r = cond (eqb (r .found) 0) true (cond (eqb (r .discarded) 0) false true)
+
+-- what was asked for was given, or with the answer no
+abbrev pub Gives : Bool → ℤ → Type 0
+Gives true x = Denied x
+Gives false x = Delivered x
+
+-- a reading is refused by its number; else it is given, and with `--strict` the answer is no where there is less than all
+pub record ReadAs (strict : Bool) (r : Reading) (x : ℤ) : Type 0 where
+  pub done : r .number ≡ 0 → Gives (strict && less r) x
+  pub refuses : (r .number ≡ 0 → ⊥) → x ≡ pos refused
+
+-- ---- writing and showing
 
 -- the number that writing a sheet answers, with room for 40,960 octets
 abbrev pub writeNumber : List ℕ → ℕ
@@ -38,37 +63,33 @@ abbrev pub Shows : Vetted → ℤ → Type 0
 Shows (Refused k) r = r ≡ pos refused
 Shows (Sheet c n large size) r = Fitting large r
 
--- what is asked, done with octets: by whether it is `read`, or else `write`
-abbrev pub performing : Bool → Bool → ℕ → List ℕ → ℤ → Type 0
-performing true w carrier s r = Answers (readNumber carrier s) r
-performing false true carrier s r = Answers (writeNumber s) r
-performing false false carrier s r = Shows (vetting.told (vetOf s)) r
+-- ---- what is asked, done with octets
+
+-- by whether it is `read`, or else `write`, or else `show`
+abbrev pub performing : Bool → Bool → Bool → Asked → List ℕ → ℤ → Type 0
+performing true w h a s r = ReadAs (a .strict) (readingOf (a .carrier) s) r
+performing false true h a s r = Answers (writeNumber s) r
+performing false false true a s r = Shows (vetting.told (vetOf s)) r
+performing false false false a s r = Delivered r
 
 abbrev pub Performs : Asked → List ℕ → ℤ → Type 0
-Performs a s r = performing (eqb (a .command) command.read) (eqb (a .command) command.write) (a .carrier) s r
+Performs a s r = performing (eqb (a .command) command.read) (eqb (a .command) command.write) (eqb (a .command) command.show) a s r
 
 -- ---- the input
 
--- octets; or hexadecimal text of more than are taken; or no hexadecimal text where it was to be such
-pub data Input : Type 0 where
-  octets : List ℕ → Input
-  long : Input
-  unread : Input
+-- the octets of an input, or the options of its values
+abbrev pub valued : Chosen → ℕ → List ℕ → List ℕ → Answer
+valued (Known c) form text out = decoding.valuesOf form c text out
+valued Unknown form text out = decoding.readOf form text out
 
--- what spells no octets: blank text is hexadecimal text of none
-abbrev pub plainOf : Bool → List ℕ → Input
-plainOf hex text = cond (blank text) (octets []) (cond hex unread (octets text))
+unfoldable pub inputOf : Asked → List ℕ → List ℕ → Answer
+inputOf a text out = cond (a .value) (valued (chosenOf (a .carrier)) (a .form) text out) (decoding.readOf (a .form) text out)
 
-abbrev pub decodedAs : Bool → List ℕ → Answer → Input
-decodedAs hex text (written bs) = octets bs
-decodedAs hex text noRoom = long
-decodedAs hex text other = plainOf hex text
+-- the status: more octets than are taken are refused (2)
+abbrev pub takes : Asked → Read → List ℕ → ℤ → Type 0
+takes a (Octets n) out r = Performs a (take n out) r
+takes a (Bad at w) out r = r ≡ pos failed
+takes a Long out r = r ≡ pos refused
 
-abbrev pub inputOf : Asked → List ℕ → Input
-inputOf a text = cond (a .raw) (octets text) (decodedAs (a .hex) text (decodeOf text limit.input))
-
--- the status: a longer input is refused (2)
-abbrev pub Takes : Asked → Input → ℤ → Type 0
-Takes a (octets s) r = Performs a s r
-Takes a long r = r ≡ pos refused
-Takes a unread r = r ≡ pos failed
+abbrev pub Takes : Asked → Answer → ℤ → Type 0
+Takes a i r = takes a (i .read) (i .out) r

@@ -1,23 +1,33 @@
-// The command `dnr`: an area becomes a record sheet, a sheet becomes octets, and a sheet is shown as text or as JSON.
+// The command `dnr`: an area becomes a record sheet, a sheet becomes octets, a sheet is shown as text or as JSON, and any input as octets.
 // `execute` is the whole program: it takes the arguments, and its answer is the exit status (0 done; 1 refused by a number, RULES R1 to
-// R44; 2 anything else). A result is made whole in memory before any of it is written. What is read and what is written, no contract can
+// R44; 2 wrong use, an input that is no octets, or a file; 3 done, and with `--strict` the answer is no). A result is made whole in memory before any of it is written. What is read and what is written, no contract can
 // say; the work itself is that of `reading`, `writing` and `showing`.
 mod help;
 
 ghost use Rattle.vetting.specs.Vetting.{vetOf};
 ghost use Rattle.vetting.specs.Vetting as vetting;
+ghost use mathlib.Core.Path.{_≡_};
+ghost use mathlib.Core.Bool.{_&&_};
+ghost use Prim.Native.Nat.{_<_};
+ghost use lib.ListN.{length};
+ghost use Rattle.decoding.specs.Decoding.{Answered, room};
 ghost use Rattle.files.specs.Status.{Delivered, Exited, Answers};
-ghost use Rattle.command.specs.Numbers.{readNumber, writeNumber, Shows, Performs, plainOf, inputOf, Takes};
+ghost use Rattle.command.specs.Hints.{findsIn, suitsIn, hintOf};
+ghost use Rattle.command.specs.Numbers.{readingOf, less, Gives, ReadAs, writeNumber, Shows, Performs, inputOf, Takes};
 use arguments::Asked;
 use arguments::Command;
+use carriers::Carrier;
+use carriers::Chosen;
 use files::input;
 use files::messages;
 use files::output;
-use hexes::Hex;
+use forms::places;
+use inputs::Read;
 use libc::STDERR_FILENO;
 use libc::STDOUT_FILENO;
 use numbers::Limit;
 use numbers::Refusal;
+use octets::lesser;
 use reading::Reading;
 use vetting::Vetted;
 
@@ -30,20 +40,116 @@ const OCTETS: usize = Limit::INPUT;
 
 // ---- read
 
+// Whether a carrier would find records in an area.
+fn finds(carrier: usize, area: &[u8]) -> bool
+    ensures { λ r. ⌜ r ≡ findsIn carrier (now (area .entry)) ⌝ }
+{
+    let mut sheet = [0u8; Limit::SHEET];
+    let r = reading::read(carrier, area, &mut sheet);
+    if r.number != 0 {
+        return false;
+    }
+    r.discarded < r.found
+}
+
+// Whether a carrier other than the one that was asked for would.
+fn suits(k: usize, carrier: usize, area: &[u8]) -> bool
+    ensures { λ r. ⌜ r ≡ suitsIn k carrier (now (area .entry)) ⌝ }
+{
+    if k == carrier {
+        return false;
+    }
+    finds(k, area)
+}
+
+// The first other carrier that would, or 0.
+fn hint(carrier: usize, area: &[u8]) -> usize
+    ensures { λ r. ⌜ r ≡ hintOf carrier (now (area .entry)) ⌝ }
+{
+    let mut k = 1;
+    while k < 6 {
+        if suits(k, carrier, area) {
+            return k;
+        }
+        k += 1;
+    }
+    0
+}
+
+// Says that nothing was found, or that something was discarded.
+fn tell(name: &[u8], carrier: usize, area: &[u8], r: Reading) {
+    if r.found == 0 {
+        messages::nothing(name, carrier, area.len(), hint(carrier, area));
+        return;
+    }
+    if r.discarded != 0 {
+        messages::warn(r.discarded, r.found, r.fault);
+    }
+}
+
+// Whether the file that would be replaced is a sheet with records.
+fn has_records(a: Asked) -> bool {
+    let mut old = [0u8; Limit::SHEET];
+    let got = input::load(a.output, a.front, &mut old);
+    if got.failed {
+        return false;
+    }
+    let n = got.length;
+    match vetting::vet(&old[..n]) {
+        Vetted::Refused(_) => false,
+        Vetted::Sheet { count, .. } => 0 < count,
+    }
+}
+
+// Saves a sheet. A file that has records is not replaced by a sheet that has none, unless that is asked for.
+fn save_sheet(a: Asked, r: Reading, sheet: &[u8]) -> i32
+    ensures { λ r. ⌜ Delivered r ⌝ }
+{
+    if r.found != r.discarded {
+        return output::save(a.output, a.front, sheet);
+    }
+    if a.force {
+        return output::save(a.output, a.front, sheet);
+    }
+    if has_records(a) {
+        return output::keep(a.output, a.front);
+    }
+    output::save(a.output, a.front, sheet)
+}
+
 // Prints a reading, or saves its sheet.
 fn give_reading(a: Asked, r: Reading, sheet: &[u8], text: &mut [u8]) -> i32
     ensures { λ r. ⌜ Delivered r ⌝ }
 {
     if a.output != 0 {
-        return output::save(a.output, sheet);
+        return save_sheet(a, r, sheet);
     }
     let n = results::put(text, a.json, r.found, r.discarded, r.fault, sheet);
     output::print(&text[..n])
 }
 
+// The status of a reading whose sheet was given with a status: with `--strict` no, where nothing was found or something was discarded.
+fn settled(strict: bool, r: Reading, status: i32) -> i32
+    ensures { λ x. ⌜ Gives (strict && less r) x ⌝ }
+{
+    if status != 0 {
+        return 2;
+    }
+    if !strict {
+        return 0;
+    }
+    if r.found == 0 {
+        return 3;
+    }
+    if r.discarded != 0 {
+        return 3;
+    }
+    0
+}
+
 // Reads an area.
 fn read(a: Asked, name: &[u8], area: &[u8], text: &mut [u8]) -> i32
-    ensures { λ r. ⌜ Answers (readNumber (a .carrier) (now (area .entry))) r ⌝ }
+    ensures { λ r. ⌜ ReadAs (a .strict) (readingOf (a .carrier) (now (area .entry))) r ⌝ }
 {
     let mut sheet = [0u8; Limit::SHEET];
     let r = reading::read(a.carrier, area, &mut sheet);
@@ -52,20 +158,18 @@ fn read(a: Asked, name: &[u8], area: &[u8], text: &mut [u8]) -> i32
     }
     let n = r.length;
     let status = give_reading(a, r, &sheet[..n], text);
-    if r.discarded != 0 {
-        messages::warn(r.discarded, r.found, r.fault);
-    }
-    status
+    tell(name, a.carrier, area, r);
+    settled(a.strict, r, status)
 }
 
-// ---- write and show
+// ---- write, show and octets
 
 // Prints octets as hexadecimal text, or saves them.
 fn give_octets(a: Asked, s: &[u8], text: &mut [u8]) -> i32
     ensures { λ r. ⌜ Delivered r ⌝ }
 {
     if a.output != 0 {
-        return output::save(a.output, s);
+        return output::save(a.output, a.front, s);
     }
     output::print_hex(s, text)
 }
@@ -126,34 +230,38 @@ fn perform_in(a: Asked, name: &[u8], s: &[u8], text: &mut [u8; TEXT]) -> i32
     if a.command == Command::WRITE {
         return write(a, name, s, text);
     }
-    show(a, name, s, text)
+    if a.command == Command::SHOW {
+        return show(a, name, s, text);
+    }
+    give_octets(a, s, text)
 }
 
-// Takes the input as octets, or as hexadecimal text that has nothing in it.
-fn perform_plain(a: Asked, name: &[u8], text: &[u8]) -> i32
-    ensures { λ r. ⌜ Takes a (plainOf (a .hex) (now (text .entry))) r ⌝ }
+// Reads the input as it is asked for: its octets, or the options of its values.
+fn decode(a: Asked, text: &[u8], out: &mut [u8]) -> Read
+    requires { ⌜ length (now out) < 65536 ⌝ }
+    ensures { λ r. ⌜ Answered (inputOf a (now (text .entry)) (now (out .entry))) r (now (out .exit)) ⌝ }
 {
-    if lines::is_blank(text) {
-        return perform(a, name, &text[..0]);
+    if !a.value {
+        return decoding::read(a.form, text, out);
     }
-    if a.hex {
-        return messages::not_hex(name);
+    match Carrier::of(a.carrier) {
+        Chosen::Known(c) => decoding::read_values(a.form, c, text, out),
+        Chosen::Unknown => decoding::read(a.form, text, out),
     }
-    perform(a, name, text)
 }
 
-// Takes the input as hexadecimal text where it is such, unless it is to be taken as it is.
+// Takes the input, or says why it spells no octets.
 fn perform_on(a: Asked, name: &[u8], text: &[u8]) -> i32
-    ensures { λ r. ⌜ Takes a (inputOf a (now (text .entry))) r ⌝ }
+    ensures { λ r. ⌜ Takes a (inputOf a (now (text .entry)) room) r ⌝ }
 {
-    if a.raw {
-        return perform(a, name, text);
-    }
-    let mut octets = [0u8; Limit::INPUT];
-    match hexes::decode(text, &mut octets) {
-        Hex::Octets(n) => perform(a, name, &octets[..n]),
-        Hex::NoRoom => messages::refused(name, Refusal::INPUT),
-        Hex::Other => perform_plain(a, name, text),
+    let mut given = [0u8; Limit::INPUT];
+    match decode(a, text, &mut given) {
+        Read::Octets(n) => {
+            let end = lesser(n, Limit::INPUT);
+            perform(a, name, &given[..end])
+        }
+        Read::Bad { at, why } => messages::unread(name, places::line(text, at), why),
+        Read::Long => messages::refused(name, Refusal::INPUT),
     }
 }
 
@@ -167,7 +275,7 @@ fn run_on(a: Asked, name: &[u8], text: &mut [u8]) -> i32
     }
     let n = got.length;
     if input::MOST < n {
-        return messages::refused(name, Refusal::INPUT);
+        return messages::long(name);
     }
     perform_on(a, name, &text[..n])
 }

@@ -1,4 +1,5 @@
 pub mod Status
 pub mod StatusLaws
+pub mod Modes
 pub mod Paths
 pub mod PathsLaws

@@ -1,4 +1,4 @@
--- Exit statuses (docs/COMMAND.md: 0 done, 1 refused, 2 anything else). Assumes nothing: these are definitions.
+-- Exit statuses (docs/COMMAND.md: 0 done, 1 refused, 2 wrong use or a file, 3 done and the answer is no). Assumes nothing: these are definitions.
 use mathlib.Core.Path.{_≡_}
 use mathlib.Core.Bool.{Bool, true, false, cond}
 use mathlib.Core.List.{List, [], _∷_}
@@ -15,6 +15,9 @@ refused = 1
 abbrev pub failed : ℕ
 failed = 2
 
+abbrev pub no : ℕ
+no = 3
+
 abbrev pub among : ℕ → List ℕ → Bool
 among k [] = false
 among k (x ∷ xs) = cond (eqb k x) true (among k xs)
@@ -27,9 +30,13 @@ oneOf ks (negsuc k) = false
 abbrev pub Delivered : ℤ → Type 0
 Delivered r = oneOf (done ∷ failed ∷ []) r ≡ true
 
--- what was to be done is, or is refused by a number, or it is said why not
+-- the same, where the answer is no
+abbrev pub Denied : ℤ → Type 0
+Denied r = oneOf (failed ∷ no ∷ []) r ≡ true
+
+-- one of the four
 abbrev pub Exited : ℤ → Type 0
-Exited r = oneOf (done ∷ refused ∷ failed ∷ []) r ≡ true
+Exited r = oneOf (done ∷ refused ∷ failed ∷ no ∷ []) r ≡ true
 
 -- what was asked of a call that answers a number: a refusal, exactly where the number is not 0
 pub record Answers (number : ℕ) (r : ℤ) : Type 0 where

@@ -3,13 +3,15 @@ ghost use mathlib.Core.Path.{_≡_};
 ghost use Rattle.io.specs.Counts.{Counts};
 ghost use Rattle.chars.specs.Ascii.{ascii};
 ghost use Rattle.chars.specs.Puts.{Puts};
+use crate::known;
+use crate::links;
 use crate::messages;
 use chars::put_all;
 use libc::STDIN_FILENO;
 use numbers::Limit;
 
-// The most octets that are read: hexadecimal text of the longest input, with two characters between the pairs of digits.
-pub const MOST: usize = 4 * Limit::INPUT;
+// The most octets that are read: text of the longest input, with 16 characters for an octet, as xxd writes one a line.
+pub const MOST: usize = 16 * Limit::INPUT;
 
 // Room for one octet more, by which a longer input is known.
 pub const ROOM: usize = MOST + 1;
@@ -18,6 +20,16 @@ pub const ROOM: usize = MOST + 1;
 pub struct Got {
     pub failed: bool,
     pub length: usize,
+}
+
+// Nothing was read.
+fn unread() -> Got
+    ensures { λ r. ⌜ r .length ≡ 0 ⌝ }
+{
+    Got {
+        failed: true,
+        length: 0,
+    }
 }
 
 // Writes the name of the input in messages: that of argument i, as the system gives it.
@@ -66,10 +78,7 @@ fn read_file(path: &[u8], buf: &mut [u8]) -> Got
     let fd = os::open_read(path);
     if fd < 0 {
         messages::failed(path);
-        return Got {
-            failed: true,
-            length: 0,
-        };
+        return unread();
     }
     let got = read_from(fd, path, buf);
     libc::close(fd);
@@ -95,4 +104,48 @@ pub fn read(i: usize, name: &[u8], buf: &mut [u8]) -> Got
         return read_from(STDIN_FILENO, name, buf);
     }
     read_file(name, buf)
+}
+
+// ---- what an output would replace
+
+// Reads what is open if it is a regular file.
+fn load_from(fd: i32, buf: &mut [u8]) -> Got
+    ensures { λ r. ⌜ Counts (r .length) (now (buf .exit)) ⌝ }
+{
+    let there = known::open(fd);
+    if !known::is_regular(there.mode) {
+        return unread();
+    }
+    fill(fd, buf)
+}
+
+// Reads the file of a path if it is a regular file. Its kind is asked before it is opened, since to open a pipe may take for ever, and again after that.
+fn load_file(path: &[u8], buf: &mut [u8]) -> Got
+    ensures { λ r. ⌜ Counts (r .length) (now (buf .exit)) ⌝ }
+{
+    let there = known::at(&links::ended(path));
+    if !known::is_regular(there.mode) {
+        return unread();
+    }
+    let fd = os::open_read(path);
+    if fd < 0 {
+        return unread();
+    }
+    let got = load_from(fd, buf);
+    libc::close(fd);
+    got
+}
+
+// Reads what now stands in the file that argument i names from the octet `front` on, and says nothing where it cannot: there is no file, or it is
+// none that would be replaced (`-` is standard output).
+pub fn load(i: usize, front: usize, buf: &mut [u8]) -> Got
+    ensures { λ r. ⌜ Counts (r .length) (now (buf .exit)) ⌝ }
+{
+    let mut name = io::buffer();
+    let n = os::arg(i, &mut name);
+    let from = octets::lesser(front, n);
+    if octets::same(&name[from..n], b"-") {
+        return unread();
+    }
+    load_file(&name[from..n], buf)
 }

@@ -15,7 +15,7 @@ const LAST: usize = PATH_MAX - 1;
 const MOST: usize = 40;
 
 // A path as C takes it.
-fn ended(path: &[u8]) -> [u8; PATH_MAX]
+pub fn ended(path: &[u8]) -> [u8; PATH_MAX]
     ensures { λ r. ⌜ Ended r ⌝ }
 {
     let mut whole = io::buffer();
@@ -25,8 +25,9 @@ fn ended(path: &[u8]) -> [u8; PATH_MAX]
 }
 
 // The index after the last slash.
-fn folder(path: &[u8]) -> usize
+pub fn folder(path: &[u8]) -> usize
     ensures { λ r. ⌜ r ≡ folderOf (now (path .entry)) ⌝ }
+    ensures { λ r. ⌜ Counts r (now (path .entry)) ⌝ }
 {
     let mut i = path.len();
     while 0 < i {
@@ -49,11 +50,15 @@ fn place(path: &[u8], first: u8) -> usize
     folder(path)
 }
 
-// Puts in the place of a path of n octets where a link leads, and returns how long that is; 0 where the path is no link.
+// Puts in the place of a path of n octets where a link leads, and returns how long that is; 0 where the path is no link, or is longer than C takes:
+// cut, it would be the path of another file.
 fn step(path: &mut [u8], n: usize) -> usize
     requires { ⌜ n ≤ length (now path) ⌝ }
     ensures { λ r. ⌜ Counts r (now (path .exit)) ⌝ }
 {
+    if LAST < n {
+        return 0;
+    }
     let mut link = io::buffer();
     let got = libc::readlink(&ended(&path[..n]), &mut link);
     let k = io::count(got, &link);

@@ -1,14 +1,12 @@
 // What is written: to standard output, or to a file, which is either replaced whole or left as it was.
+ghost use mathlib.Core.Path.{_≡_};
+ghost use lib.IntN.{pos};
+ghost use Rattle.files.specs.Status as status;
 ghost use Rattle.files.specs.Status.{Delivered};
-use crate::links;
+use crate::known;
 use crate::messages;
-use chars::put_all;
-use libc::PATH_MAX;
-use libc::SEEK_END;
+use crate::place;
 use libc::STDOUT_FILENO;
-
-// Octets of a path with an ending.
-const PART: usize = PATH_MAX + 8;
 
 // Prints octets.
 pub fn print(s: &[u8]) -> i32
@@ -30,77 +28,40 @@ pub fn print_hex(s: &[u8], text: &mut [u8]) -> i32
 
 // ---- files
 
-// Writes octets to what is open and closes it; answers whether both could be done, and says why where not.
-fn write_out(fd: i32, name: &[u8], s: &[u8]) -> bool {
-    if !io::write_all(fd, s) {
-        messages::failed(name);
-        libc::close(fd);
-        return false;
-    }
-    if libc::close(fd) != 0 {
-        messages::failed(name);
-        return false;
-    }
-    true
-}
-
-// Writes octets to what is no regular file.
+// Writes octets to what is no regular file, and closes it.
 fn write_through(fd: i32, name: &[u8], s: &[u8]) -> i32
     ensures { λ r. ⌜ Delivered r ⌝ }
 {
-    if write_out(fd, name, s) {
-        return 0;
-    }
-    2
-}
-
-// Writes octets to a new file `part`, and gives it the name `path` when it is whole.
-fn replace_by(part: &[u8], path: &[u8], name: &[u8], s: &[u8]) -> i32
-    ensures { λ r. ⌜ Delivered r ⌝ }
-{
-    let fd = os::create(part);
-    if fd < 0 {
-        return messages::failed(name);
-    }
-    if !write_out(fd, name, s) {
-        os::unlink(part);
+    if !io::write_all(fd, s) {
+        messages::failed(name);
+        libc::close(fd);
         return 2;
     }
-    if os::rename(part, path) != 0 {
+    if libc::close(fd) != 0 {
         messages::failed(name);
-        os::unlink(part);
         return 2;
     }
     0
 }
 
-// Makes a file of octets at a path, or replaces it.
-fn replace_at(path: &[u8], name: &[u8], s: &[u8]) -> i32
+// Writes octets to what a name has opened: a regular file is replaced, and anything else stays what it is.
+fn save_over(fd: i32, name: &[u8], s: &[u8]) -> i32
     ensures { λ r. ⌜ Delivered r ⌝ }
 {
-    let mut part = [0u8; PART];
-    let end = put_all(&mut part, 0, path);
-    let n = put_all(&mut part, end, b".part");
-    replace_by(&part[..n], path, name, s)
+    let old = known::open(fd);
+    if old.mode == 0 {
+        messages::failed(name);
+        libc::close(fd);
+        return 2;
+    }
+    if known::is_regular(old.mode) {
+        libc::close(fd);
+        return place::replace(name, old, s);
+    }
+    write_through(fd, name, s)
 }
 
-// Makes a file of octets, or replaces the one that a name leads to.
-fn replace(name: &[u8], s: &[u8]) -> i32
-    ensures { λ r. ⌜ Delivered r ⌝ }
-{
-    let mut path = io::buffer();
-    let n = put_all(&mut path, 0, name);
-    let m = links::follow(&mut path, n);
-    replace_at(&path[..m], name, s)
-}
-
-// Whether what is open is a regular file: only such a file can be given a length, here the one that it has.
-fn is_regular(fd: i32) -> bool {
-    let end = libc::lseek(fd, 0, SEEK_END);
-    libc::ftruncate(fd, end) == 0
-}
-
-// Saves octets under a name.
+// Saves octets under a name. It is opened first, so that a file that may not be written to is not replaced through its folder.
 fn save_as(name: &[u8], s: &[u8]) -> i32
     ensures { λ r. ⌜ Delivered r ⌝ }
 {
@@ -108,24 +69,32 @@ fn save_as(name: &[u8], s: &[u8]) -> i32
         return print(s);
     }
     let fd = os::open_append(name);
-    if fd < 0 {
-        if os::errno() == libc::ENOENT {
-            return replace(name, s);
-        }
-        return messages::failed(name);
+    if 0 <= fd {
+        return save_over(fd, name, s);
     }
-    if is_regular(fd) {
-        libc::close(fd);
-        return replace(name, s);
+    if os::errno() == libc::ENOENT {
+        return place::replace(name, known::none(), s);
     }
-    write_through(fd, name, s)
+    messages::failed(name);
+    2
 }
 
-// Saves octets under the name that is argument i.
-pub fn save(i: usize, s: &[u8]) -> i32
+// Saves octets under the name that is argument i from the octet `front` on.
+pub fn save(i: usize, front: usize, s: &[u8]) -> i32
     ensures { λ r. ⌜ Delivered r ⌝ }
 {
     let mut name = io::buffer();
     let n = os::arg(i, &mut name);
-    save_as(&name[..n], s)
+    let from = octets::lesser(front, n);
+    save_as(&name[from..n], s)
+}
+
+// Leaves as it is the file that argument i names from the octet `front` on, and says so.
+pub fn keep(i: usize, front: usize) -> i32
+    ensures { λ r. ⌜ r ≡ pos status.failed ⌝ }
+{
+    let mut name = io::buffer();
+    let n = os::arg(i, &mut name);
+    let from = octets::lesser(front, n);
+    messages::kept(&name[from..n])
 }

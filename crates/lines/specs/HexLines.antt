@@ -1,11 +1,11 @@
 -- Octets as lines of hexadecimal text (docs/COMMAND.md, `write`: "lower case, 16 octets a line, a space between octets, a line break at the end of
--- each line"), and text that spells no octets. Assumes nothing: these are definitions.
-use mathlib.Core.Bool.{Bool, true, false, cond}
+-- each line"). Assumes nothing: these are definitions.
+use mathlib.Core.Bool.{cond}
 use mathlib.Core.List.{List, [], _∷_, _++_}
 use Prim.Native.Nat.{ℕ, _+_, _%_}
 use lib.Dec.{eqb}
 use lib.ListN.{length}
-use Rattle.hexes.specs.Hexes.{separator, two}
+use Rattle.hexes.specs.Hexes.{two}
 
 -- what follows octet i of n: a line break after the sixteenth of a line and after the last, else a space
 abbrev pub afterOf : ℕ → ℕ → ℕ
@@ -18,8 +18,3 @@ linesFrom i n (b ∷ bs) = two b ++ (afterOf i n ∷ linesFrom (i + 1) n bs)
 
 abbrev pub hexLinesOf : List ℕ → List ℕ
 hexLinesOf s = linesFrom 0 (length s) s
-
--- nothing stands in a text but what may stand between pairs of digits
-unfoldable pub blank : List ℕ → Bool
-blank [] = true
-blank (x ∷ xs) = cond (separator x) (blank xs) false

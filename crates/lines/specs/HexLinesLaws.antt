@@ -1,15 +1,14 @@
--- The laws of lines of hexadecimal text and of blank text, octet by octet. Assumes nothing.
+-- The laws of lines of hexadecimal text, octet by octet. Assumes nothing.
 use mathlib.Core.Path.{_≡_, refl, sym, ap, _∙_}
-use mathlib.Core.Bool.{true, false}
 use mathlib.Core.List.{List, [], _∷_, _++_}
-use Prim.Native.Nat.{ℕ, suc, _+_, _≤_, _<_}
+use Prim.Native.Nat.{ℕ, suc, _+_, _<_}
 use native.Mathlib.Nat.{add-zero, zero-add}
 use native.Mathlib.Numerals.{add-one}
 use native.Mathlib.Omega.{arith}
-use lib.ListN.{length, getD, take, drop, drop-of-length-le}
-use lib.Seq.{take-suc, drop-cons, length-take-le}
-use Rattle.hexes.specs.Hexes.{separator, two}
-use Rattle.lines.specs.HexLines.{afterOf, linesFrom, blank}
+use lib.ListN.{length, getD, take}
+use lib.Seq.{take-suc, length-take-le}
+use Rattle.hexes.specs.Hexes.{two}
+use Rattle.lines.specs.HexLines.{afterOf, linesFrom}
 
 -- one octet more
 from-more : (k n y : ℕ) (xs : List ℕ) → linesFrom k n (xs ++ (y ∷ [])) ≡ linesFrom k n xs ++ (two y ++ (afterOf (k + length xs) n ∷ []))
@@ -31,16 +30,3 @@ lines-more n s i h =
 pub lines-none : (n : ℕ) (s : List ℕ) → linesFrom 0 n (take 0 s) ≡ []
 unfolding linesFrom
 lines-none n s = refl
-
-module _ (s : List ℕ) (i : ℕ) where
-  pub blank-turn : i < length s → separator (getD s i 0) ≡ true → blank (drop (i + 1) s) ≡ blank (drop i s)
-  unfolding blank
-  blank-turn h e = rw (add-one, drop-cons s i 0 h, e)
-
-  pub blank-not : i < length s → separator (getD s i 0) ≡ false → false ≡ blank (drop i s)
-  unfolding blank
-  blank-not h e = rw (drop-cons s i 0 h, e)
-
-  pub blank-end : length s ≤ i → true ≡ blank (drop i s)
-  unfolding blank
-  blank-end h = rw (drop-of-length-le s {i = i} h)

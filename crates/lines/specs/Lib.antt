@@ -1,3 +1,4 @@
 pub mod Messages
+pub mod Said
 pub mod HexLines
 pub mod HexLinesLaws

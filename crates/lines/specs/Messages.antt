@@ -4,7 +4,7 @@ use mathlib.Core.List.{List, [], _∷_, _++_}
 use Prim.Native.Nat.{ℕ}
 use lib.Dec.{leb}
 use Rattle.chars.specs.Ascii.{ascii, decimalOf}
-use Rattle.words.specs.Words.{Worded, wordsIn, wordsOf}
+use Rattle.words.specs.Words.{Worded, worded, wordsIn, wordsOf}
 use Rattle.arguments.specs.Wrong as wrong
 
 -- words and the number after them
@@ -19,10 +19,6 @@ reasonOf n = decimalOf n ++ (ascii ": " ++ (wordsOf n ++ ascii "\n"))
 abbrev pub aboutOf : List ℕ → List ℕ
 aboutOf name = ascii "dnr: " ++ name
 
--- the input was to be hexadecimal text
-unfoldable pub notHexOf : List ℕ → List ℕ
-notHexOf name = aboutOf name ++ ascii ": not hexadecimal text\n"
-
 -- the input is refused by a number
 unfoldable pub refusedOf : List ℕ → ℕ → List ℕ
 refusedOf name number = aboutOf name ++ (ascii ": refused, " ++ reasonOf number)
@@ -35,9 +31,6 @@ warningOf discarded found fault =
 
 -- ---- a command line that is wrong
 
-abbrev worded : ℕ → List ℕ → Worded
-worded k ws = record { number = k; words = ws }
-
 -- what is wrong
 unfoldable pub table : List Worded
 table =
@@ -49,9 +42,10 @@ table =
     ∷ worded wrong.noCarrier (ascii "read needs a carrier")
     ∷ worded wrong.noName (ascii "-o needs a file name")
     ∷ worded wrong.output (ascii "-o is given twice")
-    ∷ worded wrong.form (ascii "--hex and --raw exclude each other")
+    ∷ worded wrong.form (ascii "--hex, --raw and --base64 exclude each other")
+    ∷ worded wrong.onlyRead (ascii "--value, --strict and --force are for read")
     ∷ worded wrong.showOutput (ascii "show has no -o")
-    ∷ worded wrong.writeJson (ascii "write has no --json")
+    ∷ worded wrong.writeJson (ascii "only read and show have --json")
     ∷ worded wrong.jsonOutput (ascii "--json and -o exclude each other")
     ∷ []
 

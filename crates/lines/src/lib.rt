@@ -1,13 +1,15 @@
 // The lines that the command writes, each into a lent buffer as far as there is room: its messages, and octets as hexadecimal text.
 // Nothing here asks the system: `files` writes what stands in the buffer.
+pub mod said;
+
 ghost use mathlib.Core.Path.{_≡_};
 ghost use mathlib.Core.List.{[], _∷_, _++_};
 ghost use Prim.Native.Nat.{_<_};
 ghost use Rattle.io.specs.Counts.{Counts};
 ghost use Rattle.chars.specs.Puts.{Puts};
 ghost use Rattle.words.specs.Words.{wordsIn};
-ghost use Rattle.lines.specs.Messages.{countOf, reasonOf, aboutOf, notHexOf, refusedOf, warningOf, table, culprit, usageOf};
-ghost use Rattle.lines.specs.HexLines.{afterOf, hexLinesOf, blank};
+ghost use Rattle.lines.specs.Messages.{countOf, reasonOf, aboutOf, refusedOf, warningOf, table, culprit, usageOf};
+ghost use Rattle.lines.specs.HexLines.{afterOf, hexLinesOf};
 use arguments::Wrong;
 use chars::put;
 use chars::put_all;
@@ -43,15 +45,6 @@ pub fn put_about(out: &mut [u8], name: &[u8]) -> usize
 {
     let next = put_all(out, 0, b"dnr: ");
     put_all(out, next, name)
-}
-
-// Writes that the input was to be hexadecimal text.
-pub fn put_not_hex(out: &mut [u8], name: &[u8]) -> usize
-    ensures { λ r. ⌜ Counts r (now (out .exit)) ⌝ }
-    ensures { λ r. ⌜ Puts 0 (notHexOf (now (name .entry))) (now (out .entry)) r (now (out .exit)) ⌝ }
-{
-    let next = put_about(out, name);
-    put_all(out, next, b": not hexadecimal text\n")
 }
 
 // Writes that the input is refused by a number.
@@ -91,10 +84,11 @@ fn put_text(out: &mut [u8], at: usize, wrong: usize) -> usize
           \x06read needs a carrier\n\
           \x07-o needs a file name\n\
           \x08-o is given twice\n\
-          \x09--hex and --raw exclude each other\n\
-          \x0ashow has no -o\n\
-          \x0bwrite has no --json\n\
-          \x0c--json and -o exclude each other\n",
+          \x09--hex, --raw and --base64 exclude each other\n\
+          \x0a--value, --strict and --force are for read\n\
+          \x0bshow has no -o\n\
+          \x0conly read and show have --json\n\
+          \x0d--json and -o exclude each other\n",
     )
 }
 
@@ -148,18 +142,4 @@ pub fn put_hex(out: &mut [u8], s: &[u8]) -> usize
         i += 1;
     }
     o
-}
-
-// Whether text has nothing in it but what may stand between pairs of digits: hexadecimal text of no octets.
-pub fn is_blank(text: &[u8]) -> bool
-    ensures { λ r. ⌜ r ≡ blank (now (text .entry)) ⌝ }
-{
-    let mut i = 0;
-    while i < text.len() {
-        if !hexes::is_separator(text[i]) {
-            return false;
-        }
-        i += 1;
-    }
-    true
 }

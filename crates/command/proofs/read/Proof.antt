@@ -6,7 +6,7 @@ use borrow.Author.Needs.{needs}
 use lib.ListN.{length}
 use lib.Seq.{length-take-le}
 use Rattle.reading.specs.AnswerLaws.{reads-fits}
-use Rattle.command.specs.NumbersLaws.{read-refused, read-done}
+use Rattle.command.specs.NumbersLaws.{reading-is, as-refused, as-done}
 use Rattle.command.proofs.read.Statement.{statement}
 use Rattle.command.proofs.read.Tie as tie
 
@@ -21,25 +21,20 @@ slice-aggregate-give-reading c = sym (length-take-le _ _ (short (c .before .befo
 
 returns : tie.Need-returns
 returns c =
-    let g = c .before .before .before .before in
+    let t = c .before in
+    let g = t .before .before .before in
     let a = g .before .before .before .before .before .args in
-    let answer = read-refused (a .a .carrier) (a .area .now) _ (g .read .ensures) (search needs) (c .before .if1 .taken) in
+    let is = reading-is (a .a .carrier) (a .area .now) _ (g .read .ensures) (search needs) in
+    let answer = as-refused (a .a .strict) is (t .if1 .taken) in
     search (needs, answer)
 
 returns-2 : tie.Need-returns-2
 returns-2 c =
-    let l = c .before .before .before .before .before .before .before .before in
-    let g = l .before .before .before in
-    let a = g .before .before .before .before .before .args in
-    let answer = read-done (a .a .carrier) (a .area .now) _ (g .read .ensures) (search needs) (l .if1 .left) in
-    search (needs, answer)
-
-returns-3 : tie.Need-returns-3
-returns-3 c =
     let l = c .before .before .before .before .before .before .before in
     let g = l .before .before .before in
     let a = g .before .before .before .before .before .args in
-    let answer = read-done (a .a .carrier) (a .area .now) _ (g .read .ensures) (search needs) (l .if1 .left) in
+    let is = reading-is (a .a .carrier) (a .area .now) _ (g .read .ensures) (search needs) in
+    let answer = as-done (a .a .strict) is (l .if1 .left) in
     search (needs, answer)
 
 pub read-spec : {M : Type 1} → statement M
@@ -54,7 +49,6 @@ read-spec =
     slice-aggregate-give-reading
     (λ c κs. search needs)
     (λ c κs. search needs)
+    (λ c κs. search needs)
     (λ c. search needs)
-    returns-2
-    (λ c. search needs)
-    returns-3)
+    returns-2)

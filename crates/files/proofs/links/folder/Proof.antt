@@ -3,6 +3,7 @@ use mathlib.Core.Path.{_≡_, refl, _∙_}
 use Prim.Native.Nat.{_≤_}
 use native.Mathlib.Omega.{arith}
 use lib.ListN.{length}
+use Rattle.io.proofs.Counting.{counts}
 use Rattle.files.specs.Paths.{slashIn}
 use Rattle.files.specs.PathsLaws.{slash-here, slash-before, slash-none}
 use Rattle.files.proofs.links.folder.Statement.{statement}
@@ -20,7 +21,7 @@ loop-holds c = (omega arith, refl)
 returns : tie.Need-returns Inv-loop μ-loop
 returns c =
     let l = c .before .before .before in
-    slash-here (l .loop .i) (l .before .args .path .now) (c .before .before .loop-test .taken) (c .if1 .taken) ∙ l .loop .inv .1
+    (slash-here (l .loop .i) (l .before .args .path .now) (c .before .before .loop-test .taken) (c .if1 .taken) ∙ l .loop .inv .1, counts _ _ (omega arith))
 
 loop-again : tie.Need-loop-again Inv-loop μ-loop
 loop-again c =
@@ -31,7 +32,7 @@ loop-again c =
 returns-2 : tie.Need-returns-2 Inv-loop μ-loop
 returns-2 c =
     let l = c .before in
-    slash-none (l .loop .i) (l .before .args .path .now) (c .loop-test .left) ∙ l .loop .inv .1
+    (slash-none (l .loop .i) (l .before .args .path .now) (c .loop-test .left) ∙ l .loop .inv .1, counts 0 (l .before .args .path .now) (omega arith))
 
 pub folder-spec : {M : Type 1} → statement M
 folder-spec =
