@@ -2,7 +2,7 @@
 # make test       everything that the merge gate runs; ends in 'N passed, 0 failed'
 # make bench      the library against the reference implementation and memcpy, side by side, at four places of the library
 # make vectors    make the input and expected output of the programs vectors and boundaries anew from the reference implementation
-# make install    the library, its header, dnr.pc for pkg-config and the program dnr, below DESTDIR and PREFIX
+# make install    the library, its header, dnr.pc for pkg-config and the programs dnr and dnr-capture, below DESTDIR and PREFIX
 # make uninstall  remove what make install put there, with the same DESTDIR and PREFIX
 # make fuzz       the library against the reference implementation on input that libFuzzer makes up, for SECONDS seconds (needs clang)
 # make replay     the same comparison on the inputs of fuzz/corpus, once each (needs no clang)
@@ -52,10 +52,11 @@ install: $(LIBRARY) build/dnr
 	sed -e "s|@PREFIX@|$(PREFIX)|" -e "s|@VERSION@|$$(cat VERSION)|" dnr.pc.in >"$(DESTDIR)$(PREFIX)/lib/pkgconfig/dnr.pc"
 	chmod 644 "$(DESTDIR)$(PREFIX)/lib/pkgconfig/dnr.pc"
 	install -m 755 build/dnr "$(DESTDIR)$(PREFIX)/bin/dnr"
+	install -m 755 host/capture/dnr-capture "$(DESTDIR)$(PREFIX)/bin/dnr-capture"
 
 uninstall:
 	rm -f "$(DESTDIR)$(PREFIX)/lib/libdnr.a" "$(DESTDIR)$(PREFIX)/include/dnr.h"
-	rm -f "$(DESTDIR)$(PREFIX)/lib/pkgconfig/dnr.pc" "$(DESTDIR)$(PREFIX)/bin/dnr"
+	rm -f "$(DESTDIR)$(PREFIX)/lib/pkgconfig/dnr.pc" "$(DESTDIR)$(PREFIX)/bin/dnr" "$(DESTDIR)$(PREFIX)/bin/dnr-capture"
 
 fuzz: $(LIBRARY)
 	sh fuzz/run.sh $(SECONDS)

@@ -42,6 +42,10 @@ runs() {
         "$work/resolvers" >"$work/out" && diff examples/k01-dhcp6.out "$work/out"
 }
 
+helps() {
+    "$1" --help >"$work/help" && grep -qF "usage: dnr-capture" "$work/help"
+}
+
 files() {
     find "$1" ! -type d | sed "s|^$1/||" | sort
 }
@@ -50,12 +54,13 @@ files() {
 installed() {
     root=$3$2
     step "$1: make install" make --no-print-directory -s install PREFIX="$2" DESTDIR="$3"
-    printf '%s\n' bin/dnr include/dnr.h lib/libdnr.a lib/pkgconfig/dnr.pc >"$work/expected"
+    printf '%s\n' bin/dnr bin/dnr-capture include/dnr.h lib/libdnr.a lib/pkgconfig/dnr.pc >"$work/expected"
     files "$root" >"$work/found"
     step "$1: the files" diff "$work/expected" "$work/found"
     step "$1: the prefix" grep -qxF "prefix=$2" "$root/lib/pkgconfig/dnr.pc"
     step "$1: the version" version "$root/lib/pkgconfig/dnr.pc"
     step "$1: a program built with its flags" runs "$root/lib/pkgconfig/dnr.pc" "$3"
+    step "$1: dnr-capture" helps "$root/bin/dnr-capture"
     step "$1: make uninstall" make --no-print-directory -s uninstall PREFIX="$2" DESTDIR="$3"
     step "$1: nothing left" test -z "$(files "$root")"
 }
