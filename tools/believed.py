@@ -145,9 +145,9 @@ def reached(files, roots):
 
 # ---- the page
 
-THEOREM = re.compile(r"^\| `([^`]+)` \|.*\| `([a-z]+/[A-Za-z]+)` \|[^|]*\|$", re.M)
-FILE = re.compile(r"`([a-z]+/[A-Z][A-Za-z0-9]*)`")
-ROOTS = re.compile(r"`([a-z]+/[A-Z][A-Za-z0-9]*)`: ((?:`[^`]+`(?:, )?)+)")
+THEOREM = re.compile(r"^\| `([^`]+)` \|.*\| `([a-z0-9]+/[A-Za-z0-9]+)` \|[^|]*\|$", re.M)
+FILE = re.compile(r"`([a-z0-9]+/[A-Z][A-Za-z0-9]*)`")
+ROOTS = re.compile(r"`([a-z0-9]+/[A-Z][A-Za-z0-9]*)`: ((?:`[^`]+`(?:, )?)+)")
 
 
 def part(page, heading):

@@ -2,7 +2,7 @@
 # Runs every check of the repository and ends in 'N passed, M failed', each check counted; fails where one fails or did not run.
 # Checks: the layout of the sources, rt ci (each crate, must-fail edit and program run), the library built from the proved crate, its header
 # held against the source, the host tests (cargo), the examples, the fuzzing corpus replayed, the pages and the citations of rules held
-# against the sources, the vectors held against their generators, the command, and an installation.
+# against the sources, the vectors held against their generators, the command with its input forms and output files, captures, and an installation.
 set -u
 cd "$(dirname "$0")/.."
 log=$(mktemp -d) || exit 2
@@ -104,6 +104,7 @@ step "libdnr.a" rt staticlib dnr
 { rt staticlib tool && sh tools/build.sh; } >"$log/build" 2>&1 &
 building=$!
 step "include/dnr.h agrees with the source" header_held
+tool "calls of the library" sh tools/symbols.sh
 host_tests
 tool "examples" sh tools/examples.sh
 tool "replayed inputs" sh fuzz/replay.sh
@@ -118,6 +119,10 @@ step "boundary cases are those of their generator" made_anew boundaries boundari
 step "build/dnr" command_built
 tool "installation" sh tools/install.sh
 tool "command" sh tools/command.sh
+tool "output files" sh tools/files.sh
+tool "input forms" python3 tools/forms.py
+tool "random input forms" python3 tools/forms.py --random 300 1
+tool "captures" sh tools/capture.sh
 step "the tour of README.md" python3 tools/tour.py
 echo "$passed passed, $failed failed"
 [ "$failed" -eq 0 ]
