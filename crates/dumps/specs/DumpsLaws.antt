@@ -3,13 +3,12 @@ use mathlib.Core.Path.{_≡_, refl, sym, ap, subst, _∙_}
 use mathlib.Core.Bool.{Bool, true, false}
 use mathlib.Core.List.{List, [], _∷_, _++_}
 use Prim.Native.Nat.{ℕ, zero, suc, _+_, _-_, _%_, _≤_, _<_}
-use native.Mathlib.Numerals.{add-one}
 use native.Mathlib.Omega.{arith}
 use borrow.Author.Tests.{lt-ltb, le-ltb, le-leb, lt-leb, eq-eqb, ne-eqb, ltb-false, leb-false}
 use lib.Dec.{ltb, leb, eqb}
-use lib.ListN.{length, getD, set, drop, length-set, length-append, drop-of-length-le}
-use lib.Seq.{drop-cons}
+use lib.ListN.{length, getD, set, drop, length-set}
 use Rattle.inputs.specs.Why as why
+use Rattle.inputs.specs.TextLaws.{closed-cons, closed-end}
 use Rattle.inputs.specs.declared.Read.{Read}
 use Rattle.inputs.specs.declared.Read.the-variants.{Octets, Bad, Long}
 use Rattle.dumps.specs.declared.Style.{Style}
@@ -231,18 +230,6 @@ module _ (f : Style) (s : State) (x n size i : ℕ) (out xs : List ℕ) where
   unfolding readFrom
   from-long e = rw e
 
--- the line break after a text is read as any character past it
-getD-ended : (l : List ℕ) (i d : ℕ) → getD (l ++ (d ∷ [])) i d ≡ getD l i d
-getD-ended [] zero d = refl
-getD-ended [] (suc i) d = refl
-getD-ended (x ∷ l) zero d = refl
-getD-ended (x ∷ l) (suc i) d = getD-ended l i d
-
-drop-ended : (l : List ℕ) (i d : ℕ) → i ≤ length l → drop i (l ++ (d ∷ [])) ≡ getD l i d ∷ drop (i + 1) (l ++ (d ∷ []))
-drop-ended l i d h =
-    let k : i < length (l ++ (d ∷ [])) = simp length-append (omega arith) in
-    rw (add-one i) (drop-cons (l ++ (d ∷ [])) i d k ∙ ap (λ (x : ℕ). x ∷ drop (suc i) (l ++ (d ∷ []))) (getD-ended l i d))
-
 -- i characters are read, and with what is left they decide
 pub record Reading (f : Style) (text before out : List ℕ) (s : State) (n i : ℕ) : Type 0 where
   pub within : i ≤ length text + 1
@@ -267,7 +254,7 @@ module _ {f : Style} {text before out : List ℕ} {s : State} {n i : ℕ} (r : R
     next : readFrom f s n (length text) i out (x ∷ drop (i + 1) (text ++ (10 ∷ []))) ≡ readOf f text before
     next =
         ap (λ (y : ℕ). readFrom f s n (length text) i out (y ∷ drop (i + 1) (text ++ (10 ∷ [])))) e
-        ∙ sym (ap (readFrom f s n (length text) i out) (drop-ended text i 10 h))
+        ∙ sym (ap (readFrom f s n (length text) i out) (closed-cons text i h))
         ∙ r .rest
 
     pub read-kept : length out′ ≡ length before
@@ -303,9 +290,7 @@ module _ {f : Style} {text before out : List ℕ} {s : State} {n i : ℕ} (r : R
 
   module _ (h : length text < i) where
     last : readFrom f s n (length text) i out [] ≡ readOf f text before
-    last =
-        let k : length (text ++ (10 ∷ [])) ≤ i = simp length-append (omega arith) in
-        sym (ap (readFrom f s n (length text) i out) (drop-of-length-le (text ++ (10 ∷ [])) k)) ∙ r .rest
+    last = sym (ap (readFrom f s n (length text) i out) (closed-end text i h)) ∙ r .rest
 
     pub read-star : s .star ≡ true → Dumped f text before (Bad (length text) why.form) out
     unfolding readFrom

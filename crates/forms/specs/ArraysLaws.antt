@@ -15,7 +15,7 @@ use Rattle.groups.specs.declared.Kind.{Kind}
 use Rattle.groups.specs.Groups as groups
 use Rattle.groups.specs.Groups.{Grouped}
 use Rattle.groups.specs.GroupsWithin.{bad-within}
-use Rattle.groups.specs.TextLaws.{closed-cons, closed-end}
+use Rattle.inputs.specs.TextLaws.{closed-cons, closed-end}
 use Rattle.forms.specs.declared.array.After.{After}
 use Rattle.forms.specs.Arrays.{elements, decimal, tail, begun, digitOn, after, endedOf, tailFrom, tailOf, closedOf}
 use Rattle.forms.specs.Arrays.{answerOf, closing, listed, readOf, leftOf, Arrayed}

@@ -6,7 +6,7 @@ use mathlib.Core.Logic.{_⊎_, inl, inr}
 use Prim.Native.Nat.{ℕ, _+_, _≤_, _<_}
 use borrow.Author.Tests.{eq-eqb, ne-eqb}
 use lib.ListN.{length, getD, drop}
-use Rattle.groups.specs.TextLaws.{closed-cons, closed-end}
+use Rattle.inputs.specs.TextLaws.{closed-cons, closed-end}
 use Rattle.forms.specs.declared.front.Front.{Front}
 use Rattle.forms.specs.Fronts.{begun, is, ex, after, formFrom, formOf}
 

@@ -12,7 +12,7 @@ use Rattle.inputs.specs.Why as why
 use Rattle.inputs.specs.declared.Read.{Read}
 use Rattle.inputs.specs.declared.Read.the-variants.{Octets, Bad, Long}
 use Rattle.groups.specs.Escapes.{next, octetOf, Ended, ended, arrive, readFrom, readOf, Escaped}
-use Rattle.groups.specs.TextLaws.{closed-cons, closed-end}
+use Rattle.inputs.specs.TextLaws.{closed-cons, closed-end}
 
 module _ (text out₀ : List ℕ) where
   -- i characters were taken, and with those that are left they decide

@@ -14,7 +14,7 @@ use Rattle.groups.specs.declared.Turn.the-variants as turns
 use Rattle.groups.specs.declared.state.State.{State}
 use Rattle.groups.specs.States.{begun, moved}
 use Rattle.groups.specs.Groups.{After, after, layOf, settled, takeOf, Turned, Ended, ended, onward, readFrom, readOf, Grouped}
-use Rattle.groups.specs.TextLaws.{closed-cons, closed-end}
+use Rattle.inputs.specs.TextLaws.{closed-cons, closed-end}
 
 turned-as : {a : After} {r : Turn} {out′ : List ℕ} → a ≡ after r out′ → Turned a r out′
 turned-as e = record { answered = sym (ap (λ (b : After). b .turn) e); leaves = sym (ap (λ (b : After). b .out) e) }

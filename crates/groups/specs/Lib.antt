@@ -1,7 +1,6 @@
 pub mod States
 pub mod StatesLaws
 pub mod Groups
-pub mod TextLaws
 pub mod GroupsLaws
 pub mod Escapes
 pub mod EscapesLaws
