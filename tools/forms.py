@@ -95,7 +95,8 @@ def by_table():
             octets = FORMS / "octets" / f"area-{areas[answer]}.bin"
             for carrier in CARRIERS:
                 wanted, got = dnr("read", carrier, "--raw", octets, "--json"), dnr("read", carrier, *flags, file, "--json")
-                check(wanted[:2] == got[:2], "read", carrier, *flags, name, told(got))
+                out = wanted[1].replace(str(octets).encode(), str(file).encode())  # messages name the file
+                check((wanted[0], out) == got[:2], "read", carrier, *flags, name, told(got))
 
 
 def table_by_reference():

@@ -85,7 +85,7 @@ def escaped(rng, data):
 
 
 def array(rng, data):
-    end = rng.choice(("}", "};", "} ;\n", f"}};\nunsigned int area_len = {len(data)};"))
+    end = rng.choice(("}", "};", "} ;\n", f"}};\nunsigned int area_len = {len(data)};", f"}}\n;\nint a[1]\t=\n{len(data)}\n;"))
     lines = [", ".join(f"0x{octet:02x}" for octet in line) for line in cut(data, 12)]
     return "unsigned char area[] = {" + rng.choice((" ", "\n")) + ",\n  ".join(lines) + "\n" + end
 
@@ -169,10 +169,10 @@ FORMS = [plain, plain, colons, commas, dashes, prefixed, escaped, array, wiresha
 
 
 def spoilt(rng, text):
-    """The text with one character, one line or one text column otherwise."""
+    """The text with one character, one line or one text column otherwise, or cut, or with more after it."""
     if not text:
         return rng.choice((":", "*", "0", "{", "x", "\\"))
-    at, how = rng.randrange(len(text)), rng.randrange(9)
+    at, how = rng.randrange(len(text)), rng.randrange(11)
     other = rng.choice("0123456789abcdefABCDEF" + "  \t\n::,-|*{}x0\\;=<>.gZ\u00e9" + "\x1b\x0c\x07")
     lines = text.split("\n")
     k = rng.randrange(len(lines))
@@ -192,6 +192,14 @@ def spoilt(rng, text):
     if how == 7:
         # a line without what follows two blanks, as a window cuts it
         return "\n".join(lines[:k] + [re.sub("(?<=[0-9a-f])  .*", "", lines[k])] + lines[k + 1:])
+    if how == 8:
+        # cut after an offset, with its colon or not, or the blank after it
+        front = re.match("[ \t]*(0x)?[0-9a-f]*:? ?", lines[k])[0]
+        return "\n".join(lines[:k] + [front[:len(front) - rng.randrange(3)]])
+    if how == 9:
+        # more after the end, as it may stand after a C array
+        pieces = (" ", "\n", ";", "}", "0x01", ", 0x01 };", "/* end */", "int n", "=", "1", "{ 0x01 }")
+        return text + "".join(rng.choices(pieces, k=rng.randrange(1, 6)))
     return "\n".join(lines[:k] + [lines[k]] + lines[k:])
 
 

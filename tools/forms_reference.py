@@ -9,6 +9,8 @@ import re
 BLANKS = " \t\r"
 B = "[ \t\r]"
 H = "[0-9a-fA-F]"
+# A character of the declaration of an array's length, before its =.
+WORD = r"[A-Za-z0-9_\[\]]"
 # Escape and form feed are characters of text: a terminal's colours and the ends of pages stand in texts.
 COLOURS = {12, 27}
 CONTROLS = (set(range(32)) | {127}) - {9, 10, 13} - COLOURS
@@ -99,33 +101,28 @@ def escaped(text):
 
 
 def array(text):
-    """A C array, and after it at most the number of its octets."""
+    """A C array; after it a semicolon, and the number of its octets."""
     start = text.index("{") + 1
     first = text.count("\n", 0, start) + 1
     inner, close, rest = text[start:].partition("}")
     octets = prefixed(inner, first, wide=False)
     if not close:
         raise Refused(last(text))
-    line = first + inner.count("\n")
-    if rest.strip(BLANKS + "\n;"):
-        counted(rest, line, len(octets))
+    followed(rest, first + inner.count("\n"), len(octets))
     return octets
 
 
-def counted(rest, first, count):
-    """`; .. = N;` with that count."""
-    blank = "[ \t\r\n]*"
-    steps = [blank, ";", "[^=]*", "=", blank, "[0-9]+", blank, ";", blank]
-    at = 0
-    for step in steps:
-        found = re.compile(step).match(rest, at)
-        if not found:
-            raise Refused(first + rest.count("\n", 0, at) if at < len(rest) else first + rest.rstrip(BLANKS + "\n").count("\n"))
-        if step == "[0-9]+" and int(found[0]) != count:
+def followed(rest, first, count):
+    """What stands after the brace, which is in line `first`: nothing, or `;`, or `; WORDS = N;` with that count, and blanks around each of these."""
+    rest, at = rest.rstrip(BLANKS + "\n"), 0
+    for step, wanted in enumerate((";", f"{WORD}({WORD}|{B}|\n)*", "=", "[0-9]+", ";", "$")):
+        if at == len(rest) and step < 2:
+            return
+        at = re.compile(f"({B}|\n)*").match(rest, at).end()
+        found = re.compile(wanted).match(rest, at)
+        if not found or (wanted == "[0-9]+" and int(found[0]) != count):
             raise Refused(first + rest.count("\n", 0, at))
         at = found.end()
-    if at < len(rest):
-        raise Refused(first + rest.count("\n", 0, at))
 
 
 # ---- dumps
@@ -147,12 +144,13 @@ def between(tail, octets, opening, closing):
 
 
 class Kind:
-    """How a dump writes offset and octets, what holds its text column, and which lines may be without (given whether one before had it)."""
+    """How a dump writes offset and octets, what holds its text column, which lines may be without (given whether one before had it), and whether an offset
+    alone ends it."""
 
-    def __init__(self, offset, groups, held, bare):
+    def __init__(self, offset, groups, held, bare, ends=False):
         self.offset = re.compile(f"{B}*{offset}(?={B}|$)")
         self.groups = re.compile(f"{B}+({groups})(?={B}|$)")
-        self.held, self.bare = held, bare
+        self.held, self.bare, self.ends = held, bare, ends
 
     def row(self, k, rest, columns):
         """The octets after the offset of line k, and whether a text column has been seen."""
@@ -185,6 +183,8 @@ def dump(lines, kind):
         place, rest = int(found[1], 16), line[found.end():]
         if rest.strip(BLANKS):
             row, columns = kind.row(k, rest, columns)
+        elif not kind.ends:
+            raise Refused(k, shown=True)
         gap = place - len(out)
         if place > LAST or gap < 0 or (gap == 0 or gap % len(before) if star else gap):
             raise Refused(k, shown=True)
@@ -217,7 +217,7 @@ def packet(text):
 # ---- all of them
 
 PAIR, TWO = H + H, f"{H}{H}(?:{H}{H})?"
-ONE_BLANK = f"{PAIR}(?:{B}{PAIR})*"
+ONE_BLANK, MORE = f"{PAIR}(?:{B}{PAIR})*", f"{PAIR}(?:{B}+{PAIR})*"
 GROUPS = f"{TWO}(?:{B}{TWO})*"
 
 
@@ -227,8 +227,8 @@ def cleared(columns, octets):
 
 
 WIRESHARK = Kind(f"({H}{{4}})", ONE_BLANK, column, cleared)
-OD = Kind(f"({H}{{6}})", ONE_BLANK, lambda tail, octets: between(tail, octets, ">", "<"), cleared)
-HEXDUMP = Kind(f"({H}{{8}})", f"{PAIR}(?:{B}+{PAIR})*", lambda tail, octets: between(tail, octets, "|", "|"), lambda columns, octets: not octets.strip(b" "))
+OD = Kind(f"({H}{{6}})", MORE, lambda tail, octets: between(tail, octets, ">", "<"), cleared, ends=True)
+HEXDUMP = Kind(f"({H}{{8}})", MORE, lambda tail, octets: between(tail, octets, "|", "|"), lambda columns, octets: not octets.strip(b" "), ends=True)
 XXD = Kind(f"({H}{{8}}):", GROUPS, column, cleared)
 # A blank octet is a dot here.
 TCPDUMP = Kind(f"0x({H}{{4}}):", GROUPS, lambda tail, octets: column(tail, octets, "."), lambda columns, octets: not columns)

@@ -24,9 +24,9 @@ counts = {True: 0, False: 0}
 
 
 def held(what, given, words, status, out="", err=""):
-    """One check: the command with this input ends so, prints `out`, and says `err` of its input."""
+    """One check: the command with this input ends so, prints `out`, and says each line of `err` of its input."""
     done = subprocess.run([sys.argv[1], *words.split()], input=given if isinstance(given, bytes) else given.encode(), capture_output=True, check=False)
-    said = f"dnr: {err}\n" if err.startswith("warning") else f"dnr: standard input: {err}\n" if err else ""
+    said = "".join(f"dnr: standard input: {line}\n" for line in err.splitlines())
     right = (done.returncode, done.stdout, done.stderr) == (status, out.encode(), said.encode())
     counts[right] += 1
     if not right:
@@ -44,10 +44,10 @@ def shown(piece):
     return (ROOT / "tests" / "command" / f"{piece}.txt").read_text()
 
 
-def warning(fault):
+def discarded(octet, fault):
     """What is said where the one block is discarded, with the words of tests/command/words.txt."""
     table = dict(line.split(" ", 1) for line in (ROOT / "tests" / "command" / "words.txt").read_text().splitlines())
-    return f"warning: 1 of 1 blocks discarded; the first for fault {fault}: {table[str(fault)]}"
+    return f"1 of 1 blocks discarded\nblock 1, octet {octet}: discarded, {fault}: {table[str(fault)]}"
 
 
 def nothing(carrier):
@@ -58,7 +58,7 @@ def nothing(carrier):
 def missing(carrier, n, hint=None):
     """What is said of n octets in which nothing was found."""
     kind = "attribute" if carrier > 3 else "option"
-    return f"no {kind} {CODES[carrier]} in {n} octets" + (f"; read as {hint} they have one" if hint else "")
+    return f"no {kind} {CODES[carrier]} in {n} octets" + (f"; read as {hint} a resolver is found" if hint else "")
 
 
 def options(carrier, area):
@@ -89,8 +89,10 @@ def by_examples():
         piece, carrier = file.stem, {name: number for number, name in CARRIERS.items()}[file.stem.split("-")[1]]
         if piece.startswith("cut") or piece == "k06-dhcp6":
             continue
-        faults = {"k07": 21, "k10": 25, "k11": 29}
-        said = warning(faults[piece[:3]]) if piece[:3] in faults else ""
+        # the octets are those of the one option that the values make
+        faults = {"k07": discarded(4, 21), "k10": discarded(28, 25), "k11": discarded(31, 29)}
+        faults["sev"] = "block 1, octet 21: address 127.0.0.1 dropped: multicast or loopback"
+        said = faults.get(piece[:3], "")
         # the attribute of this example that has no octets is no value
         wanted = shown(piece).replace("found 2, discarded 1", "found 1, discarded 0")
         found = values(carrier, example(piece))
@@ -131,7 +133,7 @@ def by_padding():
     value, = values(3, example("k03-ra"))
     for n in range(5):
         held(f"{n} zeros", value[:len(value) - n].hex(), "read 3 --value", 0, shown("k03-ra"))
-    held("12 zeros", value.hex() + 16 * "0", "read 3 --value", 0, shown("k11-ra"), warning(29))
+    held("12 zeros", value.hex() + 16 * "0", "read 3 --value", 0, shown("k11-ra"), discarded(39, 29))
 
 
 def by_spoilt_lines():
@@ -140,6 +142,7 @@ def by_spoilt_lines():
     for name, text, line in (
         ("an odd digit", one + "0\n", 1), ("a word", one + "\n\nnone\n" + one, 3), ("a sign", one + "\n" + one[:8] + "/" + one[8:], 2),
         ("two signs", one + "\n" + "00::01\n", 2), ("a blank before it", one + "\n \n  zz\n", 3), ("an xxd dump", one + "\n00000000: 0001 0012\n", 2),
+        ("a dump after a blank", "0102\n 0000  01 02 03\n", 2), ("a C array after blanks", "0102\n\n \t{ 0x00 }\n", 3),
         ("a hexdump", "00000000  00 01                                             |..|\n", 1), ("a C array", "{ 0x00, 0x01 }\n", 1),
     ):
         for carrier in CARRIERS:
@@ -157,14 +160,14 @@ def by_sizes():
     wanted = show.text(show.sheet_of(3, [show.record(1, 3600, "doh1.example.com", (hosts, field))])) + "found 1, discarded 0\n"
     held("2,038 octets", value.hex(), "read 3 --value", 0, wanted)
     held("2,038 octets", value, "read 3 --value --raw", 0, wanted)
-    for words, given in (("read 3 --value", "\n" + 2039 * "00"), ("read ra --value --hex", " \n" + 40960 * "00")):
+    for words, given in (("read 3 --value", "\n" + 2039 * "00"), ("read ra --value --hex", " \n" + 40960 * "00"), ("read 3 --value", "00\n \t" + 2039 * "00")):
         held("above 2,038 octets", given, words, 2, "", f"line 2: {LARGE}")
     held("above 2,038 octets", bytes(2039), "read 3 --value --raw", 2, "", f"line 1: {LARGE}")
     held("above 2,038 octets", base64.encodebytes(bytes(2039)), "read 3 --value --base64", 2, "", f"line 1: {LARGE}")
     # beside a header of 4 octets; beside 160 headers of 2, 159 of them before 255 octets (RULES E2)
     for carrier, n in ((2, 40956), (4, 40956), (5, 40956), (1, 40640)):
         wanted = nothing(carrier).replace("found 0, discarded 0", "found 1, discarded 1")
-        held(f"{n} octets", n * "00", f"read {carrier} --value", 0, wanted, warning(20 if carrier == 1 else 21))
+        held(f"{n} octets", n * "00", f"read {carrier} --value", 0, wanted, discarded(4, 20 if carrier == 1 else 21))
         for more in (n + 1, 40961):
             held(f"{more} octets", more * "00", f"read {carrier} --value", 1, "", LONG)
             held(f"{more} octets", bytes(more), f"read {carrier} --value", 1, "", LONG)
@@ -195,7 +198,8 @@ def by_nothing():
         held("nothing found", area, f"read {carrier} --raw", 0, nothing(carrier), said)
         held("nothing found", area.hex(), f"read {CARRIERS[carrier]} --strict", 3, nothing(carrier), said)
         sheet = f'"carrier":{carrier},"carrierName":"{NAMES[carrier]}","records":[]'
-        held("nothing found", area.hex(), f"read {carrier} --json", 0, f'{{"found":0,"discarded":0,"fault":0,"sheet":{{{sheet}}}}}\n', said)
+        told = f'{{"found":0,"discarded":0,"fault":0,"sheet":{{{sheet}}}}}\n{{"message":"standard input: {said}"}}\n'
+        held("nothing found", area.hex(), f"read {carrier} --json", 0, told, said)
     held("one octet", "00", "read 1", 0, nothing(1), missing(1, 1))
 
 

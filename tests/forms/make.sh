@@ -114,6 +114,7 @@ from xxd blank xxd-apart 's/  / \t   /'
 from tshark-x blank tshark-x-shift '1s/    1234/  1234/'
 from hexdump-C all hexdump-C-blank '4s/  / /2'
 from hexdump-C all hexdump-C-apart 's/ 0\([0-9a-f]\) /  \t 0\1 /g'
+from od-Ax-tx1z all od-Ax-tx1z-apart 's/ 0\([0-9a-f]\) /  \t 0\1 /g'
 # Lines without a text column: those before the first that has one, and those that are blank in it.
 from xxd n32 xxd-later '1s/  [^ ]*$//'
 from tshark-x n32 tshark-x-later '1s/   [^ ]*$//'
@@ -250,6 +251,12 @@ octets hexdump-C all 16 58
 # an offset cut in two, or before its colon
 head -c 72 ../text/xxd.n32.txt >../text/refused-xxd-offset-half.n32.txt
 spoilt tcpdump-XX all colon '2s/: / /'
+# an offset alone, which no dump of these ends in
+head -c 76 ../text/xxd.n32.txt >../text/refused-xxd-offset-bare.n32.txt
+head -c 77 ../text/xxd.n32.txt >../text/refused-xxd-offset-colon.n32.txt
+head -c 78 ../text/xxd.n32.txt >../text/refused-xxd-offset-blank.n32.txt
+spoilt tcpdump-xx n32 offset-bare '3s/:.*//'
+spoilt tshark-x n32 offset-bare '2s/  .*//'
 # A text column that shows a C array is not one.
 for form in xxd hexdump-C od-Ax-tx1z tshark-x; do
     spoilt $form brace array-offset '2s/10/11/'

@@ -2,7 +2,7 @@
 -- Assumes nothing: these are definitions.
 use mathlib.Core.Bool.{Bool, true, false, cond}
 use mathlib.Core.List.{List, [], _∷_}
-use Prim.Native.Nat.{ℕ, _+_}
+use Prim.Native.Nat.{ℕ, _+_, max}
 use lib.Dec.{ltb, eqb}
 use lib.ListN.{length, take}
 use Rattle.numbers.specs.Limit as limit
@@ -13,7 +13,7 @@ use Rattle.carriers.specs.declared.Carrier.{Carrier}
 use Rattle.inputs.specs.declared.Read.{Read}
 use Rattle.inputs.specs.declared.Read.the-variants.{Octets, Bad, Long}
 use Rattle.base64.specs.Base64 as base64
-use Rattle.forms.specs.Places.{textualOf}
+use Rattle.forms.specs.Places.{textualOf, beginOf}
 use Rattle.forms.specs.Forms.{listOf}
 use Rattle.forms.specs.Forms as forms
 use Rattle.headers.specs.Headers as headers
@@ -59,9 +59,19 @@ addedOf c (Octets k) value out n = answer (headers.addOf out n c (take k value) 
 addedOf c (Bad at w) value out n = answer (Bad at w) out
 addedOf c Long value out n = answer Long out
 
--- those of the value of a line, which is a list
+-- those of a value, which is a list
+abbrev pub listedOf : Carrier → List ℕ → List ℕ → ℕ → Answer
+listedOf c line out n = addedOf c (listOf line room .read) (listOf line room .out) out n
+
+-- a fault in the blanks before a value is at the value's first character: a blank belongs to the line of what stands before it
+abbrev pub atValue : List ℕ → Read → Read
+atValue line (Octets m) = Octets m
+atValue line (Bad at w) = Bad (max at (beginOf 0 line)) w
+atValue line Long = Long
+
+-- those of the value of a line
 unfoldable pub lineOf : Carrier → List ℕ → List ℕ → ℕ → Answer
-lineOf c line out n = addedOf c (listOf line room .read) (listOf line room .out) out n
+lineOf c line out n = answer (atValue line (listedOf c line out n .read)) (listedOf c line out n .out)
 
 -- the lines of a text, without their breaks; a break ends a line, and so does the text
 abbrev pub onto : ℕ → List (List ℕ) → List (List ℕ)

@@ -8,20 +8,20 @@ use lib.Dec.{leb, eqb}
 use lib.ListN.{length, take, drop, length-take, length-drop, drop-of-length-le}
 use lib.Seq.{take-all, drop-drop}
 use borrow.Author.Tests.{leb-true, leb-false, lt-ltb, le-ltb, eq-eqb, ne-eqb}
-use Rattle.octets.specs.Over.{over, Wrote}
+use Rattle.octets.specs.Over.{Wrote}
 use Rattle.arguments.specs.Form as form
 use Rattle.carriers.specs.declared.Carrier.{Carrier}
 use Rattle.inputs.specs.declared.Read.{Read}
 use Rattle.inputs.specs.declared.Read.the-variants.{Octets, Bad, Long}
 use Rattle.base64.specs.Base64 as base64
-use Rattle.forms.specs.Places.{textualOf, placeOf}
+use Rattle.forms.specs.Places.{blank, textualOf, placeOf, beginOf}
 use Rattle.forms.specs.Forms.{listOf}
 use Rattle.forms.specs.Forms as forms
 use Rattle.decoding.specs.Bounds.{list-within}
 use Rattle.headers.specs.Headers as headers
 use Rattle.headers.specs.HeadersLaws.{Sound, add-sound}
-use Rattle.decoding.specs.Decoding.{Answer, Answered, answer, rawOf, readOf, room, addedOf, lineOf, onto, linesIn, afterLine, linesFrom}
-use Rattle.decoding.specs.Decoding.{linesOf, isLines, valuesOf}
+use Rattle.decoding.specs.Decoding.{Answer, Answered, answer, rawOf, readOf, room, addedOf, listedOf, atValue, lineOf, onto, linesIn}
+use Rattle.decoding.specs.Decoding.{afterLine, linesFrom, linesOf, isLines, valuesOf}
 
 -- ---- octets
 
@@ -90,20 +90,45 @@ module _ (c : Carrier) (value out : List ℕ) (n : ℕ) where
 
 -- ---- a line
 
-module _ (c : Carrier) (line out : List ℕ) (n : ℕ) where
-  pub line-told : {value : List ℕ} {p r : Read} {out′ : List ℕ} → Answered (listOf line room) p value → Answered (addedOf c p value out n) r out′
-      → Answered (lineOf c line out n) r out′
-  unfolding lineOf
-  line-told {value} w u = added-by c value out n w u
+-- its first character that is no blank stands in it, or there is none
+begin-within : (i : ℕ) (l : List ℕ) → beginOf i l ≤ i + length l
+unfolding beginOf
+begin-within i [] = omega arith
+begin-within i (x ∷ xs) = go (blank x) (begin-within (i + 1) xs)
+  where
+    go : (b : Bool) → beginOf (i + 1) xs ≤ i + 1 + length xs → cond b (beginOf (i + 1) xs) i ≤ i + suc (length xs)
+    go true h = omega arith
+    go false h = omega arith
 
-  pub line-sound : n ≤ length out → Sound (length out) (length line) (lineOf c line out n .read)
+pub value-octets : (line : List ℕ) (r : Read) {m : ℕ} → atValue line r ≡ Octets m → r ≡ Octets m
+value-octets line (Octets k) e = e
+value-octets line (Bad at w) e = let z : _≡_ {A = ℕ} 0 1 = cc in absurd (omega arith)
+value-octets line Long e = e
+
+module _ (c : Carrier) (line out : List ℕ) (n : ℕ) where
+  pub line-told : {value : List ℕ} {p q r : Read} {out′ : List ℕ} → Answered (listOf line room) p value → Answered (addedOf c p value out n) q out′
+      → r ≡ atValue line q → Answered (lineOf c line out n) r out′
   unfolding lineOf
-  line-sound h = go (listOf line room .read) refl
+  line-told {value} w u e =
+      let a : Answered (listedOf c line out n) _ _ = added-by c value out n w u in
+      record { answered = e ∙ ap (atValue line) (a .answered); leaves = a .leaves }
+
+  listed-sound : n ≤ length out → Sound (length out) (length line) (listedOf c line out n .read)
+  listed-sound h = go (listOf line room .read) refl
     where
       go : (p : Read) → listOf line room .read ≡ p → Sound (length out) (length line) (addedOf c p (listOf line room .out) out n .read)
       go (Octets k) e = add-sound (length line) out n c (take k (listOf line room .out)) h
       go (Bad at w) e = list-within line room e
       go Long e = tt
+
+  pub line-sound : n ≤ length out → Sound (length out) (length line) (lineOf c line out n .read)
+  unfolding lineOf
+  line-sound h = go (listedOf c line out n .read) (listed-sound h)
+    where
+      go : (r : Read) → Sound (length out) (length line) r → Sound (length out) (length line) (atValue line r)
+      go (Octets m) s = s
+      go (Bad at w) s = omega (arith, begin-within 0 line)
+      go Long s = tt
 
 -- ---- the lines of a text
 

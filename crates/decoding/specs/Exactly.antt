@@ -15,8 +15,8 @@ use Rattle.forms.specs.Forms.{listOf}
 use Rattle.headers.specs.Headers.{Held, Framed, areaOf, headedOf}
 use Rattle.headers.specs.HeadersLaws.{Sound, Lays, add-length, add-lays}
 use Rattle.headers.specs.Exactly.{headed-exactly}
-use Rattle.decoding.specs.Decoding.{room, addedOf, lineOf, linesIn, afterLine, linesFrom, linesOf}
-use Rattle.decoding.specs.DecodingLaws.{line-sound}
+use Rattle.decoding.specs.Decoding.{room, addedOf, listedOf, lineOf, linesIn, afterLine, linesFrom, linesOf}
+use Rattle.decoding.specs.DecodingLaws.{value-octets, line-sound}
 use Rattle.decoding.specs.Values.{octetsIn, valueIn, some, valuesIn}
 
 -- the first octets of `after` are those before and the options of values that the carrier's options hold
@@ -38,7 +38,7 @@ module _ (c : Carrier) (line out : List ℕ) (n : ℕ) where
 
   line-lays : {m : ℕ} → n ≤ length out → lineOf c line out n .read ≡ Octets m → Lays c (valueIn line) (take n out) (take m (lineOf c line out n .out))
   unfolding lineOf valueIn
-  line-lays {m} h = go (listOf line room .read)
+  line-lays {m} h e = go (listOf line room .read) (value-octets line (listedOf c line out n .read) e)
     where
       go : (p : Read) → addedOf c p (listOf line room .out) out n .read ≡ Octets m
           → Lays c (octetsIn p (listOf line room .out)) (take n out) (take m (addedOf c p (listOf line room .out) out n .out))

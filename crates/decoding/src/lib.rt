@@ -1,8 +1,8 @@
 // The octets of an input (docs/COMMAND.md, "Input"): as they are, or spelled by a text; and the options that hold the values which an input has.
 ghost use mathlib.Core.Path.{_≡_};
-ghost use Prim.Native.Nat.{_≤_, _<_};
+ghost use Prim.Native.Nat.{_≤_, _<_, max};
 ghost use lib.ListN.{length};
-ghost use Rattle.decoding.specs.Decoding.{Answered, rawOf, readOf, addedOf, lineOf, linesOf, isLines, valuesOf};
+ghost use Rattle.decoding.specs.Decoding.{Answered, rawOf, readOf, addedOf, atValue, lineOf, linesOf, isLines, valuesOf};
 use arguments::Form;
 use carriers::Carrier;
 use forms::places;
@@ -72,6 +72,27 @@ fn add_read(c: Carrier, read: Read, value: &[u8], out: &mut [u8], n: usize) -> R
     }
 }
 
+// The greater of two numbers.
+fn greater(a: usize, b: usize) -> usize
+    ensures { λ r. ⌜ r ≡ max a b ⌝ }
+{
+    if a < b { b } else { a }
+}
+
+// A fault in the blanks before a value is at the value's first character: a blank belongs to the line of what stands before it (`places::line`).
+fn at_value(line: &[u8], read: Read) -> Read
+    ensures { λ r. ⌜ r ≡ atValue (now (line .entry)) read ⌝ }
+{
+    match read {
+        Read::Octets(n) => Read::Octets(n),
+        Read::Bad { at, why } => Read::Bad {
+            at: greater(at, places::begin(line)),
+            why,
+        },
+        Read::Long => Read::Long,
+    }
+}
+
 // Adds the options of the value of a line.
 fn add_line(c: Carrier, line: &[u8], out: &mut [u8], n: usize) -> Read
     requires { ⌜ n ≤ length (now out) ⌝ }
@@ -79,7 +100,7 @@ fn add_line(c: Carrier, line: &[u8], out: &mut [u8], n: usize) -> Read
 {
     let mut value = [0u8; Limit::INPUT];
     let read = forms::read_list(line, &mut value);
-    add_read(c, read, &value, out, n)
+    at_value(line, add_read(c, read, &value, out, n))
 }
 
 // Reads lines of values.

@@ -1,5 +1,5 @@
 -- One character more after an offset that stood alone: only blanks and line breaks may follow. Assumes nothing.
-use mathlib.Core.Path.{_≡_, refl, sym, subst, _∙_}
+use mathlib.Core.Path.{_≡_, sym, subst, _∙_}
 use mathlib.Core.Bool.{Bool, true, false}
 use mathlib.Core.List.{List, [], _∷_, _++_}
 use Prim.Native.Nat.{ℕ, _+_, _≤_}
@@ -36,7 +36,7 @@ module _ {f : Style} {size m : ℕ} {bs : List ℕ} {x : ℕ} {xs : List ℕ} {s
         (λ k h _.
         moves.by-star f x n 0 s
         (λ j. bad-form here (j ∙ at class.Other k))
-        (λ w p y j. keep here (states.to mode.star s) (j ∙ at class.Other k) g u (λ z. absurd (omega arith)) h (places.lost-star refl g u d)))
+        (λ _ e _ _ _. let w : true ≡ false = sym d ∙ e in let z : _≡_ {A = ℕ} 0 1 = cc in absurd (omega arith)))
       where
         at : (k : Class) → classOf x ≡ k → states.startBy k f x s ≡ then f s x n out
         at k c = moves.at-start f x n (getD out (s .beside) 0) s k c v
@@ -44,30 +44,3 @@ module _ {f : Style} {size m : ℕ} {bs : List ℕ} {x : ℕ} {xs : List ℕ} {s
         still : Bare x → Place f stood s n out (pre ++ (x ∷ [])) os last star
         still b =
             places.ended v g u d q (λ t c. subst (λ (w : List ℕ). Lines f stood star os last w (take n out)) (sym (append-snoc pre x t)) (l (x ∷ t) (b, c)))
-
-    pub from-lost-star : s .mode ≡ mode.star → Lines f stood star os last (pre ++ (x ∷ xs)) bs
-    from-lost-star v =
-        by-class x
-        (λ k y.
-        line-on here (states.starredBy class.Break s) n out (places.lost refl g u d refl) (λ _. tt)
-        (moves-to here (states.starredBy class.Break s) (at class.Break k) g u (λ z. absurd (omega arith))))
-        (λ k y h. keep here s (at class.Blank k) g u (λ z. absurd (omega arith)) h (places.lost-star v g u d))
-        (λ k _ _. bad-form here (at class.Digit k))
-        (λ k _ _. bad-form here (at class.Other k))
-      where
-        at : (k : Class) → classOf x ≡ k → states.starredBy k s ≡ then f s x n out
-        at k c = moves.at-star f x n (getD out (s .beside) 0) s k c v
-
-    pub from-lost : s .mode ≡ mode.start → s .star ≡ true → Lines f stood star os last (pre ++ (x ∷ xs)) bs
-    from-lost v q =
-        by-class x
-        (λ k y. line-on here s n out (places.lost v g u d q) (λ _. tt) (moves-to here s (at class.Break k) g u (λ z. absurd (omega arith))))
-        (λ k y h. keep here s (at class.Blank k) g u (λ z. absurd (omega arith)) h (places.lost v g u d q))
-        (λ k _ _. bad here (states.but why.offset s) (moves.first-ended f x s d ∙ at class.Digit k) (λ z. absurd (omega arith)))
-        (λ k h _.
-        moves.by-star f x n 0 s
-        (λ j. bad-form here (j ∙ at class.Other k))
-        (λ w p y j. let e : true ≡ false = sym q ∙ p in let z : _≡_ {A = ℕ} 0 1 = cc in absurd (omega arith)))
-      where
-        at : (k : Class) → classOf x ≡ k → states.startBy k f x s ≡ then f s x n out
-        at k c = moves.at-start f x n (getD out (s .beside) 0) s k c v

@@ -24,7 +24,7 @@ use Rattle.dumps.specs.Places.{FrontOf, Place}
 use Rattle.dumps.specs.Onward.{Claim, Next}
 use Rattle.dumps.specs.Fronts.{from-start, from-prefix, from-stars, from-offset, from-gap, from-after}
 use Rattle.dumps.specs.ReadsLines.{lines-read}
-use Rattle.dumps.specs.AfterAlone.{from-ended, from-lost-star, from-lost}
+use Rattle.dumps.specs.AfterAlone.{from-ended}
 use Rattle.dumps.specs.Inside.{from-high, from-low, from-one, from-more, from-text, from-closed}
 
 -- the end: no star may stand there
@@ -54,7 +54,6 @@ module _ (f : Style) (size m : ℕ) (bs : List ℕ) where
           (subst (λ (g : Bool). Lines f stood g os last [] bs) (sym e) (subst (Lines f stood false os last []) w done))
   at-end stood s n i out pre os last star (places.ended v g u d q l) c r =
       subst (Lines f stood star os last (pre ++ [])) (end-octets s n size m out bs q r) (l [] tt)
-  at-end stood s n i out pre os last star (places.lost v g u d q) c r = absurd (star-bad s n size m out bs q r)
   at-end stood s n i out pre os last star (places.prefix _ _ _ _ _ _) c r = absurd (c refl)
   at-end stood s n i out pre os last star (places.offset _ _ _ _ _ _ _ _ _ _) c r = absurd (c refl)
   at-end stood s n i out pre os last star (places.stars _ _ _ _ _ _ _ _ _) c r = absurd (c refl)
@@ -66,7 +65,6 @@ module _ (f : Style) (size m : ℕ) (bs : List ℕ) where
   at-end stood s n i out pre os last star (places.more _ _ _ _ _ _ _) c r = absurd (c refl)
   at-end stood s n i out pre os last star (places.text _ _ _ _ _ _ _ _) c r = absurd (c refl)
   at-end stood s n i out pre os last star (places.closed _ _ _ _ _) c r = absurd (c refl)
-  at-end stood s n i out pre os last star (places.lost-star _ _ _ _) c r = absurd (c refl)
 
   -- one character, at any place
   one-on : (x : ℕ) (xs : List ℕ) → Claim f size m bs xs → (xs ≡ [] → x ≡ 10) → (stood : Bool) (s : State) (n i : ℕ) (out pre os last : List ℕ) (star : Bool)
@@ -90,8 +88,6 @@ module _ (f : Style) (size m : ℕ) (bs : List ℕ) where
       by (places.text v b k w j c l e) = from-text here b v k w j c l e
       by (places.closed v b c l e) = from-closed here b v c l e
       by (places.ended v g u d q l) = from-ended here g u d v q l
-      by (places.lost-star v g u d) = from-lost-star here g u d v
-      by (places.lost v g u d q) = from-lost here g u d v q
 
   -- a text with a line break after it
   all-on : (t : List ℕ) → Claim f size m bs (t ++ (10 ∷ []))

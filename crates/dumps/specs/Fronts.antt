@@ -10,6 +10,7 @@ use lib.Seq.{append-snoc, length-take-le}
 use Rattle.octets.specs.Lists.{All}
 use Rattle.hexes.specs.Hexes.{digit}
 use Rattle.hexes.specs.Hexes as hexes
+use Rattle.inputs.specs.Why as why
 use Rattle.dumps.specs.declared.Style.{Style}
 use Rattle.dumps.specs.declared.state.State.{State}
 use Rattle.dumps.specs.declared.state.Class.{Class}
@@ -55,7 +56,7 @@ module _ {f : Style} {size m : ℕ} {bs : List ℕ} {x : ℕ} {xs : List ℕ} {s
       (λ c d z.
       moves.by-star f x n 0 s
       (λ q. bad-form here (q ∙ at class.Other c))
-      (λ w p l q.
+      (λ w _ p l q.
       keep here (states.to mode.star s) (q ∙ at class.Other c) (a .good) (a .filled) (λ z. absurd (omega arith)) d
       (places.stars refl a (sym (a .pending) ∙ p) (last-some l) pre [] b tt (ap (λ (y : ℕ). pre ++ (y ∷ [])) w))))
     where
@@ -260,19 +261,22 @@ module _ {f : Style} {size m : ℕ} {bs : List ℕ} {x : ℕ} {xs : List ℕ} {s
       apart = h;
     }
 
-    alone-at : x ≡ 10 → {t : State} {k : ℕ} {o : List ℕ} → Counted t k o → (l : List ℕ) → All Bare l
+    alone-at : x ≡ 10 → f .ends ≡ true → {t : State} {k : ℕ} {o : List ℕ} → Counted t k o → (l : List ℕ) → All Bare l
         → Lines f stood star os last (pre ++ (x ∷ []) ++ l) (take k o)
-    alone-at y {t} {k} {o} c l g =
+    alone-at y j {t} {k} {o} c l g =
         subst (λ (t : List ℕ). Lines f stood star os last t (take k o))
         (ap (λ (h : List ℕ). h ++ (10 ∷ l)) (sym e) ∙ ap (λ (w : ℕ). pre ++ (w ∷ l)) (sym y) ∙ sym (append-snoc pre x l))
-        (shows.alone l (shows.short p b (c .before) (counts c)) g)
+        (shows.alone l j (shows.short p b (c .before) (counts c)) g)
 
     pub from-offset : Lines f stood star os last (pre ++ (x ∷ xs)) bs
     from-offset =
         by-class x
         (λ c y.
-        counting states.alone (λ t. refl) (λ t. refl) (λ t. refl) (λ t _ z. absurd (omega arith)) (at-offset class.Break c) a
-        (λ t k o g w. line-on here (states.alone t) k o (places.ended refl (g .good) (g .filled) refl (g .none) (alone-at y g)) (λ _. tt) w))
+        moves.by-alone f x n 0 (states.counted f n s)
+        (λ j. bad here (states.but why.form (states.counted f n s)) (j ∙ at-offset class.Break c) (λ z. absurd (omega arith)))
+        (λ h j.
+        counting states.finished (λ t. refl) (λ t. refl) (λ t. refl) (λ t _ z. absurd (omega arith)) (j ∙ at-offset class.Break c) a
+        (λ t k o g w. line-on here (states.finished t) k o (places.ended refl (g .good) (g .filled) refl (g .none) (alone-at y h g)) (λ _. tt) w)))
         (λ c y h.
         moves.by-blank f x n 0 s
         (λ j. bad-form here (j ∙ at-offset class.Blank c))
@@ -318,16 +322,19 @@ module _ {f : Style} {size m : ℕ} {bs : List ℕ} {x : ℕ} {xs : List ℕ} {s
       apart = blanks-more (w .then) x (w .apart) b;
     }
 
-    alone-here : x ≡ 10 → states.alone s ≡ then f s x n out → Lines f stood star os last (pre ++ (x ∷ xs)) bs
+    alone-here : x ≡ 10 → states.alone f s ≡ then f s x n out → Lines f stood star os last (pre ++ (x ∷ xs)) bs
     alone-here y e =
-        line-on here (states.alone s) n out
+        moves.by-alone f x n 0 s
+        (λ j. bad-form here (j ∙ e))
+        (λ h j.
+        line-on here (states.finished s) n out
         (places.ended refl (a .good) (a .filled) refl (a .none)
         (λ l b.
         subst (Lines f stood star os last (pre ++ (x ∷ []) ++ l)) (sym (a .octets ∙ append-nil now))
         (subst (λ (t : List ℕ). Lines f stood star os last t now) (ap (λ (w : ℕ). pre ++ (w ∷ l)) (sym y) ∙ sym (append-snoc pre x l))
-        (shows.alone l (shows.whole w) b))))
+        (shows.alone l h (shows.whole w) b))))
         (λ _. tt)
-        (moves-to here (states.alone s) e (a .good) (a .filled) (λ z. absurd (omega arith)))
+        (moves-to here (states.finished s) (j ∙ e) (a .good) (a .filled) (λ z. absurd (omega arith))))
 
     pub from-gap : s .mode ≡ mode.gap → Lines f stood star os last (pre ++ (x ∷ xs)) bs
     from-gap v =
@@ -339,7 +346,7 @@ module _ {f : Style} {size m : ℕ} {bs : List ℕ} {x : ℕ} {xs : List ℕ} {s
         (λ k _ _. bad-form here (at class.Digit k))
         (λ k _ _. bad-form here (at class.Other k))
       where
-        at : (k : Class) → classOf x ≡ k → states.gapBy k s ≡ then f s x n out
+        at : (k : Class) → classOf x ≡ k → states.gapBy k f s ≡ then f s x n out
         at k c = moves.at-gap f x n (getD out (s .beside) 0) s k c v
 
     pub from-after : s .mode ≡ mode.after → 1 ≤ length (w .then) → Lines f stood star os last (pre ++ (x ∷ xs)) bs
@@ -355,5 +362,5 @@ module _ {f : Style} {size m : ℕ} {bs : List ℕ} {x : ℕ} {xs : List ℕ} {s
         (λ g q d. let l = digit-small x y in shows.first (pair (digit-says x y) d (omega arith))) refl))
         (λ k _ _. bad-form here (at class.Other k))
       where
-        at : (k : Class) → classOf x ≡ k → states.afterBy k x s ≡ then f s x n out
+        at : (k : Class) → classOf x ≡ k → states.afterBy k f x s ≡ then f s x n out
         at k c = moves.at-after f x n (getD out (s .beside) 0) s k c v

@@ -15,10 +15,10 @@ use Rattle.dumps.specs.declared.state.State.{State}
 use Rattle.dumps.specs.declared.state.Class.{Class}
 use Rattle.dumps.specs.declared.state.Class.the-variants as class
 use Rattle.dumps.specs.Mode as mode
-use Rattle.dumps.specs.States.{classOf, shownOf, but, to, reading, first, prefixed, further, opened, filled, counted, starAt, high, octetBy}
+use Rattle.dumps.specs.States.{classOf, shownOf, but, to, reading, first, prefixed, further, opened, filled, counted, finished, alone, starAt, high, octetBy}
 use Rattle.dumps.specs.States.{complete, showing, column, low, closed, columned, cut, past, beside, fenced, broken, text, moved, fronted, within, behind}
 use Rattle.dumps.specs.StatesLaws.{counted-short, counted-less, counted-star, counted-other, counted-here}
-use Rattle.dumps.specs.StatesLaws.{star-other, star-twice, star-early, star-stands, cut-blank, cut-asked, cut-stood, cut-none}
+use Rattle.dumps.specs.StatesLaws.{star-other, star-late, star-twice, star-early, star-stands, cut-blank, cut-asked, cut-stood, cut-none}
 use Rattle.dumps.specs.States.{startBy, offsetBy, starredBy, gapBy, afterBy, oneBy, moreBy, restBy}
 use Rattle.dumps.specs.Shows.{Blank, space, tab, carriage-return, Shown, printed, control, beyond, dotted}
 
@@ -87,13 +87,13 @@ module _ (f : Style) (x n b : ℕ) (s : State) where
     unfolding moved fronted
     at-star m = ap (λ (k : Class). starredBy k s) (sym c) ∙ rw m
 
-    pub at-gap : s .mode ≡ mode.gap → gapBy k s ≡ moved f x n b s
+    pub at-gap : s .mode ≡ mode.gap → gapBy k f s ≡ moved f x n b s
     unfolding moved fronted
-    at-gap m = ap (λ (k : Class). gapBy k s) (sym c) ∙ rw m
+    at-gap m = ap (λ (k : Class). gapBy k f s) (sym c) ∙ rw m
 
-    pub at-after : s .mode ≡ mode.after → afterBy k x s ≡ moved f x n b s
+    pub at-after : s .mode ≡ mode.after → afterBy k f x s ≡ moved f x n b s
     unfolding moved within
-    at-after m = ap (λ (k : Class). afterBy k x s) (sym c) ∙ rw m
+    at-after m = ap (λ (k : Class). afterBy k f x s) (sym c) ∙ rw m
 
     pub at-low : s .mode ≡ mode.low → octetBy k f x n s ≡ moved f x n b s
     unfolding moved within
@@ -183,17 +183,26 @@ module _ (f : Style) (x n b : ℕ) (s : State) {P : Type 0} where
       go true p false q i r false u =
           bad why.offset (λ z. absurd (omega arith)) (counted-other f n s (eqb-true (s .digits) (f .digits) p) q (eqb-false (s .value) n u))
 
-  pub by-star : (but why.form s ≡ starAt x s → P) → (x ≡ 42 → s .star ≡ false → s .before < s .line → to mode.star s ≡ starAt x s → P) → P
-  by-star bad c = go (eqb x 42) refl (s .star) refl (leb (s .line) (s .before)) refl
+  pub by-alone : (but why.form s ≡ alone f s → P) → (f .ends ≡ true → finished s ≡ alone f s → P) → P
+  unfolding alone
+  by-alone bad c = go (f .ends) refl
     where
-      go : (g : Bool) → eqb x 42 ≡ g → (h : Bool) → s .star ≡ h → (i : Bool) → leb (s .line) (s .before) ≡ i → P
-      go false p h q i r = bad (star-other x s (eqb-false x 42 p))
-      go true p true q i r = bad (star-twice x s (eqb-true x 42 p) q)
-      go true p false q true r = bad (star-early x s (eqb-true x 42 p) q (leb-true (s .line) (s .before) r))
-      go true p false q false r =
-          let e = eqb-true x 42 p in
+      go : (g : Bool) → f .ends ≡ g → P
+      go true p = c p (rw p)
+      go false p = bad (rw p)
+
+  pub by-star : (but why.form s ≡ starAt x s → P)
+      → (x ≡ 42 → s .ended ≡ false → s .star ≡ false → s .before < s .line → to mode.star s ≡ starAt x s → P) → P
+  by-star bad c = go (eqb x 42) refl (s .ended) refl (s .star) refl (leb (s .line) (s .before)) refl
+    where
+      go : (g : Bool) → eqb x 42 ≡ g → (e : Bool) → s .ended ≡ e → (h : Bool) → s .star ≡ h → (i : Bool) → leb (s .line) (s .before) ≡ i → P
+      go false p e d h q i r = bad (star-other x s (eqb-false x 42 p))
+      go true p true d h q i r = bad (star-late x s (eqb-true x 42 p) d)
+      go true p false d true q i r = bad (star-twice x s (eqb-true x 42 p) d q)
+      go true p false d false q true r = bad (star-early x s (eqb-true x 42 p) d q (leb-true (s .line) (s .before) r))
+      go true p false d false q false r =
           let l = leb-false (s .line) (s .before) r in
-          c e q l (star-stands x s e q l)
+          c (eqb-true x 42 p) d q l (star-stands x s (eqb-true x 42 p) d q l)
 
   pub by-low : (but why.form s ≡ low f x n s → P) → (digit x ≡ true → complete (whole x s) (showing n s) ≡ low f x n s → P)
       → (digit x ≡ true → shownOf (f .prefix) (whole x s) ≡ 32 → s .beside ≡ n → complete (whole x s) (column (n + 1) s) ≡ low f x n s → P)

@@ -91,8 +91,6 @@ pub data Place (f : Style) (stood : Bool) (s : State) (n : ℕ) (out pre os last
       → pre ≡ b .h ++ (b .u ++ c) → Place f stood s n out pre os last star
   ended : s .mode ≡ mode.start → s .why ≡ 0 → s .upto ≤ n → s .ended ≡ true → s .star ≡ false
       → ((t : List ℕ) → All Bare t → Lines f stood star os last (pre ++ t) (take n out)) → Place f stood s n out pre os last star
-  lost-star : s .mode ≡ mode.star → s .why ≡ 0 → s .upto ≤ n → s .ended ≡ true → Place f stood s n out pre os last star
-  lost : s .mode ≡ mode.start → s .why ≡ 0 → s .upto ≤ n → s .ended ≡ true → s .star ≡ true → Place f stood s n out pre os last star
 
 -- where a text may end: at a line's front
 abbrev pub Rests : {f : Style} {stood : Bool} {s : State} {n : ℕ} {out pre os last : List ℕ} {star : Bool} → Place f stood s n out pre os last star → Type 0
@@ -109,5 +107,3 @@ Rests (more _ _ _ _ _ _ _) = ⊥
 Rests (text _ _ _ _ _ _ _ _) = ⊥
 Rests (closed _ _ _ _ _) = ⊥
 Rests (ended _ _ _ _ _ _) = Unit
-Rests (lost-star _ _ _ _) = ⊥
-Rests (lost _ _ _ _ _) = Unit

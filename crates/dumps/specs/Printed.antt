@@ -21,7 +21,7 @@ pub record Layout : Type 0 where
 -- xxd: a colon, groups of two octets, and nothing around the column
 abbrev pub xxd : Layout
 xxd = record {
-  style = record { digits = 8; prefix = false; colon = true; pairs = true; opening = 0; closing = 0; column = false };
+  style = record { digits = 8; prefix = false; colon = true; pairs = true; opening = 0; closing = 0; column = false; ends = false };
   mark = 58 ∷ [];
   then = 32 ∷ [];
   gap = λ i. cond (eqb (i % 2) 1) [] (32 ∷ []);
@@ -32,7 +32,7 @@ xxd = record {
 -- hexdump -C: two blanks, octets, two blanks before the eighth from 0, and bars around the column
 abbrev pub hexdump : Layout
 hexdump = record {
-  style = record { digits = 8; prefix = false; colon = false; pairs = false; opening = 124; closing = 124; column = true };
+  style = record { digits = 8; prefix = false; colon = false; pairs = false; opening = 124; closing = 124; column = true; ends = true };
   mark = [];
   then = 32 ∷ 32 ∷ [];
   gap = λ i. cond (eqb i 8) (32 ∷ 32 ∷ []) (32 ∷ []);

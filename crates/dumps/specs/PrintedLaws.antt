@@ -256,7 +256,7 @@ hexdump-shows (c ∷ cs) b h =
     (append-assoc (linesOf hexdump k 0 bs) (digitsOf 8 (length bs) ++ (10 ∷ [])) (10 ∷ [])
     ∙ ap (λ (t : List ℕ). linesOf hexdump k 0 bs ++ t) (append-assoc (digitsOf 8 (length bs)) (10 ∷ []) (10 ∷ []))))
     (lines-of hexdump hexdump-flag hexdump-proper k false [] [] bs (digitsOf 8 (length bs) ++ (10 ∷ 10 ∷ [])) bs (omega arith) (omega arith) b (omega arith)
-    (λ stands last. shows.alone (10 ∷ []) (shows.short [] tt shows.plain counts) (shows.line-break refl, tt)))
+    (λ stands last. shows.alone (10 ∷ []) refl (shows.short [] tt shows.plain counts) (shows.line-break refl, tt)))
   where
     counts : Offset (hexdump .style) (length (c ∷ cs)) (digitsOf 8 (length (c ∷ cs)))
     counts = record {

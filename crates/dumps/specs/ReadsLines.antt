@@ -46,7 +46,7 @@ lines-more (shows.line {now = now} {cs = cs} h s o e l) =
     let j = before-more (h .before) in
     let i = length-append now cs in
     omega arith
-lines-more (shows.alone t a b) = before-more (alone-now a)
+lines-more (shows.alone t g a b) = before-more (alone-now a)
 
 -- ---- after an offset
 
@@ -108,39 +108,45 @@ module _ (f : Style) (m : ℕ) (bs : List ℕ) where
         (after-blanks (states.to mode.after u) k o q rest refl (row .good) (row .filled) (b .1) (go (states.to mode.after u) k o refl row sides l)))
 
     alone-on : (u : State) (k : ℕ) (l rest : List ℕ) → RowOf stood u k l now [] → All Bare rest → length now ≡ m → now ≡ bs
-        → Good f (states.alone u) k l rest m bs
+        → Good f (states.finished u) k l rest m bs
     alone-on u k l rest row b e o =
         let c : take k l ≡ now = row .octets ∙ append-nil now in
         let h : k ≡ length now = sym (length-take-le k l (row .size)) ∙ ap length c in
-        ended-read (states.alone u) k l rest refl (row .good) (row .filled) (row .none) b (h ∙ e) (c ∙ o)
+        ended-read (states.finished u) k l rest refl (row .good) (row .filled) (row .none) b (h ∙ e) (c ∙ o)
+
+    alone-ends : (u : State) → f .ends ≡ true → states.finished u ≡ states.alone f u
+    unfolding states.alone
+    alone-ends u g = rw g
 
     -- an offset that stands alone
-    bare-read : (rest : List ℕ) → All Bare rest → length now ≡ m → now ≡ bs
+    bare-read : f .ends ≡ true → (rest : List ℕ) → All Bare rest → length now ≡ m → now ≡ bs
         → AtDigits f m bs n out os last star stood (f .digits) (length now) (10 ∷ rest)
-    bare-read rest b e o t v a d p =
-        count-read f m bs n out os last star stood states.alone (λ u. refl) (λ u. refl) (λ u. refl) (λ u y z. absurd (omega arith)) t 10 rest now a d p before
-        some room (moves.at-offset f 10 n (getD out (t .beside) 0) t class.Break class-break v)
+    bare-read g rest b e o t v a d p =
+        count-read f m bs n out os last star stood states.finished (λ u. refl) (λ u. refl) (λ u. refl) (λ u y z. absurd (omega arith)) t 10 rest now a d p before
+        some room (alone-ends (states.counted f n t) g ∙ moves.at-offset f 10 n (getD out (t .beside) 0) t class.Break class-break v)
         (λ u k l y row sides _. alone-on u k l rest row b e o)
 
     -- after blanks
-    alone-after : (rest : List ℕ) → All Bare rest → length now ≡ m → now ≡ bs → Begins stood now (10 ∷ rest) (length out)
-    alone-after rest b e o t k l v row sides _ =
-        back-on f t 10 k l rest m bs (states.alone t) (moves.at-after f 10 k (getD l (t .beside) 0) t class.Break class-break v) (row .good) (row .filled)
+    alone-after : f .ends ≡ true → (rest : List ℕ) → All Bare rest → length now ≡ m → now ≡ bs → Begins stood now (10 ∷ rest) (length out)
+    alone-after g rest b e o t k l v row sides _ =
+        back-on f t 10 k l rest m bs (states.finished t)
+        (alone-ends t g ∙ moves.at-after f 10 k (getD l (t .beside) 0) t class.Break class-break v) (row .good) (row .filled)
         (λ z. absurd (omega arith)) (alone-on t k l rest row b e o)
 
     -- with its mark, and blanks or none
-    alone-read : (w q rest : List ℕ) → Mark f w → Blanks q → All Bare rest → length now ≡ m → now ≡ bs
+    alone-read : f .ends ≡ true → (w q rest : List ℕ) → Mark f w → Blanks q → All Bare rest → length now ≡ m → now ≡ bs
         → AtDigits f m bs n out os last star stood (f .digits) (length now) (w ++ (q ++ (10 ∷ rest)))
-    alone-read w (x ∷ q) rest c b d e o = mark-read w (x ∷ q) (10 ∷ rest) c b (omega arith) (alone-after rest d e o)
-    alone-read w [] rest (shows.plain c) b d e o = bare-read rest d e o
-    alone-read w [] rest (shows.colon c) b d e o =
+    alone-read i w (x ∷ q) rest c b d e o = mark-read w (x ∷ q) (10 ∷ rest) c b (omega arith) (alone-after i rest d e o)
+    alone-read i w [] rest (shows.plain c) b d e o = bare-read i rest d e o
+    alone-read i w [] rest (shows.colon c) b d e o =
         λ t v a g p.
         count-read f m bs n out os last star stood (states.to mode.gap) (λ u. refl) (λ u. refl) (λ u. refl) (λ u y z. absurd (omega arith)) t 58
         (10 ∷ rest) now a g p before some room
         (colon-on t c ∙ moves.at-offset f 58 n (getD out (t .beside) 0) t class.Other class-colon v)
         (λ u k l y row sides _.
-        back-on f (states.to mode.gap u) 10 k l rest m bs (states.alone u)
-        (moves.at-gap f 10 k (getD l (u .beside) 0) (states.to mode.gap u) class.Break class-break refl) (row .good) (row .filled)
+        back-on f (states.to mode.gap u) 10 k l rest m bs (states.finished u)
+        (alone-ends (states.to mode.gap u) i ∙ moves.at-gap f 10 k (getD l (u .beside) 0) (states.to mode.gap u) class.Break class-break refl) (row .good)
+        (row .filled)
         (λ z. absurd (omega arith)) (alone-on u k l rest row d e o))
 
 -- ---- lines
@@ -165,7 +171,7 @@ module _ (f : Style) (told : Told f) where
       let u : State = states.starredBy class.Break t in
       start-blanks f m bs n out os last false stood s v (a .good) (a .filled) p (42 ∷ (q ++ (10 ∷ rest))) b
       (back-on f s 42 n out (q ++ (10 ∷ rest)) m bs t
-      (star-stands 42 s refl (a .pending) (omega (arith, a .here)) ∙ moves.at-start f 42 n (getD out (s .beside) 0) s class.Other class-star v)
+      (star-stands 42 s refl (a .going) (a .pending) (omega (arith, a .here)) ∙ moves.at-start f 42 n (getD out (s .beside) 0) s class.Other class-star v)
       (a .good) (a .filled) (λ z. absurd (omega arith))
       (star-blanks m bs t n out q (10 ∷ rest) refl (a .good) (a .filled) d
       (back-on f t 10 n out rest m bs u (moves.at-star f 10 n (getD out (s .beside) 0) t class.Break class-break refl) (a .good) (a .filled)
@@ -223,11 +229,11 @@ module _ (f : Style) (told : Told f) where
     where
       no : false ≡ true → ⊥
       no z = let y : _≡_ {A = ℕ} 0 1 = cc in absurd (omega arith)
-  lines-read (shows.alone {star = star} {os} {last} {now} t (shows.short p {o} b e c) d) stood s n out v a y w r k =
+  lines-read (shows.alone {star = star} {os} {last} {now} t g (shows.short p {o} b e c) d) stood s n out v a y w r k =
       subst (λ (l : List ℕ). Good f s n out l (length now) now) (sym (append-assoc p o (10 ∷ t)))
       (start-blanks f (length now) now n out os last star stood s v (a .good) (a .filled) p (o ++ (10 ∷ t)) b
       (offset-read f (length now) now n out os last star stood told c k s v a (10 ∷ t)
-      (bare-read f (length now) now n out os last now star stood e w r t d refl refl)))
-  lines-read (shows.alone {star = star} {os} {last} {now} t (shows.whole {h} c) d) stood s n out v a y w r k =
+      (bare-read f (length now) now n out os last now star stood e w r g t d refl refl)))
+  lines-read (shows.alone {star = star} {os} {last} {now} t g (shows.whole {h} c) d) stood s n out v a y w r k =
       front-read (length now) now stood s n out os last now h (10 ∷ t) star v a c k
-      (alone-read f (length now) now n out os last now star stood (c .before) w r (c .mark) (c .then) t (c .marked) (c .apart) d refl refl)
+      (alone-read f (length now) now n out os last now star stood (c .before) w r g (c .mark) (c .then) t (c .marked) (c .apart) d refl refl)

@@ -137,7 +137,7 @@ pub data Alone (f : Style) (star : Bool) (os last now : List ℕ) : List ℕ →
   whole : {h : List ℕ} → Front f star os last now h → Alone f star os last now h
 
 -- After the octets os, of which `last` are the last line, the lines t show bs in all. The flags are whether a column has stood in a line before, and
--- whether a star stands just before. An offset that stands alone ends the dump.
+-- whether a star stands just before. An offset that stands alone ends the dump, and stands only where the style has such an end.
 pub data Lines (f : Style) : Bool → Bool → List ℕ → List ℕ → List ℕ → List ℕ → Type 0 where
   done : {stood : Bool} {os last : List ℕ} → Lines f stood false os last [] os
   empty : {stood star : Bool} {os last : List ℕ} (p : List ℕ) {t bs : List ℕ} → Blanks p → Lines f stood star os last t bs
@@ -147,7 +147,7 @@ pub data Lines (f : Style) : Bool → Bool → List ℕ → List ℕ → List �
   line : {stood stands star g : Bool} {os last now h u cs e t bs : List ℕ} → (front : Front f star os last now h) → 1 ≤ length (front .then)
       → Octets f g u cs → End f cs stood stands e → Lines f stands false (now ++ cs) cs t bs
       → Lines f stood star os last (h ++ (u ++ (e ++ (10 ∷ t)))) bs
-  alone : {stood star : Bool} {os last now h : List ℕ} (t : List ℕ) → Alone f star os last now h → All Bare t
+  alone : {stood star : Bool} {os last now h : List ℕ} (t : List ℕ) → f .ends ≡ true → Alone f star os last now h → All Bare t
       → Lines f stood star os last (h ++ (10 ∷ t)) now
 
 -- the text is a dump of the octets; a line break ends it

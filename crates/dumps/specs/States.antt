@@ -96,15 +96,19 @@ counted f n s =
     (cond (eqb (s .value) n) (opened n s) (but why.offset s)))
     (but why.form s)
 
--- an offset stands alone, which ends the dump
-abbrev pub alone : State → State
-alone s =
+-- the dump ends
+abbrev pub finished : State → State
+finished s =
     state mode.start (s .digits) (s .value) (s .octet) (s .second) (s .line) (s .before) (s .beside) (s .solid) (s .star) (s .upto) true (s .column) (s .why)
+
+-- an offset stands alone, which ends the dump where the style has such an end
+unfoldable pub alone : Style → State → State
+alone f s = cond (f .ends) (finished s) (but why.form s)
 
 -- what follows an offset's digits
 abbrev pub offsetBy : Class → Style → ℕ → ℕ → State → State
 offsetBy Digit f x n s = further f x s
-offsetBy Break f x n s = alone (counted f n s)
+offsetBy Break f x n s = alone f (counted f n s)
 offsetBy Blank f x n s = cond (f .colon) (but why.form s) (counted f n s)
 offsetBy Other f x n s = cond (f .colon) (cond (eqb x 58) (to mode.gap (counted f n s)) (but why.form s)) (but why.form s)
 
@@ -112,20 +116,20 @@ abbrev pub offset : Style → ℕ → ℕ → State → State
 offset f x n s = offsetBy (classOf x) f x n s
 
 -- what follows a colon
-abbrev pub gapBy : Class → State → State
-gapBy Break s = alone s
-gapBy Blank s = to mode.after s
-gapBy Digit s = but why.form s
-gapBy Other s = but why.form s
+abbrev pub gapBy : Class → Style → State → State
+gapBy Break f s = alone f s
+gapBy Blank f s = to mode.after s
+gapBy Digit f s = but why.form s
+gapBy Other f s = but why.form s
 
-abbrev pub gap : ℕ → State → State
-gap x s = gapBy (classOf x) s
+abbrev pub gap : Style → ℕ → State → State
+gap f x s = gapBy (classOf x) f s
 
--- a star, after a line that it can stand for
+-- a star, after a line that it can stand for; after an offset that stood alone there is none
 unfoldable pub starAt : ℕ → State → State
 starAt x s =
     cond (eqb x 42)
-    (cond (s .star) (but why.form s) (cond (leb (s .line) (s .before)) (but why.form s) (to mode.star s)))
+    (cond (s .ended) (but why.form s) (cond (s .star) (but why.form s) (cond (leb (s .line) (s .before)) (but why.form s) (to mode.star s))))
     (but why.form s)
 
 abbrev pub startBy : Class → Style → ℕ → State → State
@@ -205,14 +209,14 @@ abbrev pub octet : Style → ℕ → ℕ → State → State
 octet f x n s = octetBy (classOf x) f x n s
 
 -- what follows the offset
-abbrev pub afterBy : Class → ℕ → State → State
-afterBy Break x s = alone s
-afterBy Blank x s = s
-afterBy Digit x s = high false x s
-afterBy Other x s = but why.form s
+abbrev pub afterBy : Class → Style → ℕ → State → State
+afterBy Break f x s = alone f s
+afterBy Blank f x s = s
+afterBy Digit f x s = high false x s
+afterBy Other f x s = but why.form s
 
-abbrev pub after : ℕ → State → State
-after x s = afterBy (classOf x) x s
+abbrev pub after : Style → ℕ → State → State
+after f x s = afterBy (classOf x) f x s
 
 -- what follows an octet and one blank
 abbrev pub oneBy : Class → Style → ℕ → ℕ → State → State
@@ -276,11 +280,11 @@ fronted f x n s =
     cond (eqb (s .mode) mode.start) (start f x s)
     (cond (eqb (s .mode) mode.prefix) (prefixed x s)
     (cond (eqb (s .mode) mode.offset) (offset f x n s)
-    (cond (eqb (s .mode) mode.star) (starred x s) (gap x s))))
+    (cond (eqb (s .mode) mode.star) (starred x s) (gap f x s))))
 
 unfoldable pub within : Style → ℕ → ℕ → State → State
 within f x n s =
-    cond (eqb (s .mode) mode.after) (after x s)
+    cond (eqb (s .mode) mode.after) (after f x s)
     (cond (eqb (s .mode) mode.high) (low f x n s)
     (cond (eqb (s .mode) mode.low) (octet f x n s) (one f x n s)))
 

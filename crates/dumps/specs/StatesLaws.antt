@@ -64,17 +64,22 @@ module _ (x : ℕ) (s : State) where
   star-other h = rw (ne-eqb x 42 h)
 
   module _ (h : x ≡ 42) where
-    pub star-twice : s .star ≡ true → but why.form s ≡ starAt x s
+    pub star-late : s .ended ≡ true → but why.form s ≡ starAt x s
     unfolding starAt
-    star-twice t = rw (eq-eqb x 42 h, t)
+    star-late g = rw (eq-eqb x 42 h, g)
 
-    pub star-early : s .star ≡ false → s .line ≤ s .before → but why.form s ≡ starAt x s
-    unfolding starAt
-    star-early t l = rw (eq-eqb x 42 h, t, le-leb (s .line) (s .before) l)
+    module _ (g : s .ended ≡ false) where
+      pub star-twice : s .star ≡ true → but why.form s ≡ starAt x s
+      unfolding starAt
+      star-twice t = rw (eq-eqb x 42 h, g, t)
 
-    pub star-stands : s .star ≡ false → s .before < s .line → to mode.star s ≡ starAt x s
-    unfolding starAt
-    star-stands t l = rw (eq-eqb x 42 h, t, lt-leb (s .line) (s .before) l)
+      pub star-early : s .star ≡ false → s .line ≤ s .before → but why.form s ≡ starAt x s
+      unfolding starAt
+      star-early t l = rw (eq-eqb x 42 h, g, t, le-leb (s .line) (s .before) l)
+
+      pub star-stands : s .star ≡ false → s .before < s .line → to mode.star s ≡ starAt x s
+      unfolding starAt
+      star-stands t l = rw (eq-eqb x 42 h, g, t, lt-leb (s .line) (s .before) l)
 
 -- ---- a digit after an octet
 

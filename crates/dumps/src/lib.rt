@@ -32,6 +32,8 @@ pub struct Style {
     pub closing: u8,
     // Whether every line has a text column; where not, every line has one after the first that has.
     pub column: bool,
+    // Whether a dump may end in an offset that stands alone; where not, none does.
+    pub ends: bool,
 }
 
 // How many octets there are after stars: so many; or that they stand for no whole lines; or that there is no room.

@@ -100,11 +100,11 @@ impl State {
     }
 
     // What follows the offset; octets, or nothing.
-    pub fn after(self, x: u8) -> Self
-        ensures { λ r. ⌜ r ≡ states.after x self ⌝ }
+    pub fn after(self, f: Style, x: u8) -> Self
+        ensures { λ r. ⌜ r ≡ states.after f x self ⌝ }
     {
         match class_of(x) {
-            Class::Break => self.alone(),
+            Class::Break => self.alone(f),
             Class::Blank => self,
             Class::Digit => self.high(false, x),
             Class::Other => self.but(Why::FORM),

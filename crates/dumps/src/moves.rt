@@ -23,7 +23,7 @@ impl State {
         if self.mode == Mode::STAR {
             return self.starred(x);
         }
-        self.gap(x)
+        self.gap(f, x)
     }
 
     // Among its octets.
@@ -32,7 +32,7 @@ impl State {
         ensures { λ r. ⌜ r ≡ states.within f x n self ⌝ }
     {
         if self.mode == Mode::AFTER {
-            return self.after(x);
+            return self.after(f, x);
         }
         if self.mode == Mode::HIGH {
             return self.low(f, x, n);

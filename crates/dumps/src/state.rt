@@ -237,12 +237,22 @@ impl State {
         self.to(Mode::AFTER)
     }
 
-    // An offset stands alone.
-    pub fn alone(mut self) -> Self
-        ensures { λ r. ⌜ r ≡ states.alone self ⌝ }
+    // The dump ends.
+    fn finished(mut self) -> Self
+        ensures { λ r. ⌜ r ≡ states.finished self ⌝ }
     {
         self.ended = true;
         self.to(Mode::START)
+    }
+
+    // An offset stands alone, which ends the dump where the style has such an end.
+    pub fn alone(self, f: Style) -> Self
+        ensures { λ r. ⌜ r ≡ states.alone f self ⌝ }
+    {
+        if f.ends {
+            return self.finished();
+        }
+        self.but(Why::FORM)
     }
 
     // What follows the digits of an offset.
@@ -251,7 +261,7 @@ impl State {
     {
         match class_of(x) {
             Class::Digit => self.further(f, x),
-            Class::Break => self.counted(f, n).alone(),
+            Class::Break => self.counted(f, n).alone(f),
             Class::Blank => {
                 if f.colon {
                     return self.but(Why::FORM);
@@ -270,11 +280,11 @@ impl State {
     }
 
     // What follows a colon.
-    pub fn gap(self, x: u8) -> Self
-        ensures { λ r. ⌜ r ≡ states.gap x self ⌝ }
+    pub fn gap(self, f: Style, x: u8) -> Self
+        ensures { λ r. ⌜ r ≡ states.gap f x self ⌝ }
     {
         match class_of(x) {
-            Class::Break => self.alone(),
+            Class::Break => self.alone(f),
             Class::Blank => self.to(Mode::AFTER),
             Class::Digit => self.but(Why::FORM),
             Class::Other => self.but(Why::FORM),
@@ -297,6 +307,9 @@ impl State {
         ensures { λ r. ⌜ r ≡ states.starAt x self ⌝ }
     {
         if x != b'*' {
+            return self.but(Why::FORM);
+        }
+        if self.ended {
             return self.but(Why::FORM);
         }
         if self.star {

@@ -1,10 +1,11 @@
--- What a C array is read as (docs/COMMAND.md, "Lists"): the list between its braces, and what may follow them. Assumes nothing: these are definitions.
+-- What a C array is read as (docs/FORMS.md, "Lists"): the list between its braces, and what may follow them. Assumes nothing: these are definitions.
 use mathlib.Core.Path.{_≡_}
 use mathlib.Core.Bool.{Bool, true, false, cond}
 use mathlib.Core.List.{List, [], _∷_, _++_}
 use Prim.Native.Nat.{ℕ, _+_, _-_, _*_}
 use lib.Dec.{ltb, leb, eqb}
 use lib.ListN.{length, take, drop}
+use Rattle.octets.specs.Numbers.{range}
 use Rattle.inputs.specs.Why as why
 use Rattle.inputs.specs.declared.Read.{Read}
 use Rattle.inputs.specs.declared.Read.the-variants.{Octets, Bad, Long}
@@ -17,16 +18,22 @@ use Rattle.forms.specs.Places.{blank, placeOf}
 abbrev pub elements : Kind
 elements = record { prefix = true; mark = 44; marked = false; single = true; lines = false; whole = false }
 
--- ---- after the closing brace
+-- ---- the characters after the closing brace
 
 unfoldable pub decimal : ℕ → Bool
 decimal x = cond (ltb x 48) false (leb x 57)
 
--- what may stand around statements
-unfoldable pub idle : ℕ → Bool
-idle x = cond (eqb x 59) true (blank x)
+unfoldable pub letter : ℕ → Bool
+letter x = cond (range 65 90 x) true (range 97 122 x)
 
--- the tail stands before: the array's semicolon, or the end 0; the = of a length 1; the length 2; the rest of it 3; its semicolon, or the end 4
+-- letters, digits, [, ] and _: of these and of blanks is the declaration of a length, up to its =
+unfoldable pub word : ℕ → Bool
+word x = cond (decimal x) true (cond (letter x) true (cond (eqb x 91) true (cond (eqb x 93) true (eqb x 95))))
+
+-- ---- after the closing brace
+
+-- the tail stands before: the array's semicolon, or the end 0; the declaration of a length, or the end 1; its = 2; the length 3; the rest of it 4; its
+-- semicolon 5; the end 6
 abbrev pub tail : ℕ → ℕ → ℕ → After
 tail p n w = record { phase = p; length = n; why = w }
 
@@ -39,26 +46,42 @@ to p s = tail p (s .length) (s .why)
 abbrev pub but : ℕ → After → After
 but w s = tail (s .phase) (s .length) w
 
+-- to p, where the character is one that may stand here
+abbrev pub awaited : Bool → ℕ → After → After
+awaited b p s = cond b (to p s) (but why.form s)
+
 -- a digit of the length; no input has 65,536 octets
 unfoldable pub digitOn : ℕ → After → After
-digitOn x s = cond (ltb 65535 (s .length)) (but why.count s) (tail 3 (10 * s .length + (x - 48)) (s .why))
-
-unfoldable pub early : ℕ → After → After
-early x s = cond (eqb (s .phase) 0) (cond (idle x) s (to 1 s)) (cond (eqb x 61) (to 2 s) s)
+digitOn x s = cond (ltb 65535 (s .length)) (but why.count s) (tail 4 (10 * s .length + (x - 48)) (s .why))
 
 -- the rest of the length, which is the number n of octets
 unfoldable pub digits : ℕ → ℕ → After → After
-digits x n s = cond (decimal x) (digitOn x s) (cond (eqb (s .length) n) (cond (idle x) (to 4 s) (but why.form s)) (but why.count s))
+digits x n s =
+    cond (decimal x) (digitOn x s)
+    (cond (eqb (s .length) n) (cond (blank x) (to 5 s) (awaited (eqb x 59) 6 s)) (but why.count s))
 
-abbrev ending : ℕ → After → After
-ending x s = cond (idle x) s (cond (eqb (s .phase) 4) (but why.form s) (cond (decimal x) (digitOn x s) (but why.form s)))
+-- before the length, at a character that is no blank
+unfoldable pub early : ℕ → After → After
+early x s =
+    cond (eqb (s .phase) 0) (awaited (eqb x 59) 1 s)
+    (cond (eqb (s .phase) 1) (awaited (word x) 2 s)
+    (cond (word x) s (awaited (eqb x 61) 3 s)))
+
+-- at the length and after it, at a character that is no blank
+unfoldable pub late : ℕ → After → After
+late x s =
+    cond (eqb (s .phase) 3) (cond (decimal x) (digitOn x s) (but why.form s))
+    (cond (eqb (s .phase) 5) (awaited (eqb x 59) 6 s) (but why.form s))
 
 unfoldable pub after : ℕ → ℕ → After → After
-after x n s = cond (ltb (s .phase) 2) (early x s) (cond (eqb (s .phase) 3) (digits x n s) (ending x s))
+after x n s =
+    cond (eqb (s .phase) 4) (digits x n s)
+    (cond (blank x) s
+    (cond (ltb (s .phase) 3) (early x s) (late x s)))
 
 -- at the end of the text
 unfoldable pub endedOf : ℕ → ℕ → After → Read
-endedOf at n s = cond (eqb (s .phase) 0) (Octets n) (cond (eqb (s .phase) 4) (Octets n) (Bad at why.form))
+endedOf at n s = cond (ltb (s .phase) 2) (Octets n) (cond (eqb (s .phase) 6) (Octets n) (Bad at why.form))
 
 abbrev onward : After → ℕ → Read → Read
 onward s i next = cond (eqb (s .why) 0) next (Bad i (s .why))

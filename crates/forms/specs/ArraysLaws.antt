@@ -4,7 +4,7 @@ use mathlib.Core.Bool.{Bool, true, false, cond}
 use mathlib.Core.List.{List, [], _∷_, _++_}
 use Prim.Native.Nat.{ℕ, _+_, _-_, _*_, _≤_, _<_}
 use native.Mathlib.Omega.{arith}
-use lib.Dec.{ltb, leb}
+use lib.Dec.{ltb, leb, eqb}
 use borrow.Author.Tests.{ltb-false, le-ltb, le-leb, lt-leb, eq-eqb, ne-eqb}
 use lib.ListN.{length, getD, take, drop, length-drop}
 use lib.Seq.{length-take-le}
@@ -17,10 +17,15 @@ use Rattle.groups.specs.Groups.{Grouped}
 use Rattle.groups.specs.GroupsWithin.{bad-within}
 use Rattle.inputs.specs.TextLaws.{closed-cons, closed-end}
 use Rattle.forms.specs.declared.array.After.{After}
-use Rattle.forms.specs.Arrays.{elements, decimal, tail, begun, digitOn, after, endedOf, tailFrom, tailOf, closedOf}
+use Rattle.forms.specs.Arrays.{elements, decimal, letter, word, tail, begun, awaited, digitOn, early, late, after, endedOf}
+use Rattle.forms.specs.Arrays.{tailFrom, tailOf, closedOf}
 use Rattle.forms.specs.Arrays.{answerOf, closing, listed, readOf, leftOf, Arrayed}
 
--- ---- a digit
+-- ---- a character
+
+pub word-last : (x : ℕ) → decimal x ≡ false → letter x ≡ false → (x ≡ 91 → ⊥) → (x ≡ 93 → ⊥) → eqb x 95 ≡ word x
+unfolding word
+word-last x d l a b = rw (d, l, ne-eqb x 91 a, ne-eqb x 93 b)
 
 pub decimal-from : (x : ℕ) → decimal x ≡ true → 48 ≤ x
 unfolding decimal
@@ -30,11 +35,21 @@ decimal-from x e = go (ltb x 48) refl e
     go true p q = absurd (let z : _≡_ {A = ℕ} 0 1 = cc in omega arith)
     go false p q = ltb-false x 48 p
 
-pub digit-more : (s : After) (x d : ℕ) → s .length ≤ 65535 → d ≡ x - 48 → tail 3 (10 * s .length + d) (s .why) ≡ digitOn x s
+pub digit-more : (s : After) (x d : ℕ) → s .length ≤ 65535 → d ≡ x - 48 → tail 4 (10 * s .length + d) (s .why) ≡ digitOn x s
 unfolding digitOn
 digit-more s x d h e = rw (le-ltb 65535 (s .length) h, e)
 
 -- ---- after the closing brace
+
+-- the character that ends a declaration's words, and the one that ends its length
+module _ (s : After) (x : ℕ) where
+  pub early-equals : (s .phase ≡ 0 → ⊥) → (s .phase ≡ 1 → ⊥) → word x ≡ false → awaited (eqb x 61) 3 s ≡ early x s
+  unfolding early
+  early-equals a b w = rw (ne-eqb (s .phase) 0 a, ne-eqb (s .phase) 1 b, w)
+
+  pub late-close : (s .phase ≡ 3 → ⊥) → s .phase ≡ 5 → awaited (eqb x 59) 6 s ≡ late x s
+  unfolding late
+  late-close a b = rw (ne-eqb (s .phase) 3 a, eq-eqb (s .phase) 5 b)
 
 pub tail-start : (t : List ℕ) (i n : ℕ) → tailFrom begun n (length t) i (drop i (t ++ (10 ∷ []))) ≡ tailOf i n t
 unfolding tailOf

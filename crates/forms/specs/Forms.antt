@@ -20,20 +20,20 @@ use Rattle.forms.specs.Arrays as arrays
 
 -- ---- the forms as data
 
--- dumps whose offsets stand before a blank, and whose text column may be fenced
-abbrev pub bare : ℕ → ℕ → ℕ → Bool → Style
-bare d a b k = record { digits = d; prefix = false; colon = false; pairs = false; opening = a; closing = b; column = k }
+-- dumps whose offsets stand before a blank, whose text column may be fenced, and that may end in an offset alone
+abbrev pub bare : ℕ → ℕ → ℕ → Bool → Bool → Style
+bare d a b k e = record { digits = d; prefix = false; colon = false; pairs = false; opening = a; closing = b; column = k; ends = e }
 
 -- dumps whose offsets stand before a colon
 abbrev pub colon : ℕ → Bool → Style
-colon d p = record { digits = d; prefix = p; colon = true; pairs = true; opening = 0; closing = 0; column = false }
+colon d p = record { digits = d; prefix = p; colon = true; pairs = true; opening = 0; closing = 0; column = false; ends = false }
 
 -- Wireshark and tshark -x; od -Ax -tx1, with z > and <; hexdump -C, with |; xxd; tcpdump -x
 unfoldable pub styleOf : ℕ → Style
 styleOf f =
-    cond (eqb f 7) (bare 4 0 0 false)
-    (cond (eqb f 8) (bare 6 62 60 false)
-    (cond (eqb f 9) (bare 8 124 124 true)
+    cond (eqb f 7) (bare 4 0 0 false false)
+    (cond (eqb f 8) (bare 6 62 60 false true)
+    (cond (eqb f 9) (bare 8 124 124 true true)
     (cond (eqb f 10) (colon 8 false) (colon 4 true))))
 
 abbrev pub marked : ℕ → Bool → Kind

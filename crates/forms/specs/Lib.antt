@@ -6,3 +6,6 @@ pub mod Arrays
 pub mod ArraysLaws
 pub mod Forms
 pub mod FormsLaws
+pub mod Follows
+pub mod FollowsLaws
+pub mod FollowsRead

@@ -1,8 +1,10 @@
-// A C array: what stands before its brace is passed over; after its closing brace nothing follows, or the number of its octets, as xxd -i writes it.
+// A C array: what stands before its brace is passed over; after its closing brace nothing follows but a semicolon and the number of its octets, as xxd -i
+// writes it.
 ghost use mathlib.Core.Path.{_≡_};
 ghost use mathlib.Core.Bool.{true};
 ghost use Prim.Native.Nat.{_<_};
 ghost use lib.ListN.{length};
+ghost use Rattle.octets.specs.Numbers.{range};
 ghost use Rattle.forms.specs.Arrays as arrays;
 use crate::places;
 use groups::Kind;
@@ -18,17 +20,23 @@ impl Phase {
     // The array's semicolon, or the end.
     const SEMICOLON: usize = 0;
 
-    // The = of a length.
-    const EQUALS: usize = 1;
+    // The declaration of a length, or the end.
+    const DECLARATION: usize = 1;
+
+    // Its =.
+    const EQUALS: usize = 2;
 
     // The length.
-    const LENGTH: usize = 2;
+    const LENGTH: usize = 3;
 
     // The rest of it.
-    const DIGITS: usize = 3;
+    const DIGITS: usize = 4;
 
-    // Its semicolon, or the end.
-    const END: usize = 4;
+    // Its semicolon.
+    const CLOSE: usize = 5;
+
+    // The end.
+    const END: usize = 6;
 }
 
 // How far the tail of an array has been read: the length so far, and why it is none, or 0.
@@ -47,14 +55,38 @@ fn is_decimal(x: u8) -> bool
     x <= b'9'
 }
 
-// Whether x may stand around statements.
-fn is_rest(x: u8) -> bool
-    ensures { λ r. ⌜ r ≡ arrays.idle x ⌝ }
+fn within(x: u8, lo: u8, hi: u8) -> bool
+    ensures { λ r. ⌜ r ≡ range lo hi x ⌝ }
 {
-    if x == b';' {
+    lo <= x && x <= hi
+}
+
+fn is_letter(x: u8) -> bool
+    ensures { λ r. ⌜ r ≡ arrays.letter x ⌝ }
+{
+    if within(x, b'A', b'Z') {
         return true;
     }
-    places::is_blank(x)
+    within(x, b'a', b'z')
+}
+
+// Whether x may stand in the declaration of a length, before its =; blanks may too.
+fn is_word(x: u8) -> bool
+    ensures { λ r. ⌜ r ≡ arrays.word x ⌝ }
+{
+    if is_decimal(x) {
+        return true;
+    }
+    if is_letter(x) {
+        return true;
+    }
+    if x == b'[' {
+        return true;
+    }
+    if x == b']' {
+        return true;
+    }
+    x == b'_'
 }
 
 impl After {
@@ -94,20 +126,14 @@ impl After {
         self.to(Phase::DIGITS)
     }
 
-    // Before the length.
-    fn early(self, x: u8) -> Self
-        ensures { λ r. ⌜ r ≡ arrays.early x self ⌝ }
+    // To a phase, where the character is one that may stand here.
+    fn awaited(self, fits: bool, phase: usize) -> Self
+        ensures { λ r. ⌜ r ≡ arrays.awaited fits phase self ⌝ }
     {
-        if self.phase == Phase::SEMICOLON {
-            if is_rest(x) {
-                return self;
-            }
-            return self.to(Phase::EQUALS);
+        if fits {
+            return self.to(phase);
         }
-        if x == b'=' {
-            return self.to(Phase::LENGTH);
-        }
-        self
+        self.but(Why::FORM)
     }
 
     // The rest of the length, which is the number n of octets.
@@ -120,8 +146,40 @@ impl After {
         if self.length != n {
             return self.but(Why::COUNT);
         }
-        if is_rest(x) {
-            return self.to(Phase::END);
+        if places::is_blank(x) {
+            return self.to(Phase::CLOSE);
+        }
+        self.awaited(x == b';', Phase::END)
+    }
+
+    // Before the length, at a character that is no blank.
+    fn early(self, x: u8) -> Self
+        ensures { λ r. ⌜ r ≡ arrays.early x self ⌝ }
+    {
+        if self.phase == Phase::SEMICOLON {
+            return self.awaited(x == b';', Phase::DECLARATION);
+        }
+        if self.phase == Phase::DECLARATION {
+            return self.awaited(is_word(x), Phase::EQUALS);
+        }
+        if is_word(x) {
+            return self;
+        }
+        self.awaited(x == b'=', Phase::LENGTH)
+    }
+
+    // At the length and after it, at a character that is no blank.
+    fn late(self, x: u8) -> Self
+        ensures { λ r. ⌜ r ≡ arrays.late x self ⌝ }
+    {
+        if self.phase == Phase::LENGTH {
+            if is_decimal(x) {
+                return self.digit(x);
+            }
+            return self.but(Why::FORM);
+        }
+        if self.phase == Phase::CLOSE {
+            return self.awaited(x == b';', Phase::END);
         }
         self.but(Why::FORM)
     }
@@ -130,29 +188,23 @@ impl After {
     fn after(self, x: u8, n: usize) -> Self
         ensures { λ r. ⌜ r ≡ arrays.after x n self ⌝ }
     {
-        if self.phase < Phase::LENGTH {
-            return self.early(x);
-        }
         if self.phase == Phase::DIGITS {
             return self.digits(x, n);
         }
-        if is_rest(x) {
+        if places::is_blank(x) {
             return self;
         }
-        if self.phase == Phase::END {
-            return self.but(Why::FORM);
+        if self.phase < Phase::LENGTH {
+            return self.early(x);
         }
-        if is_decimal(x) {
-            return self.digit(x);
-        }
-        self.but(Why::FORM)
+        self.late(x)
     }
 
-    // At the end of the text: the array has ended, or its length has.
+    // At the end of the text: after the array, or after its length.
     fn ended(self, at: usize, n: usize) -> Read
         ensures { λ r. ⌜ r ≡ arrays.endedOf at n self ⌝ }
     {
-        if self.phase == Phase::SEMICOLON {
+        if self.phase < Phase::EQUALS {
             return Read::Octets(n);
         }
         if self.phase == Phase::END {

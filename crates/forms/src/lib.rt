@@ -18,9 +18,9 @@ use inputs::Why;
 
 // ---- the forms as data
 
-// A dump whose offsets stand before a blank, and whose text column may be fenced.
-fn bare(digits: usize, opening: u8, closing: u8, column: bool) -> Style
-    ensures { λ r. ⌜ r ≡ forms.bare digits opening closing column ⌝ }
+// A dump whose offsets stand before a blank, whose text column may be fenced, and that may end in an offset alone.
+fn bare(digits: usize, opening: u8, closing: u8, column: bool, ends: bool) -> Style
+    ensures { λ r. ⌜ r ≡ forms.bare digits opening closing column ends ⌝ }
 {
     Style {
         digits,
@@ -30,6 +30,7 @@ fn bare(digits: usize, opening: u8, closing: u8, column: bool) -> Style
         opening,
         closing,
         column,
+        ends,
     }
 }
 
@@ -45,6 +46,7 @@ fn colon(digits: usize, prefix: bool) -> Style
         opening: 0,
         closing: 0,
         column: false,
+        ends: false,
     }
 }
 
@@ -53,13 +55,13 @@ fn style(form: usize) -> Style
     ensures { λ r. ⌜ r ≡ forms.styleOf form ⌝ }
 {
     if form == Form::WIRESHARK {
-        return bare(4, 0, 0, false);
+        return bare(4, 0, 0, false, false);
     }
     if form == Form::OD {
-        return bare(6, b'>', b'<', false);
+        return bare(6, b'>', b'<', false, true);
     }
     if form == Form::HEXDUMP {
-        return bare(8, b'|', b'|', true);
+        return bare(8, b'|', b'|', true, true);
     }
     if form == Form::XXD {
         return colon(8, false);

@@ -6,10 +6,10 @@ use Rattle.decoding.proofs.add_line.Tie as tie
 
 returns : tie.Need-returns
 returns c =
-    let k = c .before .before in
+    let k = c .before .before .before in
     let l = k .before .before .before .before in
     let a = l .before .before .before .before .args in
-    line-told (a .c) (a .line .now) (a .out .now) (a .n) (l .read-list .ensures) (k .add-read .ensures)
+    line-told (a .c) (a .line .now) (a .out .now) (a .n) (l .read-list .ensures) (k .add-read .ensures) (c .at-value .ensures)
 
 pub add-line-spec : {M : Type 1} → statement M
 add-line-spec =
@@ -18,6 +18,7 @@ add-line-spec =
     (λ c. search needs)
     (λ c κs. search needs)
     (λ c. search needs)
+    (λ c κs. search needs)
     (λ c κs. search needs)
     (λ c. search needs)
     returns)

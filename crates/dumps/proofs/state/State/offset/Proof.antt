@@ -41,7 +41,7 @@ returns-4 c =
     let p3 = c .before in
     let p2 = p3 .before in
     let p1 = p2 .before .before in
-    c .alone .ensures ∙ ap alone (p3 .counted .ensures) ∙ simp (sym (p1 .class-of .ensures) ∙ p2 .enum-told2 .given .1)
+    c .alone .ensures ∙ ap (alone _) (p3 .counted .ensures) ∙ simp (sym (p1 .class-of .ensures) ∙ p2 .enum-told2 .given .1)
 
 returns-5 : tie.Need-returns-5
 returns-5 c =

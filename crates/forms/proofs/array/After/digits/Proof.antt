@@ -29,7 +29,7 @@ returns-3 c =
     let p3 = p4 .before in
     let p2 = p3 .before .before in
     let p1 = p2 .before in
-    c .to .ensures ∙ simp (sym (p1 .is-decimal .ensures) ∙ p2 .if1 .left, eq-eqb _ _ (p3 .if2 .left), sym (p4 .is-rest .ensures) ∙ p5 .if3 .taken)
+    c .to .ensures ∙ simp (sym (p1 .is-decimal .ensures) ∙ p2 .if1 .left, eq-eqb _ _ (p3 .if2 .left), sym (p4 .is-blank .ensures) ∙ p5 .if3 .taken)
 
 returns-4 : tie.Need-returns-4
 unfolding digits
@@ -39,7 +39,7 @@ returns-4 c =
     let p3 = p4 .before in
     let p2 = p3 .before .before in
     let p1 = p2 .before in
-    c .but2 .ensures ∙ simp (sym (p1 .is-decimal .ensures) ∙ p2 .if1 .left, eq-eqb _ _ (p3 .if2 .left), sym (p4 .is-rest .ensures) ∙ p5 .if3 .left)
+    c .awaited .ensures ∙ simp (sym (p1 .is-decimal .ensures) ∙ p2 .if1 .left, eq-eqb _ _ (p3 .if2 .left), sym (p4 .is-blank .ensures) ∙ p5 .if3 .left)
 
 pub digits-spec : {M : Type 1} → statement M
 digits-spec =
