@@ -37,7 +37,7 @@ fn unusable16(a: &[u8]) -> bool
 }
 
 // Whether an address of `w` octets is dropped when read.
-fn dropped(w: usize, a: &[u8]) -> bool
+pub fn dropped(w: usize, a: &[u8]) -> bool
     requires { ⌜ Width w ⌝ }
     requires { ⌜ length (now a) ≡ w ⌝ }
     ensures { λ r. ⌜ r ≡ unusable w (now (a .entry)) ⌝ }

@@ -106,7 +106,7 @@ holds-or-short c b h = form-says (formOf c) c b refl h
 
 -- ---- what `padded` answers
 
-fields-bad : {f : Fields} {k : ℕ} → fields f ≡ bad k → ⊥
+pub fields-bad : {f : Fields} {k : ℕ} → fields f ≡ bad k → ⊥
 fields-bad e = let z : _≡_ {A = ℕ} 0 1 = cc in omega arith
 
 faults-apart : bad fault.field ≡ bad fault.padding → ⊥

@@ -39,7 +39,7 @@ pub whole-says : (eights : Bool) (h size body : ℕ) → wholeSize eights h size
 whole-says true h size body e = e
 whole-says false h size body e = omega arith
 
-framed-same : {bs cs : List (List ℕ)} → framed bs ≡ framed cs → bs ≡ cs
+pub framed-same : {bs cs : List (List ℕ)} → framed bs ≡ framed cs → bs ≡ cs
 framed-same e = cc
 
 -- ---- a run of options is framed

@@ -118,7 +118,7 @@ at-end (hyphen k) y at v e = let z : _≡_ {A = ℕ} 0 1 = cc in absurd (omega a
 at-end (first k) y at v e = let z : _≡_ {A = ℕ} 0 1 = cc in absurd (omega arith)
 at-end root y at v e = refl
 
-nil-of : (l : List ℕ) → length l ≡ 0 → l ≡ []
+pub nil-of : (l : List ℕ) → length l ≡ 0 → l ≡ []
 nil-of [] e = refl
 nil-of (x ∷ l) e = absurd (omega arith)
 

@@ -131,7 +131,7 @@ pub full-inside : (b : List ℕ) {s : Places} {p t i n j m q k : ℕ} → s ≡ 
 full-inside b is h = rw is at h
 
 module _ (c : Carrier) (b : List ℕ) {s : Places} (e : told b s ≡ parse c b) where
-  told-is : {x : Places} → s ≡ x → told b x ≡ parse c b
+  pub told-is : {x : Places} → s ≡ x → told b x ≡ parse c b
   told-is is = sym (ap (λ (x : Places). told b x) is) ∙ e
 
   pub examine-bad : {k : ℕ} {r : Examined} → s ≡ Bad k → r ≡ discarded k → Answer c b r

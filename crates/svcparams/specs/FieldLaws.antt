@@ -21,13 +21,13 @@ use Rattle.svcparams.specs.Accepted.{put, fieldOf, Fits}
 -- ---- what is laid out is tiled
 
 module _ (kv : Param) (l : List ℕ) (f : Fits kv) where
-  put-size : sizeOf (put kv l) ≡ 4 + length (kv .value)
+  pub put-size : sizeOf (put kv l) ≡ 4 + length (kv .value)
   put-size =
       let h = f .size in
       let n : length (kv .value ++ l) ≡ length (kv .value) + length l = length-append (kv .value) l in
       sym (size-fits (put kv l) {k = length (kv .value)} (omega arith) (omega arith) (omega arith))
 
-  put-first : first (put kv l) ≡ kv
+  pub put-first : first (put kv l) ≡ kv
   put-first =
       let h = f .key in
       let e : at16 (put kv l) 0 ≡ kv .key = omega arith in
@@ -36,7 +36,7 @@ module _ (kv : Param) (l : List ℕ) (f : Fits kv) where
       ap₂ (λ (k : ℕ) (v : List ℕ). record { key = k; value = v }) e
       (ap (λ (m : ℕ). take m (kv .value ++ l)) n ∙ take-at (kv .value) l (length (kv .value)) refl)
 
-  put-rest : drop (sizeOf (put kv l)) (put kv l) ≡ l
+  pub put-rest : drop (sizeOf (put kv l)) (put kv l) ≡ l
   put-rest =
       let z = put-size in
       let n : sizeOf (put kv l) ≡ suc (suc (suc (suc (length (kv .value))))) = omega arith in
@@ -65,7 +65,7 @@ put-again a b c d m r ha hb hc hd e h =
     cc
 
 -- the parameter that stands first, laid out, and what follows it
-first-laid : (s : List ℕ) → Bytes s → (sizeOf s ≡ 0 → ⊥) → (put (first s) (drop (sizeOf s) s) ≡ s) × Fits (first s)
+pub first-laid : (s : List ℕ) → Bytes s → (sizeOf s ≡ 0 → ⊥) → (put (first s) (drop (sizeOf s) s) ≡ s) × Fits (first s)
 first-laid [] o z = let q = sized [] z in absurd (omega (arith, q .head, q .room))
 first-laid (a ∷ []) o z = let q = sized (a ∷ []) z in absurd (omega (arith, q .head, q .room))
 first-laid (a ∷ b ∷ []) o z = let q = sized (a ∷ b ∷ []) z in absurd (omega (arith, q .head, q .room))

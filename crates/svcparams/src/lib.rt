@@ -34,7 +34,7 @@ impl Key {
 }
 
 // How many octets the parameter that stands first has, its key and length among them; 0 if none stands there whole.
-fn size(s: &[u8]) -> usize
+pub fn size(s: &[u8]) -> usize
     ensures { λ r. ⌜ r ≡ sizeOf (now (s .entry)) ⌝ }
     ensures { λ r. ⌜ r ≤ length (now (s .entry)) ⌝ }
 {
@@ -130,7 +130,7 @@ fn alpn(v: &[u8]) -> bool
 }
 
 // Whether the value v is one that its key allows in the field p.
-fn value(key: usize, v: &[u8], p: &[u8]) -> bool
+pub fn value(key: usize, v: &[u8], p: &[u8]) -> bool
     ensures { λ r. ⌜ r ≡ valueGood key (now (v .entry)) (keysIn (now (p .entry))) ⌝ }
 {
     if key == Key::MANDATORY {

@@ -1,0 +1,13 @@
+pub mod Reason
+pub mod Names
+pub mod NamesLaws
+pub mod Params
+pub mod ParamsLaws
+pub mod Claims
+pub mod PlaceLaws
+pub mod WireWhy
+pub mod TextWhy
+pub mod TextWalk
+pub mod WrongWhy
+pub mod OrderWhy
+pub mod Exactly
