@@ -106,13 +106,17 @@ static int print_resolvers(unsigned carrier, const uint8_t *area, size_t area_le
 {
     static uint8_t sheet[DNR_MAX_SHEET];
     const dnr_reading reading = dnr_read(carrier, area, area_len, sheet, sizeof sheet);
+    char why[DNR_MAX_WORDS];
     if (reading.number != DNR_DONE) {
-        printf("%s: refusal %zu\n", names[carrier], reading.number);
+        dnr_words(reading.number, why, sizeof why);
+        printf("%s: refusal %zu: %s\n", names[carrier], reading.number, why);
         return 1;
     }
     printf("%s: %zu found, %zu discarded", names[carrier], reading.found, reading.discarded);
-    if (reading.discarded > 0)
-        printf(", first fault %zu", reading.fault);
+    if (reading.discarded > 0) {
+        dnr_words(reading.fault, why, sizeof why);
+        printf(", first fault %zu: %s", reading.fault, why);
+    }
     putchar('\n');
     const uint8_t *record = sheet + 7;
     for (unsigned left = sheet[6]; left > 0; left--)

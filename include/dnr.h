@@ -2,7 +2,8 @@
  *
  * The functions of libdnr.a. dnr_read takes an area (the options field of a DHCP message or router advertisement, or a run of IKEv2
  * configuration attributes) and writes the record sheet of its resolvers. dnr_write takes a record sheet and writes the options or
- * attributes that carry it. What dnr_write writes, dnr_read reads back into the same sheet.
+ * attributes that carry it. What dnr_write writes, dnr_read reads back into the same sheet. dnr_words says in words what a number that
+ * they give back means.
  *
  * Buffers    The caller lends them for the time of the call: nothing that is passed is kept, and nothing has to be freed. The two buffers
  *            of one call must not overlap. A pointer may be NULL where its length is 0, which is an empty input or an output without
@@ -10,10 +11,11 @@
  * Input      Any octets of any length. The calls test what they need themselves, always return, read nothing outside the input and write
  *            nothing outside the output.
  * Output     Only the first length octets of it are written; past them it is unchanged. A call that refuses changes no octet of it.
+ *            dnr_words writes a C string, and nothing past its closing 0.
  * State      There is none: no allocation, no global variable, no errno, no call but to memcpy, memmove and memset. Any number of threads
  *            may call at once, without locks, as long as nobody else writes to the buffers of a running call.
  * Stack      dnr_read needs 43 KiB, of which 40 KiB are the buffer where several options 162 of a DHCPv4 area are joined; dnr_write needs
- *            1 KiB (measured on x86-64; have 48 KiB and 4 KiB).
+ *            1 KiB, dnr_words 1.3 KiB (measured on x86-64; have 48 KiB for dnr_read and 4 KiB for the others).
  * Numbers    In areas, sheets and options all numbers stand most significant octet first.
  */
 #ifndef DNR_H
@@ -35,17 +37,19 @@ enum {
     DNR_IKE6 = 5   /* IKEv2 attribute 28, ENCDNS_IP6 */
 };
 
-/* Limits, in octets but for the two counts. A sheet buffer of DNR_MAX_SHEET and an octets buffer of DNR_MAX_OCTETS are never too short. */
+/* Limits, in octets but for the two counts. A sheet buffer of DNR_MAX_SHEET, an octets buffer of DNR_MAX_OCTETS and a text buffer of
+ * DNR_MAX_WORDS are never too short. */
 enum {
     DNR_MAX_INPUT = 40960,     /* an area or a sheet that is taken */
     DNR_MAX_OCTETS = 40960,    /* what dnr_write writes */
     DNR_MAX_SHEET = 36775,     /* what dnr_read writes */
     DNR_MAX_RECORDS = 16,      /* records of a sheet */
     DNR_MAX_ADDRESSES = 63,    /* addresses of a record */
-    DNR_MAX_PARAMETERS = 1024  /* the parameters of a record */
+    DNR_MAX_PARAMETERS = 1024, /* the parameters of a record */
+    DNR_MAX_WORDS = 160        /* what dnr_words writes, with the closing 0 */
 };
 
-/* What the fields named number and fault hold.
+/* What the fields named number and fault hold, with the words that dnr_words says of each.
  * The refusals are answers of a call: 1 to 5 of dnr_read, tested in this order; 2, 40, 41, 42, 4, 43, then for each record in turn the
  * faults 21 to 28, then 44, then 5 of dnr_write, tested in this order.
  * The faults are why dnr_read discarded a block: the first of them in the order below. */
@@ -53,27 +57,29 @@ enum {
     DNR_DONE = 0,
 
     DNR_REFUSAL_CARRIER = 1,        /* carrier number not 1 to 5 */
-    DNR_REFUSAL_INPUT = 2,          /* input longer than 40,960 */
-    DNR_REFUSAL_FRAMING = 3,        /* area framing: a header or body runs past the end, or carrier 3 length 0 */
-    DNR_REFUSAL_RECORDS = 4,        /* more than 16 records kept, or a sheet's count above 16 */
+    DNR_REFUSAL_INPUT = 2,          /* input longer than 40,960 octets */
+    DNR_REFUSAL_FRAMING = 3,        /* the area is not whole options: a header or body runs past the end, or a length of 0 in a router advertisement */
+    DNR_REFUSAL_RECORDS = 4,        /* more than 16 records */
     DNR_REFUSAL_ROOM = 5,           /* output shorter than the result */
 
-    DNR_FAULT_FIELD = 20,           /* block: a field runs past its end, an instance past the joined data, or no instance */
-    DNR_FAULT_PADDING = 29,         /* carrier 3: padding not 0 to 7 zeros */
+    DNR_FAULT_FIELD = 20,           /* the block ends too early: a length says more octets than are left, or a field is missing */
+    DNR_FAULT_PADDING = 29,         /* what follows the last field is not 0 to 7 zeros */
     DNR_FAULT_PRIORITY = 21,        /* priority 0 (AliasMode) */
-    DNR_FAULT_NAME = 22,            /* name */
-    DNR_FAULT_ADDRESSES = 23,       /* address length 0 or no multiple, no addresses, or name only in carriers 4, 5 */
-    DNR_FAULT_LIMIT = 24,           /* more than 63 addresses as carried, or over 1,024 octets of parameters */
-    DNR_FAULT_DROPPED = 25,         /* reading: no address is left after dropping; writing: an address to be dropped is present */
-    DNR_FAULT_PARAMETERS = 26,      /* parameters: tiling, order, key 65535 */
-    DNR_FAULT_HINT = 27,            /* key 4 or 6 */
-    DNR_FAULT_VALUE = 28,           /* value of key 0, 1, 2 or 3 */
+    DNR_FAULT_NAME = 22,            /* the name is no host name: labels of 1 to 63 letters, digits and inner hyphens, 255 octets in all */
+    DNR_FAULT_ADDRESSES = 23,       /* no addresses, their length is no multiple of 4 (IPv4) or 16 (IPv6), or name only in IKEv2 */
+    DNR_FAULT_LIMIT = 24,           /* more than 63 addresses, or over 1,024 octets of parameters */
+    DNR_FAULT_DROPPED = 25,         /* no usable address, or an unusable one in a sheet */
+    DNR_FAULT_PARAMETERS = 26,      /* service parameters are cut short, or their keys do not rise, or one is 65535 */
+    DNR_FAULT_HINT = 27,            /* address hint among the service parameters (key 4 or 6), where addresses have a field of their own */
+    DNR_FAULT_VALUE = 28,           /* the value of a service parameter is not as its key asks: mandatory (0), alpn (1),
+                                       no-default-alpn (2) or port (3) */
 
-    DNR_REFUSAL_SHEET = 40,         /* sheet shorter than 7 octets, or not RSV */
-    DNR_REFUSAL_VERSION = 41,       /* sheet version not 1 */
-    DNR_REFUSAL_SHEET_CARRIER = 42, /* sheet carrier not 1 to 5 */
-    DNR_REFUSAL_TILING = 43,        /* sheet does not tile, mode not 0 or 1, priorities fall, lifetime where none belongs */
-    DNR_REFUSAL_LARGE = 44          /* carrier 3 record above 2,040 octets when rounded */
+    DNR_REFUSAL_SHEET = 40,         /* not a record sheet: shorter than 7 octets, or not beginning with RSV */
+    DNR_REFUSAL_VERSION = 41,       /* record sheet version not 1 */
+    DNR_REFUSAL_SHEET_CARRIER = 42, /* record sheet carrier not 1 to 5 */
+    DNR_REFUSAL_TILING = 43,        /* the record sheet is damaged: lengths do not add up, a mode is not 0 or 1, priorities fall, or a
+                                       lifetime stands where none belongs */
+    DNR_REFUSAL_LARGE = 44          /* router advertisement record above 2,040 octets */
 };
 
 /* The record sheet. Its fields in order, with the octets of those that have a fixed number:
@@ -121,6 +127,14 @@ typedef struct {
  * one of 1 to 255, without the end option 255; the others as an option or attribute each. Nothing is written for a sheet of no records,
  * and nothing is dropped: an address that reading would drop is refused with 25. */
 dnr_writing dnr_write(const uint8_t *sheet, size_t sheet_len, uint8_t *octets, size_t octets_len);
+
+/* Says in words, in English and ASCII, what a number means: 0 "done", a refusal or a fault as it stands beside it above, any other
+ * "unknown number". As many characters as fit are written to text before a closing 0, and nothing past that; with text_len 0, nothing.
+ * Gives back how many characters stand before the 0. With DNR_MAX_WORDS octets of room no word is ever cut:
+ *
+ *     char why[DNR_MAX_WORDS]; dnr_words(reading.fault, why, sizeof why); puts(why);
+ */
+size_t dnr_words(size_t number, char *text, size_t text_len);
 
 #ifdef __cplusplus
 }

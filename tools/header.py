@@ -4,8 +4,10 @@
 Writes C to standard output that compiles (gcc -fsyntax-only -Werror) exactly when the header declares every exported function of LIB.rt
 with the parameters and the result of the source, the #[repr(C)] structs of all sources have in the header the same fields in order,
 type and size, and the refusals, faults and limits of the sources have in the header the same numbers. A function that the source does not
-export and the header declares is found by its name. RAW.rs has the same structs with the same fields.
+export and the header declares is found by its name. RAW.rs has the same structs with the same fields, and a declaration of each function.
+The sources are LIB.rt, the others that are named, and those beside it of the crates whose functions it calls.
 """
+import pathlib
 import re
 import sys
 
@@ -31,6 +33,7 @@ class Source:
     def __init__(self, paths):
         text = plain(*paths)
         self.numbers = dict(re.findall(r"\bconst (\w+): usize = (\d+);", text))
+        self.limits = dict(re.findall(r"^pub const (MAX_\w+): usize = (\d+);", text, re.M))
         self.structs = dict(re.findall(STRUCT, text, re.S))
         self.types = {name: dict(re.findall(r"const (\w+): usize = (\d+);", body)) for name, body in re.findall(r"^impl (\w+) \{(.*?)^\}", text, re.S | re.M)}
         self.errors = []
@@ -42,11 +45,12 @@ class Source:
         return NUMBERS.get(name, PREFIX + name.lower())
 
     def c_parameter(self, name, kind):
-        """A slice is a pointer and a length."""
+        """A slice is a pointer and a length; one of octets that is named text holds characters."""
         slice_of = re.fullmatch(r"&(mut )?\[(\w+)\]", kind)
         if slice_of:
             const = "" if slice_of.group(1) else "const "
-            return f"{const}{self.c_type(slice_of.group(2))} *{name}, size_t {name}_len"
+            element = "char" if (name, slice_of.group(2)) == ("text", "u8") else self.c_type(slice_of.group(2))
+            return f"{const}{element} *{name}, size_t {name}_len"
         return f"{self.c_type(kind)} {name}"
 
     def c_fields(self, struct):
@@ -79,29 +83,56 @@ def hold_numbers(source, header):
         for name, number in source.types.get(kind, {}).items():
             if all_of_them or re.search(rf"\b{prefix}{name}\b", header):
                 print(f'_Static_assert({prefix}{name} == {number}, "{kind}::{name}");')
+    for name, number in source.limits.items():
+        print(f'_Static_assert(DNR_{name} == {number}, "{name}");')
 
 
-def hold_rust(source, path):
-    theirs = {name: re.findall(FIELD, body) for name, body in re.findall(STRUCT, plain(path), re.S)}
+def rust_parameter(name, kind):
+    """A parameter as Rust declares it for C."""
+    slice_of = re.fullmatch(r"&(mut )?\[(\w+)\]", kind)
+    if slice_of:
+        element = "c_char" if (name, slice_of.group(2)) == ("text", "u8") else slice_of.group(2)
+        return f"{name}: *{'mut' if slice_of.group(1) else 'const'} {element}, {name}_len: usize"
+    return f"{name}: {kind}"
+
+
+def hold_rust(source, path, functions):
+    text = plain(path)
+    theirs = {name: re.findall(FIELD, body) for name, body in re.findall(STRUCT, text, re.S)}
+    theirs.update({name: rest for name, rest in re.findall(r"pub fn (\w+)(\(.*?);", text)})
     mine = {name: re.findall(FIELD, body) for name, body in source.structs.items()}
+    for name, parameters, result in functions:
+        mine[name] = f"({', '.join(rust_parameter(*p) for p in parameters)})" + (f" -> {result}" if result else "")
     source.errors += [f"#error {name} differs in {path}" for name in sorted(mine.keys() | theirs) if mine.get(name) != theirs.get(name)]
+
+
+def exports(text):
+    """Name, parameters and result of each function that a source exports."""
+    pattern = r'#\[no_mangle\]\s*pub extern "C" fn (\w+)\((.*?)\)(?: -> (\w+))?\s*(?:requires|ensures|\{)'
+    for name, parameters, result in re.findall(pattern, text, re.S):
+        yield name, re.findall(r"(\w+): (&(?:mut )?\[\w+\]|\w+)", parameters), result
+
+
+def called(library):
+    """The sources of the crates that stand beside a library's and of which it names a function or a type."""
+    crates = pathlib.Path(library).parent.parent.parent
+    paths = [crates / name / "src" / "lib.rt" for name in sorted(set(re.findall(r"\b(\w+)::", plain(library))))]
+    return [path for path in paths if path.exists()]
 
 
 def main(header, rust, library, *more):
     text = plain(library)
     said = re.sub(r"/\*.*?\*/", "", open(header).read(), flags=re.S)
     declared = set(re.findall(r"\b(%s\w+)\(" % PREFIX, said))
-    source = Source((library, *more))
+    source = Source((library, *more, *called(library)))
     print(f'#include "{header}"')
+    functions = list(exports(text))
+    exported = {name for name, _, _ in functions}
     hold_structs(source)
     hold_numbers(source, said)
-    hold_rust(source, rust)
-    exported = set()
-    pattern = r'#\[no_mangle\]\s*pub extern "C" fn (\w+)\((.*?)\)(?: -> (\w+))?\s*(?:requires|ensures|\{)'
-    for name, parameters, result in re.findall(pattern, text, re.S):
-        exported.add(name)
-        found = re.findall(r"(\w+): (&(?:mut )?\[\w+\]|\w+)", parameters)
-        print(f"{source.c_type(result) if result else 'void'} {name}({', '.join(source.c_parameter(*p) for p in found) or 'void'});")
+    hold_rust(source, rust, functions)
+    for name, parameters, result in functions:
+        print(f"{source.c_type(result) if result else 'void'} {name}({', '.join(source.c_parameter(*p) for p in parameters) or 'void'});")
     for name in sorted(declared - exported):
         print(f"#error {name} is declared and not exported")
     for name in sorted(exported - declared):

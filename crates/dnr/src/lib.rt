@@ -6,6 +6,9 @@ ghost use Rattle.reading.specs.Reading.{readOf};
 ghost use Rattle.reading.specs.Result.{Reads};
 ghost use Rattle.written.specs.Writing.{writeOf};
 ghost use Rattle.writing.specs.Writes.{Writes};
+ghost use Rattle.words.specs.Words.{wordsOf};
+ghost use Rattle.words.specs.Strings.{PutsString};
+use octets::lesser;
 use reading::Reading;
 use writing::Writing;
 
@@ -30,4 +33,18 @@ pub extern "C" fn dnr_write(sheet: &[u8], octets: &mut [u8]) -> Writing
     ensures { λ r. ⌜ Writes (writeOf (now (sheet .entry)) (length (now (octets .entry)))) (now (octets .entry)) r (now (octets .exit)) ⌝ }
 {
     writing::write(sheet, octets)
+}
+
+// Writes the words of a number as a C string, as far as there is room, and gives back how many octets stand before its closing 0.
+#[no_mangle]
+pub extern "C" fn dnr_words(number: usize, text: &mut [u8]) -> usize
+    ensures { λ r. ⌜ PutsString (wordsOf number) (now (text .entry)) r (now (text .exit)) ⌝ }
+{
+    if text.len() == 0 {
+        return 0;
+    }
+    let written = words::put_words(text, 0, number);
+    let end = lesser(written, text.len() - 1);
+    text[end] = 0;
+    end
 }

@@ -1,3 +1,5 @@
 pub mod Words
 pub mod Encoded
 pub mod EncodedLaws
+pub mod Strings
+pub mod StringsLaws

@@ -63,11 +63,11 @@ fn print_resolvers(carrier: Carrier, area: &[u8]) -> ExitCode {
     let (sheet, reading) = match read_to_vec(carrier, area) {
         Ok(read) => read,
         Err(refusal) => {
-            println!("{carrier}: refusal {}", refusal.number());
+            println!("{carrier}: {refusal}");
             return ExitCode::from(1);
         }
     };
-    let first = reading.first_fault.map_or(String::new(), |fault| format!(", first fault {}", fault.number()));
+    let first = reading.first_fault.map_or(String::new(), |fault| format!(", first {fault}"));
     println!("{carrier}: {} found, {} discarded{first}", reading.found, reading.discarded);
     for record in records(&sheet) {
         print_record(carrier, &record);

@@ -2,8 +2,8 @@
 //!
 //! [`read`] takes an area, which is the options field of a DHCP message or router advertisement or a run of IKEv2 configuration
 //! attributes, and writes a record sheet; [`write()`] takes a sheet and writes the options or attributes that carry it; [`records`] shows
-//! what a sheet holds. The calls take any octets and any buffer, keep no state and never panic. [`read_to_vec`] and [`write_to_vec`]
-//! allocate the output; nothing else allocates.
+//! what a sheet holds; [`words`] says what a number that the calls give back means. The calls take any octets and any buffer, keep no state
+//! and never panic. [`read_to_vec`], [`write_to_vec`] and what says words allocate their output; nothing else allocates.
 //!
 //! ```
 //! # fn main() -> Result<(), dnr::Refusal> {
@@ -45,6 +45,8 @@ pub const MAX_RECORDS: usize = 16;
 pub const MAX_SHEET: usize = 36_775;
 /// A buffer of this length is never too short for [`write()`], whose octets can always be read back.
 pub const MAX_OCTETS: usize = 40_960;
+/// The octets of room with which the library never cuts the words of a number, one for the closing 0 among them.
+pub const MAX_WORDS: usize = 160;
 
 /// What a reading that is done tells beside the sheet.
 #[derive(Clone, Copy, Debug, PartialEq, Eq)]
@@ -118,4 +120,18 @@ fn cut(mut octets: Vec<u8>, length: usize) -> Vec<u8> {
     octets.truncate(length);
     octets.shrink_to_fit();
     octets
+}
+
+/// What a number that a call gives back means, in the library's words: 0, or the number of a [`Refusal`] or a [`Fault`]; any other is an
+/// unknown number.
+///
+/// ```
+/// assert_eq!(dnr::words(4), "more than 16 records");
+/// assert_eq!(dnr::words(1000), "unknown number");
+/// ```
+pub fn words(number: usize) -> String {
+    let mut text = [0; MAX_WORDS];
+    // SAFETY: the pointer is valid for the length beside it, and the library does not keep it.
+    let length = unsafe { raw::dnr_words(number, text.as_mut_ptr().cast(), text.len()) };
+    text[..length].iter().map(|octet: &u8| char::from(*octet)).collect()
 }

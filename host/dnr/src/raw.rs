@@ -2,6 +2,8 @@
 //!
 //! A pointer is valid for the length beside it, or that length is 0; the library keeps none. The safe calls of this crate are made of these.
 
+use std::os::raw::c_char;
+
 /// `dnr_reading`.
 #[repr(C)]
 #[derive(Clone, Copy, Debug, PartialEq, Eq)]
@@ -33,4 +35,6 @@ extern "C" {
     pub fn dnr_read(carrier: usize, area: *const u8, area_len: usize, sheet: *mut u8, sheet_len: usize) -> Reading;
     /// Writes the octets of a record sheet.
     pub fn dnr_write(sheet: *const u8, sheet_len: usize, octets: *mut u8, octets_len: usize) -> Writing;
+    /// Writes the words of a number as a C string, as far as there is room, and gives back how many octets stand before its closing 0.
+    pub fn dnr_words(number: usize, text: *mut c_char, text_len: usize) -> usize;
 }
