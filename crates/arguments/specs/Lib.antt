@@ -6,3 +6,4 @@ pub mod Tables
 pub mod Line
 pub mod LineLaws
 pub mod Ended
+pub mod Heard

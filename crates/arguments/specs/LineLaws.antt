@@ -9,8 +9,8 @@ use borrow.Author.Tests.{eq-eqb, ne-eqb}
 use lib.ListN.{length, length-append}
 use Rattle.arguments.specs.declared.Asked.{Asked}
 use Rattle.arguments.specs.Tables.{optionOf, isOption, frontOf}
-use Rattle.arguments.specs.Line.{attached, chosen, withOption, withPlain, withWord}
-use Rattle.arguments.specs.Line.{but, from, decided, carried, withOutput, Argument, withGiven, withArgument, withRest, settledOf, askedOf}
+use Rattle.arguments.specs.Line.{but, from, decided, withOutput, attached, chosen, withOption, carried, withPlain, withWord, heard, withNext}
+use Rattle.arguments.specs.Line.{Argument, withArgument, withRest, settledOf, askedOf}
 use Rattle.arguments.specs.Line.{Argued, Begun, Given}
 use Rattle.arguments.specs.Wrong as wrong
 
@@ -28,7 +28,7 @@ module _ (i k : ℕ) (a : Asked) where
 module _ (i : ℕ) (w : List ℕ) (a : Asked) where
   -- an option that no table has, and one that has the number k
   module _ {k : ℕ} (e : k ≡ optionOf w) where
-    pub option-none : k ≡ 0 → attached i (length w) (frontOf w) a ≡ withOption i w a
+    pub option-none : k ≡ 0 → attached i w (frontOf w) a ≡ withOption i w a
     option-none z = rw (eq-eqb (optionOf w) 0 (sym e ∙ z))
 
     pub option-some : (k ≡ 0 → ⊥) → chosen i k a ≡ withOption i w a
@@ -44,28 +44,26 @@ module _ (i : ℕ) (w : List ℕ) (a : Asked) where
   pub word-plain : a .ended ≡ false → isOption w ≡ false → withPlain i w a ≡ withWord i w a
   word-plain e t = rw (e, t)
 
--- ---- one argument more
-
-module _ (i : ℕ) (x : Argument) (a : Asked) where
-  pub argued-decided : decided a ≡ true → a ≡ withArgument i x a
-  argued-decided d = rw d
+  -- the next word: where no further one matters, after `-o`, and elsewhere
+  pub next-decided : decided a ≡ true → heard w a ≡ withNext i w a
+  next-decided d = rw d
 
   module _ (d : decided a ≡ false) where
-    pub argued-name : a .pending ≡ true → withOutput i a ≡ withArgument i x a
-    argued-name p = rw (d, p)
+    pub next-name : a .pending ≡ true → withOutput i w a ≡ withNext i w a
+    next-name p = rw (d, p)
 
-    pub argued-word : a .pending ≡ false → withGiven i x a ≡ withArgument i x a
-    argued-word p = rw (d, p)
+    pub next-word : a .pending ≡ false → withWord i w a ≡ withNext i w a
+    next-word p = rw (d, p)
 
 -- ---- a line
 
--- one argument more after others
-rest-more : (i : ℕ) (xs : List Argument) (x : Argument) (a : Asked) → withRest i (xs ++ (x ∷ [])) a ≡ withArgument (i + length xs) x (withRest i xs a)
+-- arguments after others
+pub rest-append : (i : ℕ) (xs ys : List Argument) (a : Asked) → withRest i (xs ++ ys) a ≡ withRest (i + length xs) ys (withRest i xs a)
 unfolding withRest
-rest-more i [] x a = ap (λ (k : ℕ). withArgument k x a) (sym (add-zero i))
-rest-more i (y ∷ xs) x a =
+rest-append i [] ys a = ap (λ (k : ℕ). withRest k ys a) (sym (add-zero i))
+rest-append i (x ∷ xs) ys a =
     let e : i + 1 + length xs ≡ i + suc (length xs) = omega arith in
-    rest-more (i + 1) xs x (withArgument i y a) ∙ ap (λ (k : ℕ). withArgument k x (withRest (i + 1) xs (withArgument i y a))) e
+    rest-append (i + 1) xs ys (withArgument i x a) ∙ ap (λ (k : ℕ). withRest k ys (withRest (i + 1) xs (withArgument i x a))) e
 
 -- a is what b is with the arguments from the second to before i
 pub record Taken (b a : Asked) (i : ℕ) : Type 0 where
@@ -78,12 +76,13 @@ unfolding withRest
 taken-none a = record { rest = []; is = refl; next = refl }
 
 pub taken-more : {b a a′ : Asked} {i : ℕ} → Taken b a i → Argued i a a′ → Taken b a′ (i + 1)
+unfolding withRest
 taken-more {b} {a} {a′} {i} t x = record {
   rest = t .rest ++ (x .argument ∷ []);
   is = x .is
       ∙ ap (λ (k : ℕ). withArgument k (x .argument) a) (t .next)
       ∙ ap (withArgument (2 + length (t .rest)) (x .argument)) (t .is)
-      ∙ sym (rest-more 2 (t .rest) (x .argument) b);
+      ∙ sym (rest-append 2 (t .rest) (x .argument ∷ []) b);
   next = omega (arith, t .next, length-append (t .rest) (x .argument ∷ []));
 }
 

@@ -89,6 +89,10 @@ carrierOf w = numberIn carriers w
 abbrev pub isOption : List ℕ → Bool
 isOption w = cond (ltb (length w) 2) false (eqb (getD w 0 0) 45)
 
+-- the name `-`: standard input, standard output
+abbrev pub isDash : List ℕ → Bool
+isDash w = same w (ascii "-")
+
 abbrev pub begins : List ℕ → List ℕ → Bool
 begins x w = same (take (length x) w) x
 

@@ -45,10 +45,6 @@ onlyRead = 10
 abbrev pub showOutput : ℕ
 showOutput = 11
 
--- `--json` with `write` or `octets`
-abbrev pub writeJson : ℕ
-writeJson = 12
-
--- `--json` with `-o`
+-- `--json` with `-o -`: both would write to standard output
 abbrev pub jsonOutput : ℕ
-jsonOutput = 13
+jsonOutput = 12

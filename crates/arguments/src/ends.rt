@@ -1,6 +1,6 @@
 // What can only be told at the end of a command line: what lacks, and which options do not go with the command or with each other.
 ghost use mathlib.Core.Path.{_≡_};
-ghost use Rattle.arguments.specs.Line.{readless, shownInto, jsonless, jsonInto, wrongOf};
+ghost use Rattle.arguments.specs.Line.{readless, shownInto, jsonInto, wrongOf};
 use crate::Asked;
 use crate::Command;
 use crate::Wrong;
@@ -31,25 +31,12 @@ fn is_shown_into(a: Asked) -> bool
     false
 }
 
-// Whether `--json` stands neither with `read` nor with `show`.
-fn is_jsonless(a: Asked) -> bool
-    ensures { λ r. ⌜ r ≡ jsonless a ⌝ }
-{
-    if !a.json {
-        return false;
-    }
-    if a.command == Command::READ {
-        return false;
-    }
-    a.command != Command::SHOW
-}
-
-// Whether `--json` stands with `-o`.
+// Whether `--json` stands with `-o -`.
 fn is_json_into(a: Asked) -> bool
     ensures { λ r. ⌜ r ≡ jsonInto a ⌝ }
 {
     if a.json {
-        return a.output != 0;
+        return a.dashed;
     }
     false
 }
@@ -69,9 +56,6 @@ pub fn wrong_of(a: Asked) -> usize
     }
     if is_shown_into(a) {
         return Wrong::SHOW_OUTPUT;
-    }
-    if is_jsonless(a) {
-        return Wrong::WRITE_JSON;
     }
     if is_json_into(a) {
         return Wrong::JSON_OUTPUT;

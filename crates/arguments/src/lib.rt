@@ -2,12 +2,13 @@
 // What each word means and what is settled at the end is `arguments/Line`, which a reader can compute for any line; the system is asked only by
 // `first`, `with_argument` and `given`, of which the contracts say that their answer is what some arguments ask for.
 mod ends;
+mod output;
 mod tables;
 
 ghost use mathlib.Core.Path.{_≡_};
-ghost use Rattle.arguments.specs.Line.{only, but, decided, withForm, withPending, withOutput, attached, chosen, withOption};
-ghost use Rattle.arguments.specs.Line.{withCarrier, withInput, withPlain, withWord, begun, settledOf, Argued, Begun, Given};
-use octets::same;
+ghost use Rattle.arguments.specs.Line.{only, but, decided, withForm, chosen, withOption, withCarrier, withInput, withPlain, withWord};
+ghost use Rattle.arguments.specs.Tables.{commandOf};
+ghost use Rattle.arguments.specs.Line.{heard, withNext, withLong, begun, settledOf, Argued, Begun, Given};
 use tables::Options;
 
 // What is asked for.
@@ -78,11 +79,8 @@ impl Wrong {
     // `-o` with `show`.
     pub const SHOW_OUTPUT: usize = 11;
 
-    // `--json` with `write` or `octets`.
-    pub const WRITE_JSON: usize = 12;
-
-    // `--json` with `-o`.
-    pub const JSON_OUTPUT: usize = 13;
+    // `--json` with `-o -`: both would write to standard output.
+    pub const JSON_OUTPUT: usize = 12;
 }
 
 // What was asked so far.
@@ -97,6 +95,8 @@ pub struct Asked {
     // The file that is written, and how many octets of the argument stand before its name.
     pub output: usize,
     pub front: usize,
+    // Whether that name is `-`, standard output.
+    pub dashed: bool,
     // Whether the next word names the file that is written.
     pub pending: bool,
     // Whether `--` has stood.
@@ -124,6 +124,7 @@ impl Asked {
             input: 0,
             output: 0,
             front: 0,
+            dashed: false,
             pending: false,
             ended: false,
             json: false,
@@ -182,45 +183,6 @@ impl Asked {
         self.but(Wrong::FORM, i)
     }
 
-    // With `-o`.
-    fn with_pending(mut self, i: usize) -> Self
-        ensures { λ r. ⌜ r ≡ withPending i self ⌝ }
-    {
-        if self.output == 0 {
-            self.pending = true;
-            return self;
-        }
-        self.but(Wrong::OUTPUT, i)
-    }
-
-    // With the file that is written.
-    fn with_output(mut self, i: usize) -> Self
-        ensures { λ r. ⌜ r ≡ withOutput i self ⌝ }
-    {
-        self.output = i;
-        self.front = 0;
-        self.pending = false;
-        self
-    }
-
-    // With the file that is written, in one word of n octets with the option.
-    fn with_attached(mut self, i: usize, n: usize, front: usize) -> Self
-        ensures { λ r. ⌜ r ≡ attached i n front self ⌝ }
-    {
-        if front == 0 {
-            return self.but(Wrong::OPTION, i);
-        }
-        if self.output != 0 {
-            return self.but(Wrong::OUTPUT, i);
-        }
-        if n == front {
-            return self.but(Wrong::NO_NAME, i);
-        }
-        self.output = i;
-        self.front = front;
-        self
-    }
-
     // With an option by its number; the last is `--`.
     fn with_chosen(mut self, i: usize, option: usize) -> Self
         ensures { λ r. ⌜ r ≡ chosen i option self ⌝ }
@@ -229,7 +191,7 @@ impl Asked {
             return self.with_form(i, option);
         }
         if option == Options::OUTPUT {
-            return self.with_pending(i);
+            return output::pending(self, i);
         }
         if option == Options::JSON {
             self.json = true;
@@ -261,7 +223,7 @@ impl Asked {
     {
         let option = tables::option_named(word);
         if option == 0 {
-            return self.with_attached(i, word.len(), tables::front_of(word));
+            return output::attached(self, i, word, tables::front_of(word));
         }
         self.with_chosen(i, option)
     }
@@ -287,7 +249,7 @@ impl Asked {
             return self.but(Wrong::FILE, i);
         }
         self.words = 2;
-        if same(word, b"-") {
+        if tables::is_dash(word) {
             return self;
         }
         self.input = i;
@@ -317,22 +279,67 @@ impl Asked {
         self.with_plain(i, word)
     }
 
-    // With one argument more.
-    fn with_argument(self, i: usize) -> Self
-        ensures { λ r. ⌜ Argued i self r ⌝ }
+    // With `--json`, which is heard where no further word matters, unless `--` stood before it.
+    fn with_heard(mut self, word: &[u8]) -> Self
+        ensures { λ r. ⌜ r ≡ heard (now (word .entry)) self ⌝ }
+    {
+        if self.ended {
+            return self;
+        }
+        let option = tables::option_named(word);
+        if option == Options::JSON {
+            self.json = true;
+            return self;
+        }
+        if option == Options::END {
+            self.ended = true;
+            return self;
+        }
+        self
+    }
+
+    // The first word: the command, or none; `--json` may stand there too.
+    fn of_first(word: &[u8]) -> Self
+        ensures { λ r. ⌜ r ≡ heard (now (word .entry)) (begun (commandOf (now (word .entry)))) ⌝ }
+    {
+        let a = Self::begun(tables::command_named(word));
+        a.with_heard(word)
+    }
+
+    // With the next word, which after `-o` is a name.
+    fn with_next(self, i: usize, word: &[u8]) -> Self
+        ensures { λ r. ⌜ r ≡ withNext i (now (word .entry)) self ⌝ }
+    {
+        if self.is_decided() {
+            return self.with_heard(word);
+        }
+        if self.pending {
+            return output::named(self, i, word);
+        }
+        self.with_word(i, word)
+    }
+
+    // With an argument that is too long.
+    fn with_long(mut self, i: usize) -> Self
+        ensures { λ r. ⌜ r ≡ withLong i self ⌝ }
     {
         if self.is_decided() {
             return self;
         }
-        if self.pending {
-            return self.with_output(i);
-        }
+        self.pending = false;
+        self.but(Wrong::LONG, i)
+    }
+
+    // With one argument more.
+    fn with_argument(self, i: usize) -> Self
+        ensures { λ r. ⌜ Argued i self r ⌝ }
+    {
         let mut word = io::buffer();
         let n = os::arg(i, &mut word);
         if os::errno() != 0 {
-            return self.but(Wrong::LONG, i);
+            return self.with_long(i);
         }
-        self.with_word(i, &word[..n])
+        self.with_next(i, &word[..n])
     }
 
     // What can only be told at the end of the line.
@@ -355,7 +362,7 @@ fn first() -> Asked
     if os::errno() != 0 {
         return Asked::only(0, 0).but(Wrong::LONG, 1);
     }
-    Asked::begun(tables::command_named(&word[..n]))
+    Asked::of_first(&word[..n])
 }
 
 // What the arguments ask for.

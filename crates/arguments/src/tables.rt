@@ -1,7 +1,7 @@
 // The words of a command line that have a number, and words by how they begin (docs/COMMAND.md). A table has an entry to a line, as `words` has it: the
 // number as an octet (in hexadecimal), the word and a line break. `arguments/Tables` has the numbers by name, and the tables are proved to be the same.
 ghost use mathlib.Core.Path.{_≡_};
-ghost use Rattle.arguments.specs.Tables.{commandOf, optionOf, carrierOf, isOption, begins, frontOf};
+ghost use Rattle.arguments.specs.Tables.{commandOf, optionOf, carrierOf, isOption, isDash, begins, frontOf};
 use octets::same;
 use words::number_of;
 
@@ -107,6 +107,13 @@ pub fn is_option(word: &[u8]) -> bool
         return false;
     }
     word[0] == b'-'
+}
+
+// Whether a name is `-`: standard input, standard output.
+pub fn is_dash(name: &[u8]) -> bool
+    ensures { λ r. ⌜ r ≡ isDash (now (name .entry)) ⌝ }
+{
+    same(name, b"-")
 }
 
 // Whether a word begins with some octets.

@@ -1,6 +1,6 @@
 -- Which other carrier would find records in an area (docs/COMMAND.md, "Nothing found"). Assumes nothing: these are definitions.
-use mathlib.Core.Bool.{Bool, true, false, cond}
-use mathlib.Core.List.{List, [], _∷_}
+use mathlib.Core.Bool.{Bool, false, cond}
+use mathlib.Core.List.{List}
 use Prim.Native.Nat.{ℕ, zero, suc, _+_}
 use lib.Dec.{ltb, eqb}
 use Rattle.reading.specs.declared.Reading.{Reading}

@@ -1,6 +1,6 @@
 -- What each test of the command says of what is done, and that each status is one of the four. Assumes nothing.
-use mathlib.Core.Path.{_≡_, refl, sym, ap, subst, _∙_}
-use mathlib.Core.Bool.{Bool, true, false, cond}
+use mathlib.Core.Path.{_≡_, sym, subst}
+use mathlib.Core.Bool.{Bool, true, false}
 use mathlib.Core.List.{List}
 use Prim.Native.Nat.{ℕ, min}
 use lib.Dec.{eqb}
@@ -8,7 +8,6 @@ use lib.ListN.{length, take}
 use lib.IntN.{ℤ, pos}
 use borrow.Author.Tests.{eq-eqb, ne-eqb}
 use Rattle.carriers.specs.declared.Carrier.{Carrier}
-use Rattle.carriers.specs.declared.Chosen.{Chosen}
 use Rattle.carriers.specs.declared.Chosen.the-variants.{Known, Unknown}
 use Rattle.carriers.specs.Carriers.{chosenOf}
 use Rattle.vetting.specs.Vetting.{vetOf}
@@ -22,7 +21,7 @@ use Rattle.arguments.specs.declared.Asked.{Asked}
 use Rattle.arguments.specs.Command as command
 use Rattle.files.specs.Status.{Delivered, Exited, Answers, refused, failed}
 use Rattle.files.specs.StatusLaws.{failed-exited, refused-exited, delivered-exited, answers-exited}
-use Rattle.command.specs.Numbers.{readingOf, ReadAs, writeNumber, Shows, performing, Performs, valued, inputOf, takes, Takes}
+use Rattle.command.specs.Numbers.{readingOf, ReadAs, writeNumber, Shows, performing, Performs, inputOf, takes, Takes}
 use Rattle.command.specs.NumbersLaws.{read-exited, shows-exited}
 
 -- ---- by the command

@@ -5,9 +5,9 @@ pub fn print(fd: i32) -> bool {
     io::write_all(
         fd,
         b"usage: dnr read CARRIER [AREA] [-o SHEET] [--json] [--value] [--strict] [--force] [FORM]
-       dnr write [SHEET] [-o AREA] [FORM]
+       dnr write [SHEET] [-o AREA] [--json] [FORM]
        dnr show [SHEET] [--json] [FORM]
-       dnr octets [FILE] [-o OCTETS] [FORM]
+       dnr octets [FILE] [-o OCTETS] [--json] [FORM]
        dnr help
        dnr version
 
@@ -19,10 +19,10 @@ octets  print the octets that an input is taken for
 CARRIER      1 or dhcp4, 2 or dhcp6, 3 or ra, 4 or ike4, 5 or ike6
 AREA, SHEET  a file; standard input when none is named or it is -
 -o FILE      write the octets to a file; - is standard output
---json       print JSON instead of text
+--json       print JSON instead of text, messages too
 --value      the input is the value of an option without its header;
              several values: one a line
---strict     exit status 3 when nothing was found or something was discarded
+--strict     exit status 3 when nothing was found or a block was discarded
 --force      replace a file that has records by a sheet that has none
 FORM         --hex (text), --raw (octets as they are) or --base64; with none,
              text is taken in the form that it has, anything else as it is:

@@ -11,6 +11,8 @@ ghost use mathlib.Core.Bool.{_&&_};
 ghost use Prim.Native.Nat.{_<_};
 ghost use lib.ListN.{length};
 ghost use Rattle.decoding.specs.Decoding.{Answered, room};
+ghost use lib.IntN.{pos};
+ghost use Rattle.files.specs.Status as status;
 ghost use Rattle.files.specs.Status.{Delivered, Exited, Answers};
 ghost use Rattle.command.specs.Hints.{findsIn, suitsIn, hintOf};
 ghost use Rattle.command.specs.Numbers.{readingOf, less, Gives, ReadAs, writeNumber, Shows, Performs, inputOf, Takes};
@@ -76,14 +78,37 @@ fn hint(carrier: usize, area: &[u8]) -> usize
     0
 }
 
-// Says that nothing was found, or that something was discarded.
-fn tell(name: &[u8], carrier: usize, area: &[u8], r: Reading) {
-    if r.found == 0 {
-        messages::nothing(name, carrier, area.len(), hint(carrier, area));
+// Says that the area is refused; where it cannot be framed, another carrier may find records.
+fn refuse(a: Asked, name: &[u8], area: &[u8], number: usize) -> i32
+    ensures { λ r. ⌜ r ≡ pos status.refused ⌝ }
+{
+    if number == Refusal::FRAMING {
+        return messages::refused(a.json, name, number, hint(a.carrier, area));
+    }
+    messages::refused(a.json, name, number, 0)
+}
+
+// Says how many blocks were discarded; where all were, another carrier may find records.
+fn tell_less(a: Asked, name: &[u8], area: &[u8], r: Reading) {
+    if r.discarded == 0 {
         return;
     }
-    if r.discarded != 0 {
-        messages::warn(r.discarded, r.found, r.fault);
+    if r.discarded < r.found {
+        messages::less(a.json, name, r.discarded, r.found, 0);
+        return;
+    }
+    messages::less(a.json, name, r.discarded, r.found, hint(a.carrier, area));
+}
+
+// Says that nothing was found, or what was left out: the discarded blocks and the dropped addresses.
+fn tell(a: Asked, name: &[u8], area: &[u8], r: Reading) {
+    if r.found == 0 {
+        messages::nothing(a.json, name, a.carrier, area.len(), hint(a.carrier, area));
+        return;
+    }
+    tell_less(a, name, area, r);
+    if let Chosen::Known(c) = Carrier::of(a.carrier) {
+        telling::list(a.json, name, c, area);
     }
 }
 
@@ -106,15 +131,30 @@ fn save_sheet(a: Asked, r: Reading, sheet: &[u8]) -> i32
     ensures { λ r. ⌜ Delivered r ⌝ }
 {
     if r.found != r.discarded {
-        return output::save(a.output, a.front, sheet);
+        return output::save(a.json, a.output, a.front, sheet);
     }
     if a.force {
-        return output::save(a.output, a.front, sheet);
+        return output::save(a.json, a.output, a.front, sheet);
     }
     if has_records(a) {
-        return output::keep(a.output, a.front);
+        return output::keep(a.json, a.output, a.front);
     }
-    output::save(a.output, a.front, sheet)
+    output::save(a.json, a.output, a.front, sheet)
+}
+
+// Saves a sheet; in JSON its length is then printed.
+fn give_saved(a: Asked, r: Reading, sheet: &[u8], text: &mut [u8]) -> i32
+    ensures { λ r. ⌜ Delivered r ⌝ }
+{
+    let status = save_sheet(a, r, sheet);
+    if status != 0 {
+        return status;
+    }
+    if !a.json {
+        return status;
+    }
+    let n = results::put_saved(text, r.found, r.discarded, r.fault, sheet.len());
+    output::print(a.json, &text[..n])
 }
 
 // Prints a reading, or saves its sheet.
@@ -122,10 +162,10 @@ fn give_reading(a: Asked, r: Reading, sheet: &[u8], text: &mut [u8]) -> i32
     ensures { λ r. ⌜ Delivered r ⌝ }
 {
     if a.output != 0 {
-        return save_sheet(a, r, sheet);
+        return give_saved(a, r, sheet, text);
     }
     let n = results::put(text, a.json, r.found, r.discarded, r.fault, sheet);
-    output::print(&text[..n])
+    output::print(a.json, &text[..n])
 }
 
 // The status of a reading whose sheet was given with a status: with `--strict` no, where nothing was found or something was discarded.
@@ -154,11 +194,11 @@ fn read(a: Asked, name: &[u8], area: &[u8], text: &mut [u8]) -> i32
     let mut sheet = [0u8; Limit::SHEET];
     let r = reading::read(a.carrier, area, &mut sheet);
     if r.number != 0 {
-        return messages::refused(name, r.number);
+        return refuse(a, name, area, r.number);
     }
     let n = r.length;
     let status = give_reading(a, r, &sheet[..n], text);
-    tell(name, a.carrier, area, r);
+    tell(a, name, area, r);
     settled(a.strict, r, status)
 }
 
@@ -169,9 +209,9 @@ fn give_octets(a: Asked, s: &[u8], text: &mut [u8]) -> i32
     ensures { λ r. ⌜ Delivered r ⌝ }
 {
     if a.output != 0 {
-        return output::save(a.output, a.front, s);
+        return output::save_octets(a.json, a.output, a.front, s);
     }
-    output::print_hex(s, text)
+    output::print_hex(a.json, s, text)
 }
 
 // Writes the octets of a sheet.
@@ -181,7 +221,7 @@ fn write(a: Asked, name: &[u8], sheet: &[u8], text: &mut [u8]) -> i32
     let mut octets = [0u8; OCTETS];
     let w = writing::write(sheet, &mut octets);
     if w.number != 0 {
-        return messages::refused(name, w.number);
+        return messages::refused(a.json, name, w.number, 0);
     }
     let n = w.length;
     give_octets(a, &octets[..n], text)
@@ -192,7 +232,7 @@ fn print_sheet(sheet: &[u8], json: bool, text: &mut [u8]) -> i32
     ensures { λ r. ⌜ Delivered r ⌝ }
 {
     let n = showing::show(sheet, text, json);
-    output::print(&text[..n])
+    output::print(json, &text[..n])
 }
 
 // Shows a sheet that writing accepts: one that passes, and of which no record is large (44).
@@ -200,10 +240,10 @@ fn show(a: Asked, name: &[u8], sheet: &[u8], text: &mut [u8]) -> i32
     ensures { λ r. ⌜ Shows (vetting.told (vetOf (now (sheet .entry)))) r ⌝ }
 {
     match vetting::vet(sheet) {
-        Vetted::Refused(k) => messages::refused(name, k),
+        Vetted::Refused(k) => messages::refused(a.json, name, k, 0),
         Vetted::Sheet { large, .. } => {
             if large {
-                return messages::refused(name, Refusal::LARGE);
+                return messages::refused(a.json, name, Refusal::LARGE, 0);
             }
             print_sheet(sheet, a.json, text)
         }
@@ -260,8 +300,8 @@ fn perform_on(a: Asked, name: &[u8], text: &[u8]) -> i32
             let end = lesser(n, Limit::INPUT);
             perform(a, name, &given[..end])
         }
-        Read::Bad { at, why } => messages::unread(name, places::line(text, at), why),
-        Read::Long => messages::refused(name, Refusal::INPUT),
+        Read::Bad { at, why } => messages::unread(a.json, name, places::line(text, at), why),
+        Read::Long => messages::refused(a.json, name, Refusal::INPUT, 0),
     }
 }
 
@@ -269,13 +309,13 @@ fn perform_on(a: Asked, name: &[u8], text: &[u8]) -> i32
 fn run_on(a: Asked, name: &[u8], text: &mut [u8]) -> i32
     ensures { λ r. ⌜ Exited r ⌝ }
 {
-    let got = input::read(a.input, name, text);
+    let got = input::read(a.json, a.input, name, text);
     if got.failed {
         return 2;
     }
     let n = got.length;
     if input::MOST < n {
-        return messages::long(name);
+        return messages::long(a.json, name);
     }
     perform_on(a, name, &text[..n])
 }
@@ -304,7 +344,17 @@ fn print_help() -> i32
     if help::print(STDOUT_FILENO) {
         return 0;
     }
-    messages::failed(b"standard output")
+    messages::failed(false, b"standard output")
+}
+
+// Prints the version.
+fn print_version(json: bool) -> i32
+    ensures { λ r. ⌜ Delivered r ⌝ }
+{
+    if json {
+        return output::print(json, b"{\"version\":\"0.1.0\"}\n");
+    }
+    output::print(json, b"dnr 0.1.0\n")
 }
 
 // The command, with the arguments of the process; its answer is the exit status.
@@ -323,7 +373,7 @@ pub fn execute() -> i32
         return print_help();
     }
     if a.command == Command::VERSION {
-        return output::print(b"dnr 0.1.0\n");
+        return print_version(a.json);
     }
     run(a)
 }

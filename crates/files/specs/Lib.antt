@@ -1,3 +1,4 @@
+pub mod Errno
 pub mod Status
 pub mod StatusLaws
 pub mod Modes

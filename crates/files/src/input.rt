@@ -72,38 +72,38 @@ fn fill(fd: i32, buf: &mut [u8]) -> Got
 }
 
 // Reads the file of a path, and says why where it cannot.
-fn read_file(path: &[u8], buf: &mut [u8]) -> Got
+fn read_file(json: bool, path: &[u8], buf: &mut [u8]) -> Got
     ensures { λ r. ⌜ Counts (r .length) (now (buf .exit)) ⌝ }
 {
     let fd = os::open_read(path);
     if fd < 0 {
-        messages::failed(path);
+        messages::failed(json, path);
         return unread();
     }
-    let got = read_from(fd, path, buf);
+    let got = read_from(json, fd, path, buf);
     libc::close(fd);
     got
 }
 
 // Reads what is open, and says why where it cannot.
-fn read_from(fd: i32, name: &[u8], buf: &mut [u8]) -> Got
+fn read_from(json: bool, fd: i32, name: &[u8], buf: &mut [u8]) -> Got
     ensures { λ r. ⌜ Counts (r .length) (now (buf .exit)) ⌝ }
 {
     let got = fill(fd, buf);
     if got.failed {
-        messages::failed(name);
+        messages::failed(json, name);
     }
     got
 }
 
 // Reads the file that argument i names, or standard input.
-pub fn read(i: usize, name: &[u8], buf: &mut [u8]) -> Got
+pub fn read(json: bool, i: usize, name: &[u8], buf: &mut [u8]) -> Got
     ensures { λ r. ⌜ Counts (r .length) (now (buf .exit)) ⌝ }
 {
     if i == 0 {
-        return read_from(STDIN_FILENO, name, buf);
+        return read_from(json, STDIN_FILENO, name, buf);
     }
-    read_file(name, buf)
+    read_file(json, name, buf)
 }
 
 // ---- what an output would replace

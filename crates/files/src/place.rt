@@ -62,11 +62,11 @@ fn make(part: &mut [u8], old: Known) -> i32 {
 }
 
 // Says why no file could be made. That it was to stand beside the target matters only where there is one, which itself can be written.
-fn say_unmade(name: &[u8], old: Known) {
+fn say_unmade(json: bool, name: &[u8], old: Known) {
     if old.mode == 0 {
-        messages::failed(name);
+        messages::failed(json, name);
     } else {
-        messages::failed_beside(name);
+        messages::failed_beside(json, name);
     }
 }
 
@@ -82,14 +82,14 @@ fn write_whole(fd: i32, old: Known, s: &[u8]) -> bool {
 }
 
 // The same, and closes the file; says why where one of them cannot be done.
-fn fill(fd: i32, old: Known, name: &[u8], s: &[u8]) -> bool {
+fn fill(json: bool, fd: i32, old: Known, name: &[u8], s: &[u8]) -> bool {
     if !write_whole(fd, old, s) {
-        messages::failed(name);
+        messages::failed(json, name);
         libc::close(fd);
         return false;
     }
     if libc::close(fd) != 0 {
-        messages::failed(name);
+        messages::failed(json, name);
         return false;
     }
     true
@@ -118,20 +118,20 @@ fn sync_folder_of(path: &[u8]) {
 }
 
 // Writes octets to a new file `part`, and gives it the name `path`.
-fn replace_by(part: &mut [u8], path: &[u8], old: Known, name: &[u8], s: &[u8]) -> i32
+fn replace_by(json: bool, part: &mut [u8], path: &[u8], old: Known, name: &[u8], s: &[u8]) -> i32
     ensures { λ r. ⌜ Delivered r ⌝ }
 {
     let fd = make(part, old);
     if fd < 0 {
-        say_unmade(name, old);
+        say_unmade(json, name, old);
         return 2;
     }
-    if !fill(fd, old, name, s) {
+    if !fill(json, fd, old, name, s) {
         os::unlink(part);
         return 2;
     }
     if os::rename(part, path) != 0 {
-        messages::failed(name);
+        messages::failed(json, name);
         os::unlink(part);
         return 2;
     }
@@ -141,22 +141,22 @@ fn replace_by(part: &mut [u8], path: &[u8], old: Known, name: &[u8], s: &[u8]) -
 
 // Makes a file of octets at a path, or replaces it. The new file's name is short and has nothing of the target's: it fits wherever that one does.
 // It is hidden, so that whoever reads all files of a folder sees whole results alone.
-fn replace_at(path: &[u8], old: Known, name: &[u8], s: &[u8]) -> i32
+fn replace_at(json: bool, path: &[u8], old: Known, name: &[u8], s: &[u8]) -> i32
     ensures { λ r. ⌜ Delivered r ⌝ }
 {
     let mut part = [0u8; PART];
     let at = links::folder(path);
     let from = put_all(&mut part, 0, &path[..at]);
     let n = put_all(&mut part, from, b".dnr.XXXXXX");
-    replace_by(&mut part[..n], path, old, name, s)
+    replace_by(json, &mut part[..n], path, old, name, s)
 }
 
 // Makes a file of octets, or replaces the one that a name leads to.
-pub fn replace(name: &[u8], old: Known, s: &[u8]) -> i32
+pub fn replace(json: bool, name: &[u8], old: Known, s: &[u8]) -> i32
     ensures { λ r. ⌜ Delivered r ⌝ }
 {
     let mut path = io::buffer();
     let n = put_all(&mut path, 0, name);
     let m = links::follow(&mut path, n);
-    replace_at(&path[..m], old, name, s)
+    replace_at(json, &path[..m], old, name, s)
 }

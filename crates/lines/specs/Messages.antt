@@ -1,4 +1,5 @@
--- What the command says on standard error (docs/COMMAND.md), each message whole. Assumes nothing: these are definitions.
+-- What the command says on standard error (docs/COMMAND.md) of its command line and of the system, each message whole, and the parts that the others have
+-- in common with them. Assumes nothing: these are definitions.
 use mathlib.Core.Bool.{cond}
 use mathlib.Core.List.{List, [], _∷_, _++_}
 use Prim.Native.Nat.{ℕ}
@@ -11,23 +12,23 @@ use Rattle.arguments.specs.Wrong as wrong
 abbrev pub countOf : List ℕ → ℕ → List ℕ
 countOf before n = before ++ decimalOf n
 
--- a number given back (RULES R1 to R44), its words and a line break
-unfoldable pub reasonOf : ℕ → List ℕ
-reasonOf n = decimalOf n ++ (ascii ": " ++ (wordsOf n ++ ascii "\n"))
+-- a number given back (RULES R1 to R44) and its words
+unfoldable pub wordedOf : ℕ → List ℕ
+wordedOf n = decimalOf n ++ (ascii ": " ++ wordsOf n)
 
 -- the program's name before what a message is about
 abbrev pub aboutOf : List ℕ → List ℕ
 aboutOf name = ascii "dnr: " ++ name
 
--- the input is refused by a number
-unfoldable pub refusedOf : List ℕ → ℕ → List ℕ
-refusedOf name number = aboutOf name ++ (ascii ": refused, " ++ reasonOf number)
+-- ---- a call of the system that failed
 
--- blocks were discarded
-unfoldable pub warningOf : ℕ → ℕ → ℕ → List ℕ
-warningOf discarded found fault =
-    countOf (ascii "dnr: warning: ") discarded
-    ++ (countOf (ascii " of ") found ++ (ascii " blocks discarded; the first for fault " ++ reasonOf fault))
+-- on a file; why, by the system's number
+unfoldable pub failedOf : List ℕ → ℕ → List ℕ
+failedOf name errno = aboutOf name ++ (countOf (ascii ": errno ") errno ++ ascii "\n")
+
+-- a file that is to be replaced can be written to, and no file can be made in its folder
+unfoldable pub besideOf : List ℕ → ℕ → List ℕ
+besideOf name errno = aboutOf name ++ (countOf (ascii ": cannot make a file beside it: errno ") errno ++ ascii "\n")
 
 -- ---- a command line that is wrong
 
@@ -45,8 +46,7 @@ table =
     ∷ worded wrong.form (ascii "--hex, --raw and --base64 exclude each other")
     ∷ worded wrong.onlyRead (ascii "--value, --strict and --force are for read")
     ∷ worded wrong.showOutput (ascii "show has no -o")
-    ∷ worded wrong.writeJson (ascii "only read and show have --json")
-    ∷ worded wrong.jsonOutput (ascii "--json and -o exclude each other")
+    ∷ worded wrong.jsonOutput (ascii "--json and -o - exclude each other")
     ∷ []
 
 -- the argument that is wrong follows the first four
@@ -54,4 +54,4 @@ abbrev pub culprit : ℕ → List ℕ → List ℕ
 culprit w argument = cond (leb wrong.long w) [] argument
 
 unfoldable pub usageOf : ℕ → List ℕ → List ℕ
-usageOf w argument = ascii "dnr: " ++ (wordsIn table w ++ (culprit w argument ++ ascii "\ntry dnr --help\n"))
+usageOf w argument = ascii "dnr: " ++ (wordsIn table w ++ (culprit w argument ++ ascii "\n"))

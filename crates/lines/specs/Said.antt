@@ -1,17 +1,17 @@
--- What the command says of an input that spells no octets, or in which nothing is found (docs/COMMAND.md), each message whole. Assumes nothing: these are
--- definitions.
+-- What the command says of an input (docs/COMMAND.md): that it spells no octets, is refused, that nothing or less than all is found in it, and that a file is
+-- kept; each message whole. Assumes nothing: these are definitions.
 use mathlib.Core.List.{List, [], _∷_, _++_}
 use Prim.Native.Nat.{ℕ}
 use Rattle.chars.specs.Ascii.{ascii, decimalOf}
 use Rattle.words.specs.Words.{Worded, worded, wordsIn}
 use Rattle.inputs.specs.Why as why
-use Rattle.lines.specs.Messages.{countOf, aboutOf}
+use Rattle.lines.specs.Messages.{countOf, wordedOf, aboutOf}
 
 -- ---- no octets
 
 -- why
-unfoldable pub reasons : List Worded
-reasons =
+unfoldable pub whys : List Worded
+whys =
     worded why.form (ascii "not octets in a form I know; --raw takes the input as it is")
     ∷ worded why.groups (ascii "groups of more than two digits side by side may be words or offsets; write octets apart, or one group a line")
     ∷ worded why.offset (ascii "the offset is not the number of octets before it")
@@ -22,15 +22,30 @@ reasons =
     ∷ []
 
 unfoldable pub unreadOf : List ℕ → ℕ → ℕ → List ℕ
-unreadOf name line k = aboutOf name ++ (countOf (ascii ": line ") line ++ (ascii ": " ++ (wordsIn reasons k ++ ascii "\n")))
+unreadOf name line k = aboutOf name ++ (countOf (ascii ": line ") line ++ (ascii ": " ++ (wordsIn whys k ++ ascii "\n")))
 
 -- more characters than any text of the longest input
 unfoldable pub longOf : List ℕ → List ℕ
 longOf name = aboutOf name ++ ascii ": longer than 655,360 octets\n"
 
--- ---- nothing found
+-- ---- refused, nothing found, less than all
 
--- by the carrier that was asked for
+-- what another carrier would find, by its number; 0 is none
+unfoldable pub hints : List Worded
+hints =
+    worded 0 []
+    ∷ worded 1 (ascii "; read as dhcp4 a resolver is found")
+    ∷ worded 2 (ascii "; read as dhcp6 a resolver is found")
+    ∷ worded 3 (ascii "; read as ra a resolver is found")
+    ∷ worded 4 (ascii "; read as ike4 a resolver is found")
+    ∷ worded 5 (ascii "; read as ike6 a resolver is found")
+    ∷ []
+
+-- the input is refused by a number
+unfoldable pub refusedOf : List ℕ → ℕ → ℕ → List ℕ
+refusedOf name number hint = aboutOf name ++ (ascii ": refused, " ++ (wordedOf number ++ (wordsIn hints hint ++ ascii "\n")))
+
+-- what was looked for, by the carrier
 unfoldable pub missing : List Worded
 missing =
     worded 1 (ascii ": no option 162 in ")
@@ -40,20 +55,15 @@ missing =
     ∷ worded 5 (ascii ": no attribute 28 in ")
     ∷ []
 
--- by a carrier that would find some, or 0
-unfoldable pub hints : List Worded
-hints =
-    worded 0 []
-    ∷ worded 1 (ascii "; read as dhcp4 they have one")
-    ∷ worded 2 (ascii "; read as dhcp6 they have one")
-    ∷ worded 3 (ascii "; read as ra they have one")
-    ∷ worded 4 (ascii "; read as ike4 they have one")
-    ∷ worded 5 (ascii "; read as ike6 they have one")
-    ∷ []
-
+-- nothing is found in n octets
 unfoldable pub nothingOf : List ℕ → ℕ → ℕ → ℕ → List ℕ
 nothingOf name carrier n hint =
     aboutOf name ++ (wordsIn missing carrier ++ (decimalOf n ++ (ascii " octets" ++ (wordsIn hints hint ++ ascii "\n"))))
+
+-- blocks were discarded, of those that were found
+unfoldable pub lessOf : List ℕ → ℕ → ℕ → ℕ → List ℕ
+lessOf name discarded found hint =
+    aboutOf name ++ (countOf (ascii ": ") discarded ++ (countOf (ascii " of ") found ++ (ascii " blocks discarded" ++ (wordsIn hints hint ++ ascii "\n"))))
 
 -- a file that has records is not replaced by a sheet that has none
 unfoldable pub keptOf : List ℕ → List ℕ

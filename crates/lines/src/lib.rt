@@ -1,14 +1,15 @@
-// The lines that the command writes, each into a lent buffer as far as there is room: its messages, and octets as hexadecimal text.
+// The lines that the command writes, each into a lent buffer as far as there is room: its messages and octets, as text and in JSON.
 // Nothing here asks the system: `files` writes what stands in the buffer.
+pub mod listed;
+pub mod objects;
 pub mod said;
 
 ghost use mathlib.Core.Path.{_≡_};
-ghost use mathlib.Core.List.{[], _∷_, _++_};
 ghost use Prim.Native.Nat.{_<_};
 ghost use Rattle.io.specs.Counts.{Counts};
 ghost use Rattle.chars.specs.Puts.{Puts};
 ghost use Rattle.words.specs.Words.{wordsIn};
-ghost use Rattle.lines.specs.Messages.{countOf, reasonOf, aboutOf, refusedOf, warningOf, table, culprit, usageOf};
+ghost use Rattle.lines.specs.Messages.{countOf, wordedOf, aboutOf, failedOf, besideOf, table, culprit, usageOf};
 ghost use Rattle.lines.specs.HexLines.{afterOf, hexLinesOf};
 use arguments::Wrong;
 use chars::put;
@@ -17,7 +18,7 @@ use chars::put_number;
 use words::put_found;
 use words::put_words;
 
-// ---- messages
+// ---- parts of messages
 
 // Writes words and the number after them.
 pub fn put_count(out: &mut [u8], at: usize, before: &[u8], n: usize) -> usize
@@ -27,15 +28,13 @@ pub fn put_count(out: &mut [u8], at: usize, before: &[u8], n: usize) -> usize
     put_number(out, next, n)
 }
 
-// Writes a number, its words and a line break.
-fn put_reason(out: &mut [u8], at: usize, number: usize) -> usize
-    ensures { λ r. ⌜ Counts r (now (out .exit)) ⌝ }
-    ensures { λ r. ⌜ Puts at (reasonOf number) (now (out .entry)) r (now (out .exit)) ⌝ }
+// Writes a number and its words.
+fn put_worded(out: &mut [u8], at: usize, number: usize) -> usize
+    ensures { λ r. ⌜ Puts at (wordedOf number) (now (out .entry)) r (now (out .exit)) ⌝ }
 {
     let numbered = put_number(out, at, number);
     let from = put_all(out, numbered, b": ");
-    let end = put_words(out, from, number);
-    put_all(out, end, b"\n")
+    put_words(out, from, number)
 }
 
 // Writes the program's name and a name that the message is about.
@@ -47,26 +46,29 @@ pub fn put_about(out: &mut [u8], name: &[u8]) -> usize
     put_all(out, next, name)
 }
 
-// Writes that the input is refused by a number.
-pub fn put_refused(out: &mut [u8], name: &[u8], number: usize) -> usize
+// ---- a call of the system that failed
+
+// Writes that a call failed on a file, and why by its number.
+pub fn put_failed(out: &mut [u8], name: &[u8], errno: usize) -> usize
     ensures { λ r. ⌜ Counts r (now (out .exit)) ⌝ }
-    ensures { λ r. ⌜ Puts 0 (refusedOf (now (name .entry)) number) (now (out .entry)) r (now (out .exit)) ⌝ }
+    ensures { λ r. ⌜ Puts 0 (failedOf (now (name .entry)) errno) (now (out .entry)) r (now (out .exit)) ⌝ }
 {
     let next = put_about(out, name);
-    let from = put_all(out, next, b": refused, ");
-    put_reason(out, from, number)
+    let end = put_count(out, next, b": errno ", errno);
+    put_all(out, end, b"\n")
 }
 
-// Writes that blocks were discarded: how many of how many, and the first one's fault.
-pub fn put_warning(out: &mut [u8], discarded: usize, found: usize, fault: usize) -> usize
+// Writes that no file can be made beside one that is to be replaced, and why by its number.
+pub fn put_beside(out: &mut [u8], name: &[u8], errno: usize) -> usize
     ensures { λ r. ⌜ Counts r (now (out .exit)) ⌝ }
-    ensures { λ r. ⌜ Puts 0 (warningOf discarded found fault) (now (out .entry)) r (now (out .exit)) ⌝ }
+    ensures { λ r. ⌜ Puts 0 (besideOf (now (name .entry)) errno) (now (out .entry)) r (now (out .exit)) ⌝ }
 {
-    let of = put_count(out, 0, b"dnr: warning: ", discarded);
-    let next = put_count(out, of, b" of ", found);
-    let from = put_all(out, next, b" blocks discarded; the first for fault ");
-    put_reason(out, from, fault)
+    let next = put_about(out, name);
+    let end = put_count(out, next, b": cannot make a file beside it: errno ", errno);
+    put_all(out, end, b"\n")
 }
+
+// ---- a command line that is wrong
 
 // Writes what is wrong (`Wrong`), from a table as `words` has it.
 fn put_text(out: &mut [u8], at: usize, wrong: usize) -> usize
@@ -87,8 +89,7 @@ fn put_text(out: &mut [u8], at: usize, wrong: usize) -> usize
           \x09--hex, --raw and --base64 exclude each other\n\
           \x0a--value, --strict and --force are for read\n\
           \x0bshow has no -o\n\
-          \x0conly read and show have --json\n\
-          \x0d--json and -o exclude each other\n",
+          \x0c--json and -o - exclude each other\n",
     )
 }
 
@@ -110,7 +111,7 @@ pub fn put_usage(out: &mut [u8], wrong: usize, argument: &[u8]) -> usize
     let from = put_all(out, 0, b"dnr: ");
     let next = put_text(out, from, wrong);
     let end = put_culprit(out, next, wrong, argument);
-    put_all(out, end, b"\ntry dnr --help\n")
+    put_all(out, end, b"\n")
 }
 
 // ---- hexadecimal text

@@ -1,10 +1,11 @@
-// What is said of an input that spells no octets, or in which nothing is found.
+// What is said of an input: that it spells no octets, is refused, that nothing or less than all is found in it, and that a file is kept.
 ghost use Rattle.io.specs.Counts.{Counts};
 ghost use Rattle.chars.specs.Puts.{Puts};
 ghost use Rattle.words.specs.Words.{wordsIn};
-ghost use Rattle.lines.specs.Said.{reasons, unreadOf, longOf, missing, hints, nothingOf, keptOf};
+ghost use Rattle.lines.specs.Said.{whys, unreadOf, longOf, hints, refusedOf, missing, nothingOf, lessOf, keptOf};
 use crate::put_about;
 use crate::put_count;
+use crate::put_worded;
 use chars::put_all;
 use chars::put_number;
 use words::put_found;
@@ -13,7 +14,7 @@ use words::put_found;
 
 // Writes why (`inputs::Why`), from a table as `words` has it.
 fn put_why(out: &mut [u8], at: usize, why: usize) -> usize
-    ensures { λ r. ⌜ Puts at (wordsIn reasons why) (now (out .entry)) r (now (out .exit)) ⌝ }
+    ensures { λ r. ⌜ Puts at (wordsIn whys why) (now (out .entry)) r (now (out .exit)) ⌝ }
 {
     put_found(
         out,
@@ -50,7 +51,36 @@ pub fn put_long(out: &mut [u8], name: &[u8]) -> usize
     put_all(out, next, b": longer than 655,360 octets\n")
 }
 
-// ---- nothing found
+// ---- refused, nothing found, less than all
+
+// Writes which carrier would find a resolver, if one would.
+fn put_hint(out: &mut [u8], at: usize, hint: usize) -> usize
+    ensures { λ r. ⌜ Puts at (wordsIn hints hint) (now (out .entry)) r (now (out .exit)) ⌝ }
+{
+    put_found(
+        out,
+        at,
+        hint,
+        b"\x00\n\
+          \x01; read as dhcp4 a resolver is found\n\
+          \x02; read as dhcp6 a resolver is found\n\
+          \x03; read as ra a resolver is found\n\
+          \x04; read as ike4 a resolver is found\n\
+          \x05; read as ike6 a resolver is found\n",
+    )
+}
+
+// Writes that the input is refused by a number.
+pub fn put_refused(out: &mut [u8], name: &[u8], number: usize, hint: usize) -> usize
+    ensures { λ r. ⌜ Counts r (now (out .exit)) ⌝ }
+    ensures { λ r. ⌜ Puts 0 (refusedOf (now (name .entry)) number hint) (now (out .entry)) r (now (out .exit)) ⌝ }
+{
+    let next = put_about(out, name);
+    let from = put_all(out, next, b": refused, ");
+    let worded = put_worded(out, from, number);
+    let end = put_hint(out, worded, hint);
+    put_all(out, end, b"\n")
+}
 
 // Writes what was looked for, by the carrier.
 fn put_missing(out: &mut [u8], at: usize, carrier: usize) -> usize
@@ -68,23 +98,6 @@ fn put_missing(out: &mut [u8], at: usize, carrier: usize) -> usize
     )
 }
 
-// Writes which carrier would find some, if one would.
-fn put_hint(out: &mut [u8], at: usize, hint: usize) -> usize
-    ensures { λ r. ⌜ Puts at (wordsIn hints hint) (now (out .entry)) r (now (out .exit)) ⌝ }
-{
-    put_found(
-        out,
-        at,
-        hint,
-        b"\x00\n\
-          \x01; read as dhcp4 they have one\n\
-          \x02; read as dhcp6 they have one\n\
-          \x03; read as ra they have one\n\
-          \x04; read as ike4 they have one\n\
-          \x05; read as ike6 they have one\n",
-    )
-}
-
 // Writes that nothing was found in n octets.
 pub fn put_nothing(out: &mut [u8], name: &[u8], carrier: usize, n: usize, hint: usize) -> usize
     ensures { λ r. ⌜ Counts r (now (out .exit)) ⌝ }
@@ -94,6 +107,19 @@ pub fn put_nothing(out: &mut [u8], name: &[u8], carrier: usize, n: usize, hint: 
     let counted = put_missing(out, next, carrier);
     let numbered = put_number(out, counted, n);
     let from = put_all(out, numbered, b" octets");
+    let end = put_hint(out, from, hint);
+    put_all(out, end, b"\n")
+}
+
+// Writes that blocks were discarded: how many of how many.
+pub fn put_less(out: &mut [u8], name: &[u8], discarded: usize, found: usize, hint: usize) -> usize
+    ensures { λ r. ⌜ Counts r (now (out .exit)) ⌝ }
+    ensures { λ r. ⌜ Puts 0 (lessOf (now (name .entry)) discarded found hint) (now (out .entry)) r (now (out .exit)) ⌝ }
+{
+    let next = put_about(out, name);
+    let of = put_count(out, next, b": ", discarded);
+    let counted = put_count(out, of, b" of ", found);
+    let from = put_all(out, counted, b" blocks discarded");
     let end = put_hint(out, from, hint);
     put_all(out, end, b"\n")
 }

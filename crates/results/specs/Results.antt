@@ -20,5 +20,9 @@ numbersOf found discarded fault =
 unfoldable pub jsonOf : ℕ → ℕ → ℕ → List ℕ → List ℕ
 jsonOf found discarded fault sheet = numbersOf found discarded fault ++ (ascii ",\"sheet\":" ++ (shownOf true sheet ++ ascii "}\n"))
 
+-- in JSON, where the sheet is saved: the numbers, and how many octets it has
+unfoldable pub savedOf : ℕ → ℕ → ℕ → ℕ → List ℕ
+savedOf found discarded fault length = numbersOf found discarded fault ++ (countOf (ascii ",\"saved\":") length ++ ascii "}\n")
+
 abbrev pub resultOf : Bool → ℕ → ℕ → ℕ → List ℕ → List ℕ
 resultOf json found discarded fault sheet = cond json (jsonOf found discarded fault sheet) (textOf found discarded sheet)

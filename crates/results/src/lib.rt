@@ -2,7 +2,7 @@
 // discarded and the first fault. Nothing here reads or writes a file.
 ghost use Rattle.io.specs.Counts.{Counts};
 ghost use Rattle.chars.specs.Puts.{Puts};
-ghost use Rattle.results.specs.Results.{textOf, numbersOf, jsonOf, resultOf};
+ghost use Rattle.results.specs.Results.{textOf, numbersOf, jsonOf, savedOf, resultOf};
 use chars::put_all;
 use lines::put_count;
 
@@ -53,4 +53,20 @@ pub fn put(
         return put_json(out, found, discarded, fault, sheet);
     }
     put_text(out, found, discarded, sheet)
+}
+
+// Writes in JSON a reading whose sheet, of so many octets, is saved.
+pub fn put_saved(
+    out: &mut [u8],
+    found: usize,
+    discarded: usize,
+    fault: usize,
+    length: usize,
+) -> usize
+    ensures { λ n. ⌜ Counts n (now (out .exit)) ⌝ }
+    ensures { λ n. ⌜ Puts 0 (savedOf found discarded fault length) (now (out .entry)) n (now (out .exit)) ⌝ }
+{
+    let next = put_numbers(out, found, discarded, fault);
+    let end = put_count(out, next, b",\"saved\":", length);
+    put_all(out, end, b"}\n")
 }

@@ -25,7 +25,6 @@ execute-spec =
     returns-2
     (λ c κs. search needs)
     returns-3
-    (λ c. search needs)
     (λ c κs. search needs)
     returns-4
     (λ c κs. search needs)

@@ -1,5 +1,4 @@
 -- `command::finds` meets its contract: by what reading answers. Assumes nothing.
-use mathlib.Core.Path.{_∙_}
 use borrow.Author.Needs.{needs}
 use Rattle.command.specs.NumbersLaws.{reading-is}
 use Rattle.command.specs.HintsLaws.{finds-refused, finds-told}

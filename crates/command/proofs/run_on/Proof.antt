@@ -15,7 +15,7 @@ returns-3 : tie.Need-returns-3
 returns-3 c =
     let r = c .before .before .before .before .before .before in
     let a = r .before .before .before .before .args .a in
-    let exit = takes-exited a (inputOf a (take (r .read .result .length) (r .read .last .1 .1 .0)) room) in
+    let exit = takes-exited a (inputOf a (take (r .read .result .length) (r .read .last .1 .1 .1 .0)) room) in
     search (needs, exit)
 
 pub run-on-spec : {M : Type 1} → statement M

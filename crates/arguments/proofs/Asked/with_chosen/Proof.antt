@@ -11,7 +11,7 @@ returns c = simp (le-leb _ _ (c .before .if1 .taken)) (c .with-form .ensures)
 
 returns-2 : tie.Need-returns-2
 unfolding chosen
-returns-2 c = simp (c .before .if2 .taken) (c .with-pending .ensures)
+returns-2 c = simp (c .before .if2 .taken) (c .pending .ensures)
 
 returns-3 : tie.Need-returns-3
 unfolding chosen

@@ -12,13 +12,13 @@ returns c =
 
 returns-2 : tie.Need-returns-2
 returns-2 c =
-    let p1 = c .before .before .before in
-    simp (ne-eqb _ _ (p1 .if1 .left), sym (c .before .same .ensures) ∙ c .if2 .taken)
+    let p1 = c .before .before in
+    simp (ne-eqb _ _ (p1 .if1 .left), sym (c .before .is-dash .ensures) ∙ c .if2 .taken)
 
 returns-3 : tie.Need-returns-3
 returns-3 c =
-    let p1 = c .before .before .before in
-    simp (ne-eqb _ _ (p1 .if1 .left), sym (c .before .same .ensures) ∙ c .if2 .left)
+    let p1 = c .before .before in
+    simp (ne-eqb _ _ (p1 .if1 .left), sym (c .before .is-dash .ensures) ∙ c .if2 .left)
 
 pub with-input-spec : {M : Type 1} → statement M
 with-input-spec =
@@ -26,7 +26,6 @@ with-input-spec =
     (tie.spec
     (λ c κs. search needs)
     returns
-    (λ c. search needs)
     (λ c κs. search needs)
     returns-2
     returns-3)

@@ -2,7 +2,6 @@
 use mathlib.Core.Path.{ap, _∙_}
 use Prim.Native.Nat.{ℕ}
 use borrow.Author.Needs.{needs}
-use lib.ListN.{length}
 use Rattle.arguments.specs.LineLaws.{option-none, option-some}
 use Rattle.arguments.specs.Line.{attached}
 use Rattle.arguments.proofs.Asked.with_option.Statement.{statement}
@@ -14,8 +13,8 @@ returns c =
     let k = f .before .before in
     let a = k .before .before .args in
     let w = a .word .now in
-    c .with-attached .ensures
-    ∙ ap (λ (n : ℕ). attached (a .i) (length w) n (a .self)) (f .front-of .ensures)
+    c .attached .ensures
+    ∙ ap (λ (n : ℕ). attached (a .i) w n (a .self)) (f .front-of .ensures)
     ∙ option-none (a .i) w (a .self) (k .option-named .ensures) (f .before .if1 .taken)
 
 returns-2 : tie.Need-returns-2

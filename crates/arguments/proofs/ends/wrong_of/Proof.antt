@@ -43,36 +43,20 @@ returns-5 c =
     let p1 = p2 .before .before in
     let e3 = sym (p3 .before .is-readless .ensures) ∙ p3 .if3 .left in
     let e4 = sym (p4 .before .is-shown-into .ensures) ∙ p4 .if4 .left in
-    let e5 = sym (c .before .is-jsonless .ensures) ∙ c .if5 .taken in
+    let e5 = sym (c .before .is-json-into .ensures) ∙ c .if5 .taken in
     simp (p1 .if1 .left, ne-eqb _ _ (p2 .if2 .left), e3, e4, e5)
 
 returns-6 : tie.Need-returns-6
 unfolding wrongOf
 returns-6 c =
-    let p5 = c .before .before in
-    let p4 = p5 .before .before in
+    let p4 = c .before .before in
     let p3 = p4 .before .before in
     let p2 = p3 .before .before in
     let p1 = p2 .before .before in
     let e3 = sym (p3 .before .is-readless .ensures) ∙ p3 .if3 .left in
     let e4 = sym (p4 .before .is-shown-into .ensures) ∙ p4 .if4 .left in
-    let e5 = sym (p5 .before .is-jsonless .ensures) ∙ p5 .if5 .left in
-    let e6 = sym (c .before .is-json-into .ensures) ∙ c .if6 .taken in
-    simp (p1 .if1 .left, ne-eqb _ _ (p2 .if2 .left), e3, e4, e5, e6)
-
-returns-7 : tie.Need-returns-7
-unfolding wrongOf
-returns-7 c =
-    let p5 = c .before .before in
-    let p4 = p5 .before .before in
-    let p3 = p4 .before .before in
-    let p2 = p3 .before .before in
-    let p1 = p2 .before .before in
-    let e3 = sym (p3 .before .is-readless .ensures) ∙ p3 .if3 .left in
-    let e4 = sym (p4 .before .is-shown-into .ensures) ∙ p4 .if4 .left in
-    let e5 = sym (p5 .before .is-jsonless .ensures) ∙ p5 .if5 .left in
-    let e6 = sym (c .before .is-json-into .ensures) ∙ c .if6 .left in
-    simp (p1 .if1 .left, ne-eqb _ _ (p2 .if2 .left), e3, e4, e5, e6)
+    let e5 = sym (c .before .is-json-into .ensures) ∙ c .if5 .left in
+    simp (p1 .if1 .left, ne-eqb _ _ (p2 .if2 .left), e3, e4, e5)
 
 pub wrong-of-spec : {M : Type 1} → statement M
 wrong-of-spec =
@@ -86,6 +70,4 @@ wrong-of-spec =
     returns-4
     (λ c κs. search needs)
     returns-5
-    (λ c κs. search needs)
-    returns-6
-    returns-7)
+    returns-6)

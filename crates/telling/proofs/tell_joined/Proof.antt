@@ -1,0 +1,26 @@
+-- `telling::tell_joined` meets its contract: the place of a trouble is within the joined data. Assumes nothing.
+use native.Mathlib.Omega.{arith}
+use borrow.Author.Needs.{needs}
+use Rattle.octets.specs.NumbersLaws.{bytes-at}
+use Rattle.findings.specs.Exactly.{joined-within}
+use Rattle.telling.proofs.tell_joined.Statement.{statement}
+use Rattle.telling.proofs.tell_joined.Tie as tie
+
+place-requires : tie.Need-place-requires
+place-requires c κs =
+    let e = c .before .before in
+    let known = e .before in
+    let s = known .before .before .before in
+    let octets = bytes-at (s .args .joined .now) (λ i. omega (arith, known .shared-slice-known3 .given i)) in
+    omega (arith, rw (← (e .examine-joined .ensures)) at (joined-within (s .args .joined .now) octets), s .pre)
+
+pub tell-joined-spec : {M : Type 1} → statement M
+tell-joined-spec =
+    tie.close
+    (tie.spec
+    (λ c κs. search needs)
+    place-requires
+    (λ c κs. search needs)
+    (λ c. search needs)
+    (λ c κs. search needs)
+    (λ c. search needs))
