@@ -105,7 +105,8 @@ for hex in examples/k*-dhcp4.hex examples/k*-dhcp6.hex examples/k*-ra.hex exampl
     "$dnr" read "${piece##*-}" "$hex" 2>/dev/null | sed -e 1d -e '/^$/d' -e '$d' -e 's/^/    /'
 done >"$work/wanted"
 head -c 24 "$work/piece" | cat - "$work/frames" >"$work/pieces"
-$script --dnr "$dnr" "$work/pieces" 2>/dev/null | sed -e '/^frame/d' -e '/^$/d' -e '/blocks discarded/d' >"$work/out"
+$script --dnr "$dnr" "$work/pieces" 2>/dev/null |
+    sed -e '/^frame/d' -e '/^$/d' -e '/^    [0-9]* of [0-9]* blocks discarded/d' -e '/^    block [0-9]*,/d' >"$work/out"
 step "resolvers as dnr prints them" diff "$work/wanted" "$work/out"
 
 # ---- exit status
@@ -152,10 +153,12 @@ says "dnr fails" "status 2
 dnr-capture: WORK/other/dnr read ra --raw --json ended with status 2: dnr: another" $script --dnr "$work/other/dnr" "$work/vlan.pcap"
 printf '#!/bin/sh\necho "{"\n' >"$work/other/dnr"
 ends "dnr prints no JSON" 2 $script --dnr "$work/other/dnr" "$work/vlan.pcap"
-printf '#!/bin/sh\necho "{\\"refused\\":9,\\"words\\":\\"no such day\\"}"\nexit 1\n' >"$work/other/dnr"
+printf '#!/bin/sh\necho "{\\"message\\":\\"standard input: refused, 9: no such day\\",\\"status\\":1,\\"number\\":9}"\nexit 1\n' >"$work/other/dnr"
 run $script --dnr "$work/other/dnr" "$work/vlan.pcap"
 step "a refusal as JSON" grep -q "^frame 3 .* Ack: refused, 9: no such day$" "$work/got"
 step "a refusal as JSON: exit status" test "$status" -eq 1
+printf '#!/bin/sh\necho "dnr: standard input: refused, 9: no such day" >&2\nexit 1\n' >"$work/other/dnr"
+ends "a refusal that is not told as JSON" 2 $script --dnr "$work/other/dnr" "$work/vlan.pcap"
 
 echo "$passed passed, $failed failed"
 [ "$failed" -eq 0 ]

@@ -2,7 +2,8 @@
 # Runs every check of the repository and ends in 'N passed, M failed', each check counted; fails where one fails or did not run.
 # Checks: the layout of the sources, rt ci (each crate, must-fail edit and program run), the library built from the proved crate, its header
 # held against the source, the host tests (cargo), the examples, the fuzzing corpus replayed, the pages and the citations of rules held
-# against the sources, the vectors held against their generators, the command with its input forms and output files, captures, and an installation.
+# against the sources, the vectors held against their generators, the command with its input forms, findings and output files, captures, and an
+# installation.
 set -u
 cd "$(dirname "$0")/.."
 log=$(mktemp -d) || exit 2
@@ -122,6 +123,7 @@ tool "command" sh tools/command.sh
 tool "output files" sh tools/files.sh
 tool "input forms" python3 tools/forms.py
 tool "random input forms" python3 tools/forms.py --random 300 1
+tool "findings" python3 tools/findings.py 400 1
 tool "captures" sh tools/capture.sh
 step "the tour of README.md" python3 tools/tour.py
 echo "$passed passed, $failed failed"

@@ -315,7 +315,8 @@ def compare(program):
         same("read -o", run(program, area, "read", str(carrier), "-o", "-"), sheet, said)
         same("read", run(program, area, "read", str(carrier)), (text(sheet) + f"found {found}, discarded 0\n").encode(), said)
         whole = {"found": found, "discarded": 0, "fault": 0, "sheet": tree(sheet)}
-        same("read --json", run(program, area, "read", "--json", str(carrier)), line_of_json(whole).encode(), said)
+        objects = line_of_json(whole) + (line_of_json({"message": said[len("dnr: "):-1]}) if said else "")
+        same("read --json", run(program, area, "read", "--json", str(carrier)), objects.encode(), said)
     print(f"{passed} passed, {failed} failed")
     return failed == 0
 

@@ -9,12 +9,14 @@ import sys
 
 
 def answer(dnr, fact):
-    """What dnr says of the area of a fact: a result, or the number of a refusal."""
+    """What dnr says of the area of a fact: a result and the messages after it, or the number of a refusal. Standard error has the same messages."""
     area = bytes.fromhex(fact["area"])
     run = subprocess.run([dnr, "read", fact["protocol"], "--raw", "--json"], input=area, capture_output=True, check=False)
-    if run.returncode == 0:
-        return {"result": json.loads(run.stdout)}
-    return {"refusal": int(re.search(rb"refused, (\d+)", run.stderr)[1])}
+    said = [line.removeprefix("dnr: standard input: ") for line in run.stderr.decode("ascii").splitlines()]
+    if run.returncode != 0:
+        return {"refusal": int(re.fullmatch(r"refused, (\d+): .*", said[0])[1])}
+    first, *rest = (json.loads(line) for line in run.stdout.splitlines())
+    return {"result": first, "messages": [{**told, "message": line} for told, line in zip(rest, said, strict=True)] or None}
 
 
 def held(dnr, fact, said):

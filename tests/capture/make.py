@@ -212,11 +212,12 @@ def malformed():
 
 
 def discarded():
-    """Priority 0 beside a resolver, priority 0 alone, and a resolver alone."""
+    """Priority 0 beside a resolver, priority 0 alone, a resolver alone, and one with an address that is dropped."""
     capture = Capture("discarded")
     capture.reply(resolver6(0, "alias.example") + A6)
     capture.ack(IS_ACK + option4(162, instance4(0, "alias.example")) + b"\xff")
     capture.router(A_RA)
+    capture.reply(DUID + resolver6(1, "doh1.example.com", ["2001:db8:122:300::1", "ff02::fb"], alpn("dot")))
     return capture
 
 

@@ -4,7 +4,7 @@
 
 octets 52535600010200 >"$work/none.rsv"
 none="dnr: standard input: $(nothing 2 0)"
-discard="dnr: warning: 1 of 1 blocks discarded; the first for fault 21: $(words 21)"
+discard=$(discards examples/k07-dhcp6.hex 1 4 21)
 kept='left as it is: it has records, and the new sheet has none; --force replaces it'
 
 # left NAME SAID WORDS: the file stays the sheet of K1.
@@ -57,11 +57,12 @@ strict() {
 }
 strict "all good" 0 "@$tests/k12-dhcp6.txt" '' "2 examples/k12-dhcp6.hex"
 strict "JSON, all good" 0 "@$tests/k01-dhcp6.json" '' "2 --json examples/k01-dhcp6.hex"
-strict "one of two discarded" 3 "@$tests/escaped-ike4.txt" "dnr: warning: 1 of 2 blocks discarded; the first for fault 20: $(words 20)" \
+strict "one of two discarded" 3 "@$tests/escaped-ike4.txt" "$(discards examples/escaped-ike4.hex 2 58 20)" \
     "4 examples/escaped-ike4.hex"
 strict "one of one discarded" 3 "@$tests/k07-dhcp6.txt" "$discard" "2 examples/k07-dhcp6.hex"
 strict "nothing found" 3 "@$tests/k06-dhcp6.txt" "dnr: examples/k06-dhcp6.hex: $(nothing 2 0)" "2 examples/k06-dhcp6.hex"
-strict "JSON, nothing found" 3 "@$tests/k06-dhcp6.json" "dnr: examples/k06-dhcp6.hex: $(nothing 2 0)" "2 --json examples/k06-dhcp6.hex"
+tells "--strict, JSON, nothing found" 3 "@$tests/k06-dhcp6.json" "dnr: examples/k06-dhcp6.hex: $(nothing 2 0)" \
+    "$dnr" read --strict 2 --json examples/k06-dhcp6.hex
 strict "refused" 1 '' "dnr: examples/cut-dhcp6.hex: refused, 3: $(words 3)" "2 examples/cut-dhcp6.hex"
 strict "no octets" 2 '' "dnr: $work/odd: line 1: $known" "2 $work/odd"
 strict "no such file" 2 '' "dnr: $work/nowhere: No such file or directory" "2 $work/nowhere"
