@@ -3,11 +3,11 @@
 // is refused: characters after the padding, and bits under it that are not zero (RFC 4648 §3.5).
 ghost use mathlib.Core.Path.{_≡_};
 ghost use Prim.Native.Nat.{_<_};
-ghost use Rattle.octets.specs.Numbers.{range};
 ghost use Rattle.base64.specs.Base64 as base64;
 ghost use Rattle.base64.specs.Base64.{Answered};
 use inputs::Read;
 use inputs::Why;
+use octets::within;
 
 // Where a text stands after its padding has begun, or that it is no base64.
 pub struct Place();
@@ -32,12 +32,6 @@ pub struct Quantum {
 }
 
 // ---- a character
-
-fn within(x: u8, lo: u8, hi: u8) -> bool
-    ensures { λ r. ⌜ r ≡ range lo hi x ⌝ }
-{
-    lo <= x && x <= hi
-}
 
 fn is_blank(x: u8) -> bool
     ensures { λ r. ⌜ r ≡ base64.blank x ⌝ }

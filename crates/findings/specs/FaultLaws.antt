@@ -1,10 +1,8 @@
 -- The number that is told is the number by which a body is discarded. Assumes nothing.
 use mathlib.Core.Path.{_≡_, refl, sym, _∙_}
 use mathlib.Core.Bool.{Bool, true, false, cond}
-use mathlib.Core.Logic.{_⊎_, inl, inr}
 use mathlib.Core.List.{List, [], _∷_}
 use Prim.Native.Nat.{ℕ, zero, suc, _+_, _-_}
-use native.Mathlib.Omega.{arith}
 use borrow.Author.Tests.{eq-eqb, ne-eqb}
 use lib.Dec.{ltb}
 use lib.ListN.{length, take, drop}
@@ -12,14 +10,14 @@ use Rattle.octets.specs.Cases.{by-equal}
 use Rattle.octets.specs.Numbers.{at16}
 use Rattle.numbers.specs.Fault as fault
 use Rattle.carriers.specs.declared.Carrier.{Carrier}
-use Rattle.carriers.specs.declared.Carrier.the-variants.{Router, Dhcp4}
+use Rattle.carriers.specs.declared.Carrier.the-variants.{Dhcp4}
 use Rattle.blocks.specs.Block.{Fields}
 use Rattle.blocks.specs.Parse.{Parsed, bad, fields, parse}
-use Rattle.blocks.specs.Faults.{parse-fault}
 use Rattle.judge.specs.declared.Side.the-variants.{Reading}
 use Rattle.judge.specs.Judge.{faultOf}
 use Rattle.records.specs.Records.{Outcome, faulty, kept}
 use Rattle.records.specs.Yielded.{onParsed, yieldOf, outcomeOf}
+use Rattle.records.specs.RecordsLaws.{fault-some}
 use Rattle.reading.specs.Reading.{ahead, instancesFrom}
 use Rattle.reading.specs.Result.{Yield, discarded, yields}
 use Rattle.findings.specs.declared.Trouble.{Trouble}
@@ -38,25 +36,6 @@ trouble-fault c b = go (parse c b)
     go : (r : Parsed) → onParsed r (λ k. plain k (laidPlace k b)) (fieldsTrouble c) .fault ≡ faultIn (onParsed r faulty (yieldOf c))
     go (bad k) = refl
     go (fields f) = fields-fault c f
-
--- a fault has a number
-kept-faulty : {k : ℕ} {r : Fields} → kept r ≡ faulty k → ⊥
-kept-faulty e = let z : _≡_ {A = ℕ} 0 1 = cc in omega arith
-
-outcome-number : (c : Carrier) (b : List ℕ) (k : ℕ) → outcomeOf c b ≡ faulty k → k ≡ 0 → ⊥
-unfolding outcomeOf
-outcome-number c b k = go (parse c b) refl
-  where
-    numbered : (j : ℕ) → (j ≡ fault.field) ⊎ ((c ≡ Router) × (j ≡ fault.padding)) → j ≡ 0 → ⊥
-    numbered j (inl e) z = omega arith
-    numbered j (inr e) z = omega (arith, e .1)
-
-    go : (r : Parsed) → parse c b ≡ r → onParsed r faulty (yieldOf c) ≡ faulty k → k ≡ 0 → ⊥
-    go (bad j) e = λ q z. let same : j ≡ k = cc in numbered j (parse-fault c b j e) (same ∙ z)
-    go (fields f) e =
-        by-equal (λ (o : Outcome). o ≡ faulty k → k ≡ 0 → ⊥) (faultOf Reading c f) 0 _ _
-        (λ _ q. absurd (kept-faulty q))
-        (λ n q z. let same : faultOf Reading c f ≡ k = cc in n (same ∙ z))
 
 -- ---- joined data
 
@@ -87,5 +66,5 @@ instances-fault zero at (x ∷ xs) = go (ltb (length l) 2) (ltb (length l - 2) n
         ≡ blockFault (cond short (discarded fault.field) (cond past (discarded fault.field) (ahead (outcomeOf Dhcp4 body) (instancesFrom (1 + n) xs))))
     go true past h = refl
     go false true h = refl
-    go false false h = ahead-fault (at + 2) _ _ (outcomeOf Dhcp4 body) _ (trouble-fault Dhcp4 body) (outcome-number Dhcp4 body) h
+    go false false h = ahead-fault (at + 2) _ _ (outcomeOf Dhcp4 body) _ (trouble-fault Dhcp4 body) (fault-some Dhcp4 body) h
 instances-fault (suc k) at (x ∷ xs) = instances-fault k (at + 1) xs

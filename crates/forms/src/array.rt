@@ -4,7 +4,6 @@ ghost use mathlib.Core.Path.{_≡_};
 ghost use mathlib.Core.Bool.{true};
 ghost use Prim.Native.Nat.{_<_};
 ghost use lib.ListN.{length};
-ghost use Rattle.octets.specs.Numbers.{range};
 ghost use Rattle.forms.specs.Arrays as arrays;
 use crate::places;
 use groups::Kind;
@@ -12,6 +11,7 @@ use inputs::Read;
 use inputs::Why;
 use inputs::character;
 use octets::wide;
+use octets::within;
 
 // Before what the tail of an array stands.
 struct Phase();
@@ -53,12 +53,6 @@ fn is_decimal(x: u8) -> bool
         return false;
     }
     x <= b'9'
-}
-
-fn within(x: u8, lo: u8, hi: u8) -> bool
-    ensures { λ r. ⌜ r ≡ range lo hi x ⌝ }
-{
-    lo <= x && x <= hi
 }
 
 fn is_letter(x: u8) -> bool

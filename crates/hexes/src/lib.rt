@@ -6,7 +6,6 @@ ghost use mathlib.Core.Path.{_≡_};
 ghost use mathlib.Core.Bool.{true};
 ghost use Prim.Native.Nat.{_+_, _≤_, _<_};
 ghost use lib.ListN.{length};
-ghost use Rattle.octets.specs.Numbers.{range};
 ghost use Rattle.octets.specs.Over.{Wrote};
 ghost use Rattle.io.specs.Counts.{Counts};
 ghost use Rattle.chars.specs.Puts.{Puts};
@@ -15,6 +14,7 @@ ghost use Rattle.hexes.specs.Hexes.{readHex, digitOf, two, hexOf};
 ghost use Rattle.hexes.specs.Decoding.{Decoded, octetsIn, sizeIn};
 use chars::put;
 use octets::lesser;
+use octets::within;
 
 pub enum Hex {
     // How many octets stand at the front of the buffer.
@@ -23,12 +23,6 @@ pub enum Hex {
     NoRoom,
     // The text is no hexadecimal text.
     Other,
-}
-
-fn within(x: u8, lo: u8, hi: u8) -> bool
-    ensures { λ r. ⌜ r ≡ range lo hi x ⌝ }
-{
-    lo <= x && x <= hi
 }
 
 // Whether x is a digit, of either case.

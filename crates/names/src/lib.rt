@@ -4,10 +4,10 @@
 // answer a number: so compiled, a call is a jump. Nothing here changes a name, folds its case or follows a compression pointer.
 use octets::lesser;
 use octets::wide;
+use octets::within;
 ghost use mathlib.Core.Path.{_≡_};
 ghost use Prim.Native.Nat.{_-_, _≤_, _<_};
 ghost use lib.ListN.{length};
-ghost use Rattle.octets.specs.Numbers.{range};
 ghost use Rattle.names.specs.Names.{alnum};
 ghost use Rattle.names.specs.Right.{Right};
 ghost use Rattle.names.specs.Wire.{nameCheck, nameAutomaton, letter, hyphen, labelFits, hyphenFits};
@@ -22,12 +22,6 @@ pub enum Name {
 
 // What the walk of a name, in either form, answers of a good one: past every place of 256 octets, and past their end.
 pub const GOOD: usize = 257;
-
-fn within(b: u8, lo: u8, hi: u8) -> bool
-    ensures { λ r. ⌜ r ≡ range lo hi b ⌝ }
-{
-    lo <= b && b <= hi
-}
 
 // Whether b is a letter or a digit. Small letters, the most frequent, are decided first.
 pub fn is_alnum(b: u8) -> bool

@@ -6,7 +6,7 @@ ghost use mathlib.Core.Path.{_≡_};
 ghost use Prim.Native.Nat.{_+_, _*_, _^_, _≤_, _<_, min};
 ghost use lib.ListN.{length, take, drop};
 ghost use Rattle.octets.specs.Lists as lists;
-ghost use Rattle.octets.specs.Numbers.{be, at16, at32, numberAt, allZero};
+ghost use Rattle.octets.specs.Numbers.{range, be, at16, at32, numberAt, allZero};
 ghost use Rattle.octets.specs.Over.{Wrote};
 
 // The most octets that are held at once.
@@ -24,6 +24,13 @@ pub fn wide(x: u8) -> usize
     ensures { λ r. ⌜ r < 256 ⌝ }
 {
     x as usize
+}
+
+// Whether an octet is from `lo` to `hi`.
+pub fn within(x: u8, lo: u8, hi: u8) -> bool
+    ensures { λ r. ⌜ r ≡ range lo hi x ⌝ }
+{
+    lo <= x && x <= hi
 }
 
 // The smaller of two numbers.

@@ -17,15 +17,9 @@ use Rattle.reasons.specs.Names.{before, dotReason, hyphenReason, letterR
 
 -- ---- octets
 
+-- an octet that stands there is read with any default
 pub within-any : (s : List ℕ) (i d e : ℕ) → i < length s → getD s i d ≡ getD s i e
-within-any [] i d e h = absurd (omega arith)
-within-any (x ∷ xs) zero d e h = refl
-within-any (x ∷ xs) (suc i) d e h = within-any xs i d e (omega arith)
-
-pub past-default : (s : List ℕ) (i d : ℕ) → length s ≤ i → d ≡ getD s i d
-past-default [] i d h = refl
-past-default (x ∷ xs) zero d h = absurd (omega arith)
-past-default (x ∷ xs) (suc i) d h = past-default xs i d (omega arith)
+within-any s i d e h = let p = drop-cons s i d h in let q = drop-cons s i e h in cc
 
 -- the ends of a list, one octet longer
 pub head-snoc : (x : ℕ) (l : List ℕ) → 1 ≤ length l → head 0 (l ++ (x ∷ [])) ≡ head 0 l

@@ -1,7 +1,7 @@
--- `names::within` meets its contract. Assumes nothing.
+-- `octets::within` meets its contract. Assumes nothing.
 use borrow.Author.Tests.{le-leb, lt-leb}
-use Rattle.names.proofs.within.Statement.{statement}
-use Rattle.names.proofs.within.Tie as tie
+use Rattle.octets.proofs.within.Statement.{statement}
+use Rattle.octets.proofs.within.Tie as tie
 
 returns : tie.Need-returns
 returns c = simp (le-leb _ _ (c .if1 .taken))
