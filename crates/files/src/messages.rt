@@ -31,7 +31,7 @@ const FAILED: i32 = 2;
 
 // A command that was not carried out; `errno` says why, where the system does.
 fn failure(errno: usize) -> Note
-    ensures { λ r. ⌜ (r .status ≡ status.failed) × (r .errno ≡ errno) × (r .number ≡ 0) ⌝ }
+    ensures { λ r. ⌜ (r .status ≡ status.failed) × (r .number ≡ 0) × (r .errno ≡ errno) × (r .block ≡ 0) × (r .octet ≡ 0) ⌝ }
 {
     Note {
         status: 2,
@@ -44,7 +44,7 @@ fn failure(errno: usize) -> Note
 
 // A refusal.
 fn refusal(number: usize) -> Note
-    ensures { λ r. ⌜ (r .status ≡ status.refused) × (r .number ≡ number) × (r .errno ≡ 0) ⌝ }
+    ensures { λ r. ⌜ (r .status ≡ status.refused) × (r .number ≡ number) × (r .errno ≡ 0) × (r .block ≡ 0) × (r .octet ≡ 0) ⌝ }
 {
     Note {
         status: 1,
@@ -57,7 +57,7 @@ fn refusal(number: usize) -> Note
 
 // A command that goes on: the fault and the place that the message names, or zeros.
 fn remark(number: usize, block: usize, octet: usize) -> Note
-    ensures { λ r. ⌜ (r .status ≡ 0) × (r .number ≡ number) × (r .block ≡ block) × (r .octet ≡ octet) ⌝ }
+    ensures { λ r. ⌜ (r .status ≡ 0) × (r .number ≡ number) × (r .errno ≡ 0) × (r .block ≡ block) × (r .octet ≡ octet) ⌝ }
 {
     Note {
         status: 0,

@@ -1,12 +1,20 @@
 // What a reading leaves out, said in the order of the area: every block that is discarded, with its fault and where it stands, and every address
 // that is dropped from the others. `findings` says where and why, `files` writes the lines; here the area is walked once more, block by block, as
-// reading walks it.
+// reading walks it, and the blocks that are said to be discarded are counted: they are as many as reading counts (specs/Discarded).
+ghost use mathlib.Core.Path.{_≡_};
+ghost use mathlib.Core.Bool.{false};
 ghost use Prim.Native.Nat.{_+_, _≤_};
 ghost use lib.ListN.{length};
+ghost use Rattle.numbers.specs.Limit as limit;
+ghost use Rattle.carriers.specs.declared.Carrier.the-variants.{Dhcp4};
+ghost use Rattle.carriers.specs.Carriers.{isJoined};
+ghost use Rattle.frames.specs.Frame.{frame};
+ghost use Rattle.telling.specs.Discarded.{discardsBody, discardsJoined, Counted, Some};
 use blocks::Places;
 use carriers::Carrier;
 use files::messages;
 use findings::Trouble;
+use frames::Gathered;
 use frames::Joined;
 use frames::Step;
 use lines::listed::Discard;
@@ -87,37 +95,51 @@ fn tell_dropped(
     }
 }
 
-// Carriers 2 to 5: the body of block k, which begins at `start`.
-fn tell_block(json: bool, name: &[u8], c: Carrier, area: &[u8], k: usize, start: usize, body: &[u8])
+// Carriers 2 to 5: the body of block k, which begins at `start`. Returns 1 where it is discarded, else 0.
+fn tell_block(
+    json: bool,
+    name: &[u8],
+    c: Carrier,
+    area: &[u8],
+    k: usize,
+    start: usize,
+    body: &[u8],
+) -> usize
     requires { ⌜ start + length (now body) ≤ length (now area) ⌝ }
+    ensures { λ r. ⌜ r ≡ discardsBody c (now (body .entry)) ⌝ }
 {
     let t = findings::examine(c, body);
     if t.fault != 0 {
         tell_discarded(json, name, k, start + t.at, t);
-        return;
+        return 1;
     }
     tell_dropped(json, name, c, area, k, start, body);
+    0
 }
 
-// Carriers 2 to 5: the blocks one after another.
-fn list_blocks(json: bool, name: &[u8], c: Carrier, area: &[u8]) {
+// Carriers 2 to 5: the blocks one after another. Returns how many are discarded.
+fn list_blocks(json: bool, name: &[u8], c: Carrier, area: &[u8]) -> usize
+    requires { ⌜ isJoined c ≡ false ⌝ }
+    ensures { λ r. ⌜ Counted c (frame c (now (area .entry))) r ⌝ }
+{
     let mut at: usize = 0;
     let mut k: usize = 0;
+    let mut n: usize = 0;
     loop {
         match frames::next_block(c, area, at) {
             Step::Block { start, end } => {
                 k += 1;
-                tell_block(json, name, c, area, k, start, &area[start..end]);
+                n += tell_block(json, name, c, area, k, start, &area[start..end]);
                 at = end;
             }
             Step::Skipped { end } => {
                 at = end;
             }
             Step::End => {
-                return;
+                return n;
             }
             Step::Fault => {
-                return;
+                return n;
             }
         }
     }
@@ -148,37 +170,53 @@ fn list_instances(json: bool, name: &[u8], area: &[u8], joined: &[u8])
     }
 }
 
-// Carrier 1: the one block of joined data.
-fn tell_joined(json: bool, name: &[u8], area: &[u8], joined: &[u8])
+// Carrier 1: the one block of joined data. Returns 1 where it is discarded, else 0.
+fn tell_joined(json: bool, name: &[u8], area: &[u8], joined: &[u8]) -> usize
     requires { ⌜ length (now joined) ≤ length (now area) ⌝ }
+    ensures { λ r. ⌜ r ≡ discardsJoined (now (joined .entry)) ⌝ }
 {
     let t = findings::examine_joined(joined);
     if t.fault != 0 {
         tell_discarded(json, name, 1, findings::place(area, t.at), t);
-        return;
+        return 1;
     }
     list_instances(json, name, area, joined);
+    0
 }
 
-// Carrier 1, with room for the joined data.
-fn list_joined(json: bool, name: &[u8], area: &[u8], buffer: &mut [u8])
-    requires { ⌜ length (now area) ≤ length (now buffer) ⌝ }
+// Carrier 1, of an area with an own option, with room for the joined data. Returns how many blocks are discarded.
+fn list_within(json: bool, name: &[u8], area: &[u8], buffer: &mut [u8]) -> usize
+    requires { ⌜ (length (now area) ≤ length (now buffer)) × Some (frame Dhcp4 (now area)) ⌝ }
+    ensures { λ r. ⌜ Counted Dhcp4 (frame Dhcp4 (now (area .entry))) r ⌝ }
 {
     match frames::join(area, buffer) {
-        Joined::Broken => {}
+        Joined::Broken => 0,
         Joined::Whole(n) => tell_joined(json, name, area, &buffer[..n]),
     }
 }
 
-// Lists what is left out of an area that can be read and has a block at least.
-pub fn list(json: bool, name: &[u8], c: Carrier, area: &[u8]) {
-    if Limit::INPUT < area.len() {
-        return;
-    }
-    let f = c.facts();
-    if !f.joined {
-        return list_blocks(json, name, c, area);
+// Carrier 1: without an own option there is no block, and else one. Returns how many blocks are discarded.
+fn list_joined(json: bool, name: &[u8], area: &[u8]) -> usize
+    requires { ⌜ length (now area) ≤ limit.input ⌝ }
+    ensures { λ r. ⌜ Counted Dhcp4 (frame Dhcp4 (now (area .entry))) r ⌝ }
+{
+    if let Gathered::Absent = frames::gather(area) {
+        return 0;
     }
     let mut buffer = [0u8; Limit::INPUT];
-    list_joined(json, name, area, &mut buffer);
+    list_within(json, name, area, &mut buffer)
+}
+
+// Lists what is left out of an area that can be read. Returns how many blocks are discarded.
+pub fn list(json: bool, name: &[u8], c: Carrier, area: &[u8]) -> usize
+    ensures { λ r. ⌜ (length (now (area .entry)) ≤ limit.input → Counted c (frame c (now (area .entry))) r) ⌝ }
+{
+    if Limit::INPUT < area.len() {
+        return 0;
+    }
+    let f = c.facts();
+    if f.joined {
+        return list_joined(json, name, area);
+    }
+    list_blocks(json, name, c, area)
 }

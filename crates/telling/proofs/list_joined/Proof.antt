@@ -1,52 +1,33 @@
--- `telling::list_joined` meets its contract: what `join` wrote at the front of the buffer is no longer than the area. Assumes nothing.
-use mathlib.Core.Path.{sym, ap, subst}
-use mathlib.Core.List.{List}
+-- `telling::list_joined` meets its contract: without an own option there is no block. Assumes nothing.
+use mathlib.Core.Path.{_≡_, subst}
+use mathlib.Core.Logic.{⊎-elim}
 use native.Mathlib.Omega.{arith}
-use Prim.Native.Nat.{ℕ, _≤_}
 use borrow.Author.Needs.{needs}
-use lib.ListN.{length}
-use lib.Seq.{length-take-le}
 use denote.Ref.{now}
-use Rattle.octets.specs.Lists.{flat}
-use Rattle.octets.specs.OverLaws.{over-length}
 use Rattle.carriers.specs.declared.Carrier.the-variants.{Dhcp4}
-use Rattle.frames.specs.declared.Joined.{Joined}
+use Rattle.frames.specs.declared.Gathered.{Gathered}
+use Rattle.frames.specs.declared.Gathered.the-variants.{Absent}
 use Rattle.frames.specs.Frame.{frame}
-use Rattle.frames.specs.Told.{joinedLength}
-use Rattle.frames.specs.Gather.{Joins}
-use Rattle.frames.specs.GatherLaws.{joins-whole}
+use Rattle.frames.specs.Gather.{Tells}
+use Rattle.telling.specs.DiscardedLaws.{found-some, counted-absent}
 use Rattle.telling.proofs.list_joined.Statement.{statement}
 use Rattle.telling.proofs.list_joined.Tie as tie
 
-abbrev joining : tie.After-n → tie.After-join
-joining k = k .before .before .before .before
+-- past the test: something was found
+other : (c : tie.At-match-keys2) → c .before .gather .result ≡ Absent → ⊥
+other c e = ⊎-elim (λ q. omega arith) (⊎-elim (λ q. omega arith) (λ q. omega arith)) (rw e at (c .match .keys2))
 
-abbrev start : tie.After-n → tie.Start
-start k = joining k .before .before .before .before .before
+returns : tie.Need-returns
+returns c =
+    let g = c .before .before in
+    let area = now (g .before .before .before .args .area) in
+    counted-absent area (frame Dhcp4 area) (subst (λ (r : Gathered). Tells area (frame Dhcp4 area) r) (c .enum-told .given .1) (g .gather .ensures))
 
--- in the arm of a framed area: what was joined lies within the buffer, and is no longer than the area
-room : (k : tie.After-n) → k .n .given .0 .0 ≤ length (joining k .join .last .1 .0)
-room k =
-    let out : List ℕ = now (start k .args .buffer) in
-    let out′ : List ℕ = joining k .join .last .1 .0 in
-    let j = subst (λ (r : Joined). Joins (frame Dhcp4 (now (start k .args .area))) out r out′) (k .n .given .1) (joining k .join .ensures .0) in
-    let found = joins-whole (frame Dhcp4 (now (start k .args .area))) out out′ (k .n .given .0 .0) j in
-    let w = found .2 in
-    omega (arith, w .room, w .next, ap length (w .laid), over-length 0 (flat (found .0)) out (w .room))
-
-short : (k : tie.After-n) → k .n .given .0 .0 ≤ length (now (start k .args .area))
-short k = subst (λ (r : Joined). joinedLength r ≤ length (now (start k .args .area))) (k .n .given .1) (joining k .join .ensures .1)
-
-slice-reshare-prefix-tell-joined : tie.Need-slice-reshare-prefix-tell-joined
-slice-reshare-prefix-tell-joined c = room (c .before)
-
-slice-aggregate-tell-joined : tie.Need-slice-aggregate-tell-joined
-slice-aggregate-tell-joined c = sym (length-take-le _ _ (room (c .before .before)))
-
-tell-joined-requires : tie.Need-tell-joined-requires
-tell-joined-requires c κs =
-    let k = c .before .before in
-    omega (arith, length-take-le (k .n .given .0 .0) (joining k .join .last .1 .0) (room k), short k)
+list-within-requires : tie.Need-list-within-requires
+list-within-requires c κs =
+    let g = c .before .before in
+    let s = g .before .before .before in
+    (s .pre, found-some (now (s .args .area)) (frame Dhcp4 (now (s .args .area))) _ (other (c .before)) (g .gather .ensures))
 
 pub list-joined-spec : {M : Type 1} → statement M
 list-joined-spec =
@@ -54,11 +35,7 @@ list-joined-spec =
     (tie.spec
     (λ c κs. search needs)
     (λ c. search needs)
+    returns
     (λ c. search needs)
-    slice-reshare-prefix-tell-joined
-    slice-aggregate-tell-joined
-    tell-joined-requires
-    (λ c. search needs)
-    (λ c. search needs)
-    (λ c. search needs)
+    list-within-requires
     (λ c. search needs))

@@ -1,8 +1,9 @@
--- `telling::tell_block` meets its contract: the place of a trouble is within the body. Assumes nothing.
+-- `telling::tell_block` meets its contract: the place of a trouble is within the body, and with a trouble it is discarded. Assumes nothing.
 use native.Mathlib.Omega.{arith}
 use borrow.Author.Needs.{needs}
 use Rattle.octets.specs.NumbersLaws.{bytes-at}
 use Rattle.findings.specs.Exactly.{trouble-within}
+use Rattle.telling.specs.DiscardedLaws.{body-discarded, body-kept}
 use Rattle.telling.proofs.tell_block.Statement.{statement}
 use Rattle.telling.proofs.tell_block.Tie as tie
 
@@ -15,8 +16,11 @@ add-tell-discarded c =
     let within = rw (← (e .examine .ensures)) at (trouble-within (s .args .c) (s .args .body .now) octets) in
     omega (arith, within, s .pre, s .good .1 .1 .1 .0 .1)
 
-tell-dropped-requires : tie.Need-tell-dropped-requires
-tell-dropped-requires c κs = search needs
+returns : tie.Need-returns
+returns c = let t = c .before .before in body-discarded _ _ (t .before .before .examine .ensures) (t .if1 .taken)
+
+returns-2 : tie.Need-returns-2
+returns-2 c = let t = c .before in body-kept _ _ (t .before .before .examine .ensures) (t .if1 .left)
 
 pub tell-block-spec : {M : Type 1} → statement M
 tell-block-spec =
@@ -25,6 +29,6 @@ tell-block-spec =
     (λ c κs. search needs)
     add-tell-discarded
     (λ c κs. search needs)
-    (λ c. search needs)
-    tell-dropped-requires
-    (λ c. search needs))
+    returns
+    (λ c κs. search needs)
+    returns-2)
