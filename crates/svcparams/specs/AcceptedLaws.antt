@@ -16,6 +16,7 @@ use Rattle.svcparams.specs.Key as key
 use Rattle.svcparams.specs.Params.{rising, has, isHint, hasHint, allIn, mandatoryGood, stringsFrom, alpnGood, valueGood, allGood}
 use Rattle.svcparams.specs.Param.{Param, keys}
 use Rattle.svcparams.specs.ValueLaws.{strings-skip, strings-past, value-mandatory, value-alpn, value-no-default-alpn, value-port, value-other}
+use Rattle.svcparams.specs.MergeLaws.{rising-parts}
 use Rattle.octets.specs.Cases.{by-test}
 use Rattle.octets.specs.Lists.{All}
 use Rattle.octets.specs.ListsLaws.{all-drop, all-map}
@@ -30,10 +31,10 @@ by-equal a b {X} f g = by-test (eqb a b) (λ _. X) (λ e. f (eqb-true _ _ e)) (�
 
 -- ---- keys that rise
 
-above-next : (k : ℕ) (ks : List ℕ) → All (λ x. k < x) ks → All (λ x. k + 1 ≤ x) ks
+pub above-next : (k : ℕ) (ks : List ℕ) → All (λ x. k < x) ks → All (λ x. k + 1 ≤ x) ks
 above-next k ks a = all-map (λ x. k < x) (λ x. k + 1 ≤ x) ks (λ x h. omega arith) a
 
-next-above : (k : ℕ) (ks : List ℕ) → All (λ x. k + 1 ≤ x) ks → All (λ x. k < x) ks
+pub next-above : (k : ℕ) (ks : List ℕ) → All (λ x. k + 1 ≤ x) ks → All (λ x. k < x) ks
 next-above k ks a = all-map (λ x. k + 1 ≤ x) (λ x. k < x) ks (λ x h. omega arith) a
 
 above-least : (k least : ℕ) (ks : List ℕ) → least ≤ k → All (λ x. k < x) ks → All (λ x. least ≤ x) ks
@@ -43,8 +44,8 @@ pub rising-means : (least : ℕ) (ks : List ℕ) → rising least ks ≡ true �
 unfolding rising
 rising-means least [] e = (tt, tt)
 rising-means least (k ∷ ks) e =
-    let q = and-eq-true-iff (leb least k) (rising (k + 1) ks) .0 e in
-    let l : least ≤ k = leb-true _ _ (q .0) in
+    let q = rising-parts least k ks e in
+    let l = q .0 in
     let r = rising-means (k + 1) ks (q .1) in
     let a = next-above k ks (r .0) in
     ((l, above-least k least ks l a), (a, r .1))
@@ -130,12 +131,12 @@ means-hint kvs h = in-hint (keys kvs) h
 
 -- ---- a mandatory list
 
-all-each : (ws ks : List ℕ) → allIn ws ks ≡ true → All (λ w. In w ks) ws
+pub all-each : (ws ks : List ℕ) → allIn ws ks ≡ true → All (λ w. In w ks) ws
 unfolding allIn
 all-each [] ks e = tt
 all-each (w ∷ ws) ks e = let q = and-eq-true-iff (has w ks) (allIn ws ks) .0 e in (has-in w ks (q .0), all-each ws ks (q .1))
 
-each-all : (ws ks : List ℕ) → All (λ w. In w ks) ws → allIn ws ks ≡ true
+pub each-all : (ws ks : List ℕ) → All (λ w. In w ks) ws → allIn ws ks ≡ true
 unfolding allIn
 each-all [] ks h = refl
 each-all (w ∷ ws) ks h = simp (in-has w ks (h .0), each-all ws ks (h .1))

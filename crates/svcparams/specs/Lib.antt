@@ -10,3 +10,7 @@ pub mod AcceptedLaws
 pub mod VerdictLaws
 pub mod Exactly
 pub mod Param
+pub mod Merge
+pub mod MergeLaws
+pub mod MergeTurns
+pub mod MergeExactly

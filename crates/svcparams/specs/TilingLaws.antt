@@ -6,7 +6,7 @@ use mathlib.Core.List.{List, [], _∷_}
 use Prim.Native.Nat.{ℕ, zero, suc, _+_, _-_, _≤_, _<_}
 use native.Mathlib.Nat.{le-of-suc-le-suc, not-suc-le-zero}
 use native.Mathlib.Omega.{arith}
-use lib.ListN.{length, take, drop, length-drop}
+use lib.ListN.{length, getD, take, drop, length-drop}
 use lib.Seq.{drop-drop}
 use lib.Dec.{ltb, eqb}
 use borrow.Author.Tests.{lt-ltb, le-ltb, ltb-false, eqb-true, eqb-false}
@@ -14,8 +14,8 @@ use Rattle.octets.specs.Cases.{by-test}
 use Rattle.octets.specs.Numbers.{at16}
 use Rattle.octets.specs.ListsLaws.{take-rest, skip-within, skip-any}
 use Rattle.svcparams.specs.Params.{sizeOf, first, Tiled, bad, tiled, onto, after, pairsFrom, pairs}
-use Rattle.svcparams.specs.Param.{Param}
-use Rattle.svcparams.specs.Entries.{afterEntry, entriesFrom, entries}
+use Rattle.svcparams.specs.Param.{Param, keys}
+use Rattle.svcparams.specs.Entries.{afterEntry, entriesFrom, entries, keysIn}
 
 pub bad-tiled : {kvs : List Param} → bad ≡ tiled kvs → ⊥
 bad-tiled e = let z : _≡_ {A = ℕ} 0 1 = cc in omega arith
@@ -38,6 +38,17 @@ size-fits s {k} h e g =
     let g′ : 4 + at16 s 2 ≤ length s = omega arith in
     sym (simp (le-ltb _ _ h, le-ltb _ _ g′) (omega arith))
 
+-- the same of a length below 256, by its lower octet
+module _ (s : List ℕ) {k : ℕ} (h : 4 ≤ length s) (z : getD s 2 0 ≡ 0) (e : k ≡ getD s 3 0) where
+  low-length : k ≡ at16 s 2
+  low-length = omega arith
+
+  pub size-low-over : length s < 4 + k → 0 ≡ sizeOf s
+  size-low-over g = size-over s h low-length g
+
+  pub size-low-fits : 4 + k ≤ length s → 4 + k ≡ sizeOf s
+  size-low-fits g = size-fits s h low-length g
+
 -- a size that is not 0 is a header's at least, is within, and is what the length says
 pub record Sized (s : List ℕ) (n : ℕ) : Type 0 where
   pub head : 4 ≤ n
@@ -53,7 +64,7 @@ sized s =
     (λ _ z. absurd (z refl))
     (λ f z. record { head = omega arith; room = ltb-false _ _ f; says = refl }))
 
-size-room : (s : List ℕ) → sizeOf s ≤ length s
+pub size-room : (s : List ℕ) → sizeOf s ≤ length s
 size-room s =
     by-test (eqb (sizeOf s) 0) (λ _. sizeOf s ≤ length s)
     (λ e. let z : sizeOf s ≡ 0 = eqb-true _ _ e in omega arith)
@@ -176,3 +187,11 @@ module _ (p : List ℕ) (at : ℕ) {n : ℕ} (e : n ≡ sizeOf (rest p at)) wher
 
   pub next-entries : (n ≡ 0 → ⊥) → entries (drop at p) ≡ paramAt p at n ∷ entries (drop (at + n) p)
   next-entries z = entries-cons (drop at p) (λ y. z (sym is-size ∙ y)) ∙ ap₂ (λ (kv : Param) (l : List ℕ). kv ∷ entries l) first-is left-is
+
+  pub stop-keys : n ≡ 0 → keysIn (drop at p) ≡ []
+  unfolding keys
+  stop-keys z = ap keys (stop-entries z)
+
+  pub next-keys : (n ≡ 0 → ⊥) → keysIn (drop at p) ≡ at16 (rest p at) 0 ∷ keysIn (drop (at + n) p)
+  unfolding keys
+  next-keys z = ap keys (next-entries z)

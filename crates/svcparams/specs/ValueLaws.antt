@@ -1,7 +1,7 @@
 -- The laws of the values' checks, each with the invariant of its loop. Assumes nothing.
 use mathlib.Core.Path.{_≡_, refl, sym, ap, _∙_}
-use mathlib.Core.Bool.{Bool, true, false, not, _&&_}
-use mathlib.Core.List.{List}
+use mathlib.Core.Bool.{Bool, true, false, not, _&&_, and-false}
+use mathlib.Core.List.{List, _∷_}
 use Prim.Native.Nat.{ℕ, suc, _+_, _-_, _%_, _≤_, _<_}
 use native.Mathlib.Omega.{arith}
 use lib.ListN.{length, getD, drop, length-drop, drop-of-length-le}
@@ -10,64 +10,11 @@ use lib.Dec.{eqb}
 use borrow.Author.Tests.{le-leb, lt-leb, eq-eqb, ne-eqb, not-true, not-false}
 use Rattle.octets.specs.ListsLaws.{skip-within, skip-past}
 use Rattle.octets.specs.Numbers.{at16, words}
-use Rattle.octets.specs.NumbersLaws.{words-cons, words-end}
+use Rattle.octets.specs.NumbersLaws.{words-cons, words-end, words-length}
 use Rattle.svcparams.specs.Key as key
 use Rattle.svcparams.specs.Params.{rising, has, allIn, mandatoryGood, stringsFrom, alpnGood, valueGood}
-
--- ---- a mandatory list rises
-
--- what is left of the list decides, its keys from `least` on
-pub record Rising (m : List ℕ) (i least : ℕ) : Type 0 where
-  pub within : i ≤ length m
-  pub left : rising 1 (words m) ≡ rising least (words (drop i m))
-
-pub rise-start : (m : List ℕ) → Rising m 0 1
-rise-start m = record { within = omega arith; left = refl }
-
-pub rise-end : (m : List ℕ) (i least : ℕ) → Rising m i least → length m ≤ i + 1 → true ≡ rising 1 (words m)
-unfolding rising
-rise-end m i least l h = sym (l .left ∙ ap (rising least) (words-end m i h))
-
-module _ (m : List ℕ) (i least : ℕ) {k : ℕ} (l : Rising m i least) (h : i + 1 < length m) (q : k ≡ at16 m i) where
-  pub rise-low : k < least → false ≡ rising 1 (words m)
-  unfolding rising
-  rise-low g =
-      let g′ : at16 m i < least = omega arith in
-      sym (l .left ∙ ap (rising least) (words-cons m i h) ∙ simp (lt-leb _ _ g′))
-
-  pub rise-next : least ≤ k → Rising m (i + 2) (k + 1)
-  unfolding rising
-  rise-next g =
-      let g′ : least ≤ at16 m i = omega arith in
-      record {
-        within = omega arith;
-        left = l .left ∙ ap (rising least) (words-cons m i h) ∙ (simp (le-leb _ _ g′))
-            ∙ ap (λ (x : ℕ). rising (x + 1) (words (drop (i + 2) m))) (sym q);
-      }
-
--- ---- each key of a mandatory list is present
-
--- what is left of the list decides
-pub record Finding (ks m : List ℕ) (i : ℕ) : Type 0 where
-  pub within : i ≤ length m
-  pub left : allIn (words m) ks ≡ allIn (words (drop i m)) ks
-
-pub find-start : (ks m : List ℕ) → Finding ks m 0
-find-start ks m = record { within = omega arith; left = refl }
-
-pub find-end : (ks m : List ℕ) (i : ℕ) → Finding ks m i → length m ≤ i + 1 → true ≡ allIn (words m) ks
-unfolding allIn
-find-end ks m i f h = sym (f .left ∙ ap (λ (l : List ℕ). allIn l ks) (words-end m i h))
-
-module _ (ks m : List ℕ) (i : ℕ) {k : ℕ} (f : Finding ks m i) (h : i + 1 < length m) (q : k ≡ at16 m i) where
-  pub find-absent : false ≡ has k ks → false ≡ allIn (words m) ks
-  unfolding allIn
-  find-absent a = sym (f .left ∙ ap (λ (l : List ℕ). allIn l ks) (words-cons m i h) ∙ simp (ap (λ (x : ℕ). has x ks) (sym q) ∙ sym a))
-
-  pub find-next : true ≡ has k ks → Finding ks m (i + 2)
-  unfolding allIn
-  find-next a =
-      record { within = omega arith; left = f .left ∙ ap (λ (l : List ℕ). allIn l ks) (words-cons m i h) ∙ simp (ap (λ (x : ℕ). has x ks) (sym q) ∙ sym a) }
+use Rattle.svcparams.specs.Merge.{Ran}
+use Rattle.svcparams.specs.MergeLaws.{ran-answer}
 
 -- ---- a mandatory list
 
@@ -81,14 +28,48 @@ module _ (v ks : List ℕ) where
     unfolding mandatoryGood
     mandatory-odd h = simp (ne-eqb _ _ some, ne-eqb _ _ h)
 
-    module _ {b : Bool} (even : length v % 2 ≡ 0) (e : b ≡ rising 1 (words v)) where
-      pub mandatory-unordered : not b ≡ true → false ≡ mandatoryGood v ks
-      unfolding mandatoryGood
-      mandatory-unordered z = simp (ne-eqb _ _ some, eq-eqb _ _ even, sym e ∙ not-true _ z)
+    mandatory-even : length v % 2 ≡ 0 → mandatoryGood v ks ≡ rising 1 (words v) && allIn (words v) ks
+    unfolding mandatoryGood
+    mandatory-even even = simp (ne-eqb _ _ some, eq-eqb _ _ even)
 
-      pub mandatory-ordered : {r : Bool} → not b ≡ false → r ≡ allIn (words v) ks → r ≡ mandatoryGood v ks
-      unfolding mandatoryGood
-      mandatory-ordered z q = q ∙ sym (simp (ne-eqb _ _ some, eq-eqb _ _ even, sym e ∙ not-false _ z))
+    pub mandatory-walked : {b : Bool} {n : ℕ} → length v % 2 ≡ 0 → rising 0 ks ≡ true → Ran (words v) ks b n → b ≡ mandatoryGood v ks
+    mandatory-walked even o r =
+        let l = words-length v in
+        ran-answer (words v) ks o (omega (arith, some)) r ∙ sym (mandatory-even even)
+
+-- ---- a mandatory list whose keys are sought one by one
+
+-- what is left of the list decides, its keys from `least` on
+pub record Listing (ks m : List ℕ) (i least : ℕ) : Type 0 where
+  pub within : i ≤ length m
+  pub left : mandatoryGood m ks ≡ rising least (words (drop i m)) && allIn (words (drop i m)) ks
+
+pub list-start : (ks m : List ℕ) → (length m ≡ 0 → ⊥) → length m % 2 ≡ 0 → Listing ks m 0 1
+list-start ks m some even = record { within = omega arith; left = mandatory-even m ks some even }
+
+module _ (ks m : List ℕ) (i least : ℕ) (f : Listing ks m i least) where
+  pub list-end : length m ≤ i + 1 → true ≡ mandatoryGood m ks
+  unfolding rising allIn
+  list-end h = sym (f .left ∙ ap (λ (ws : List ℕ). rising least ws && allIn ws ks) (words-end m i h))
+
+  module _ {k : ℕ} (h : i + 1 < length m) (q : k ≡ at16 m i) where
+    list-at : mandatoryGood m ks ≡ rising least (k ∷ words (drop (i + 2) m)) && allIn (k ∷ words (drop (i + 2) m)) ks
+    list-at =
+        f .left ∙ ap (λ (ws : List ℕ). rising least ws && allIn ws ks)
+        (words-cons m i h ∙ ap (λ (x : ℕ). x ∷ words (drop (i + 2) m)) (sym q))
+
+    pub list-low : k < least → false ≡ mandatoryGood m ks
+    unfolding rising
+    list-low l = sym (list-at ∙ simp (lt-leb _ _ l))
+
+    module _ {b : Bool} (l : least ≤ k) (e : b ≡ has k ks) where
+      pub list-absent : not b ≡ true → false ≡ mandatoryGood m ks
+      unfolding allIn
+      list-absent z = sym (list-at ∙ simp (sym e ∙ not-true _ z, and-false))
+
+      pub list-next : not b ≡ false → Listing ks m (i + 2) (k + 1)
+      unfolding rising allIn
+      list-next z = record { within = omega arith; left = list-at ∙ simp (le-leb _ _ l, sym e ∙ not-false _ z) }
 
 -- ---- strings, each after its length
 

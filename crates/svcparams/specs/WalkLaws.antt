@@ -12,8 +12,10 @@ use Rattle.numbers.specs.Fault as fault
 use Rattle.svcparams.specs.Key as key
 use Rattle.svcparams.specs.Params.{sizeOf, Tiled, bad, tiled, onto, pairs, rising, has, ordered, hasHint, valueGood, allGood, tiledFault, paramsFault}
 use Rattle.svcparams.specs.Param.{Param, keys}
-use Rattle.svcparams.specs.Entries.{entries, keysIn}
-use Rattle.svcparams.specs.TilingLaws.{rest, valueAt, paramAt, pairs-none, entries-tiled, stop-pairs, stop-entries, next-room, next-pairs, next-entries}
+use Rattle.svcparams.specs.Entries.{entriesFrom, entries, keysIn}
+use Rattle.svcparams.specs.TilingLaws.{rest, valueAt, paramAt, pairs-none, entries-tiled, stop-pairs, stop-entries, stop-keys, next-room, next-pairs, next-entries, next-keys}
+use Rattle.svcparams.specs.ValueLaws.{value-other}
+use Rattle.svcparams.specs.MergeLaws.{rising-parts}
 
 -- ---- tiling, the order of keys, and hints
 
@@ -101,6 +103,44 @@ module _ (p : List ℕ) (at least : ℕ) (hinted : Bool) (i : InOrder p at least
                 ∙ ap (λ (m : ℕ). faultFrom p (m + 1) (hinted || eqb m key.ipv4hint || eqb m key.ipv6hint) (pairs (drop (at + n) p))) (sym q);
           }
 
+-- ---- whether the keys rise
+
+-- what is left of the field decides, its keys from `least` on
+pub record Climbing (p : List ℕ) (at least : ℕ) : Type 0 where
+  pub within : at ≤ length p
+  pub left : rising 0 (keysIn p) ≡ rising least (keysIn (drop at p))
+
+pub climb-start : (p : List ℕ) → Climbing p 0 0
+climb-start p = record { within = omega arith; left = refl }
+
+module _ (p : List ℕ) (at least : ℕ) (i : Climbing p at least) where
+  -- the field is at its end
+  pub climb-over : length p ≤ at → rising 0 (keysIn p) ≡ true
+  unfolding rising keys entriesFrom
+  climb-over h = i .left ∙ ap (λ (l : List ℕ). rising least (keysIn l)) (drop-of-length-le p h)
+
+  module _ {n : ℕ} (e : n ≡ sizeOf (rest p at)) where
+    pub climb-end : n ≡ 0 → true ≡ rising 0 (keysIn p)
+    unfolding rising
+    climb-end z = sym (i .left ∙ ap (rising least) (stop-keys p at e z))
+
+    module _ {k : ℕ} (z : n ≡ 0 → ⊥) (q : k ≡ at16 (rest p at) 0) where
+      climb-at : rising 0 (keysIn p) ≡ rising least (k ∷ keysIn (drop (at + n) p))
+      climb-at =
+          i .left ∙ ap (rising least) (next-keys p at e z)
+          ∙ ap (λ (x : ℕ). rising least (x ∷ keysIn (drop (at + n) p))) (sym q)
+
+      pub climb-low : k < least → false ≡ rising 0 (keysIn p)
+      unfolding rising
+      climb-low h = sym (climb-at ∙ simp (lt-leb _ _ h))
+
+      pub climb-next : least ≤ k → Climbing p (at + n) (k + 1)
+      unfolding rising
+      climb-next h =
+          let r = next-room p at e in
+          let w = i .within in
+          record { within = omega arith; left = climb-at ∙ simp (le-leb _ _ h) }
+
 -- ---- a pass over the parameters, for any test of a list of them
 
 -- what is left of the field decides
@@ -148,25 +188,63 @@ module _ (sought : ℕ) (p : List ℕ) (at : ℕ) {n : ℕ} (i : Seeking sought 
 
 -- ---- whether each value is one that its key allows
 
-abbrev pub Valued : List ℕ → ℕ → Type 0
-Valued p at = Walk (λ es. allGood es (keysIn p)) p at
+-- parameters whose keys are above the port's have no rule
+high-good : (least : ℕ) (kvs : List Param) (ks : List ℕ) → key.port < least → rising least (keys kvs) ≡ true → allGood kvs ks ≡ true
+unfolding allGood keys
+high-good least [] ks h e = refl
+high-good least (kv ∷ kvs) ks h e =
+    let q = rising-parts least (kv .key) (keys kvs) e in
+    let l = q .0 in
+    let no : (x : ℕ) → x ≤ key.port → kv .key ≡ x → ⊥ = λ x y z. omega arith in
+    let v = value-other (kv .key) (kv .value) ks (no 0 (omega arith)) (no 1 (omega arith)) (no 2 (omega arith)) (no 3 (omega arith)) in
+    simp (sym v) (high-good (kv .key + 1) kvs ks (omega arith) (q .1))
 
-pub values-start : (p : List ℕ) → Valued p 0
-values-start p = walk-start _ p
+-- the same where there is a smaller least key
+rising-below : (least a : ℕ) (ks : List ℕ) → a ≤ least → rising least ks ≡ true → rising a ks ≡ true
+unfolding rising
+rising-below least a [] h e = refl
+rising-below least a (k ∷ ks) h e =
+    let q = rising-parts least k ks e in
+    let l = q .0 in
+    let g : a ≤ k = omega arith in
+    simp (le-leb _ _ g) (q .1)
+
+-- what is left of the field decides, and its keys rise
+pub record Valued (p : List ℕ) (at : ℕ) : Type 0 where
+  pub walk : Walk (λ es. allGood es (keysIn p)) p at
+  pub rise : rising 0 (keysIn (drop at p)) ≡ true
+
+pub values-start : (p : List ℕ) → rising 0 (keysIn p) ≡ true → Valued p 0
+values-start p o = record { walk = walk-start _ p; rise = o }
 
 module _ (p : List ℕ) (at : ℕ) {n : ℕ} (i : Valued p at) (e : n ≡ sizeOf (rest p at)) where
   pub values-end : n ≡ 0 → true ≡ allGood (entries p) (keysIn p)
   unfolding allGood
-  values-end z = sym (walk-end p at i e z)
+  values-end z = sym (walk-end p at (i .walk) e z)
 
-  module _ {k : ℕ} {b : Bool} (z : n ≡ 0 → ⊥) (q : k ≡ at16 (rest p at) 0) (g : b ≡ valueGood k (valueAt p at n) (keysIn p)) where
-    judged : valueGood (at16 (rest p at) 0) (valueAt p at n) (keysIn p) ≡ b
-    judged = ap (λ (x : ℕ). valueGood x (valueAt p at n) (keysIn p)) (sym q) ∙ sym g
+  module _ {k : ℕ} (z : n ≡ 0 → ⊥) (q : k ≡ at16 (rest p at) 0) where
+    upward : (0 ≤ at16 (rest p at) 0) × (rising (at16 (rest p at) 0 + 1) (keysIn (drop (at + n) p)) ≡ true)
+    upward = rising-parts 0 (at16 (rest p at) 0) (keysIn (drop (at + n) p)) (sym (ap (rising 0) (next-keys p at e z)) ∙ i .rise)
 
-    pub values-bad : not b ≡ true → false ≡ allGood (entries p) (keysIn p)
-    unfolding allGood
-    values-bad y = sym (walk-at p at i e z ∙ simp (judged ∙ not-true _ y))
+    pub values-high : key.port < k → true ≡ allGood (entries p) (keysIn p)
+    unfolding rising keys
+    values-high h =
+        let a : key.port < at16 (rest p at) 0 = omega arith in
+        let r : rising (at16 (rest p at) 0) (at16 (rest p at) 0 ∷ keysIn (drop (at + n) p)) ≡ true = simp (le-leb (at16 (rest p at) 0) (at16 (rest p at) 0) (omega arith)) (upward .1) in
+        sym (walk-at p at (i .walk) e z ∙ high-good (at16 (rest p at) 0) (paramAt p at n ∷ entries (drop (at + n) p)) (keysIn p) a r)
 
-    pub values-next : not b ≡ false → Valued p (at + n)
-    unfolding allGood
-    values-next y = walk-next p at i e z (simp (judged ∙ not-false _ y))
+    module _ {b : Bool} (g : b ≡ valueGood k (valueAt p at n) (keysIn p)) where
+      judged : valueGood (at16 (rest p at) 0) (valueAt p at n) (keysIn p) ≡ b
+      judged = ap (λ (x : ℕ). valueGood x (valueAt p at n) (keysIn p)) (sym q) ∙ sym g
+
+      pub values-bad : not b ≡ true → false ≡ allGood (entries p) (keysIn p)
+      unfolding allGood
+      values-bad y = sym (walk-at p at (i .walk) e z ∙ simp (judged ∙ not-true _ y))
+
+      pub values-next : not b ≡ false → Valued p (at + n)
+      unfolding allGood
+      values-next y =
+          record {
+            walk = walk-next p at (i .walk) e z (simp (judged ∙ not-false _ y));
+            rise = rising-below (at16 (rest p at) 0 + 1) 0 (keysIn (drop (at + n) p)) (omega arith) (upward .1);
+          }

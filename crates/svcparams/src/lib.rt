@@ -3,14 +3,22 @@
 // are decided over the whole field first, then address hints, then values. The values of keys without a rule are carried as they are.
 // Nothing here changes or writes parameters.
 ghost use mathlib.Core.Path.{_≡_};
-ghost use Prim.Native.Nat.{_≤_};
+ghost use Prim.Native.Nat.{ℕ, _≤_};
 ghost use lib.ListN.{length};
-ghost use Rattle.octets.specs.Numbers.{words};
-ghost use Rattle.svcparams.specs.Params.{sizeOf, rising, allIn, mandatoryGood, alpnGood, valueGood, allGood, paramsFault};
+ghost use mathlib.Core.Bool.{true};
+ghost use mathlib.Core.List.{List};
+ghost use Rattle.svcparams.specs.Key as keys;
+ghost use Rattle.svcparams.specs.Params.{sizeOf, rising, mandatoryGood, alpnGood, valueGood, allGood, paramsFault};
 ghost use Rattle.svcparams.specs.Entries.{entries, keysIn};
+use anywhere::mandatory_anywhere;
+use anywhere::rises;
 use numbers::Fault;
 use octets::get16;
 use octets::wide;
+use walk::all_present;
+
+mod anywhere;
+mod walk;
 
 // The keys that have rules here (RFC 9460 §14.3.2).
 pub struct Key();
@@ -33,13 +41,21 @@ impl Key {
     pub const INVALID: usize = 65535;
 }
 
-// How many octets the parameter that stands first has, its key and length among them; 0 if none stands there whole.
+// How many octets the parameter that stands first has, its key and length among them; 0 if none stands there whole. A length below 256 is
+// its lower octet alone: the next parameter's place then depends on one octet, not on two put together (docs/BENCHMARKS.md).
 pub fn size(s: &[u8]) -> usize
     ensures { λ r. ⌜ r ≡ sizeOf (now (s .entry)) ⌝ }
     ensures { λ r. ⌜ r ≤ length (now (s .entry)) ⌝ }
 {
     if s.len() < 4 {
         return 0;
+    }
+    if s[2] == 0 {
+        let low = 4 + wide(s[3]);
+        if s.len() < low {
+            return 0;
+        }
+        return low;
     }
     let n = 4 + get16(s, 2);
     if s.len() < n {
@@ -48,52 +64,9 @@ pub fn size(s: &[u8]) -> usize
     n
 }
 
-// Whether the keys of a mandatory list rise strictly, without 0.
-fn rises(m: &[u8]) -> bool
-    ensures { λ r. ⌜ r ≡ rising 1 (words (now (m .entry))) ⌝ }
-{
-    let mut i: usize = 0;
-    let mut least: usize = 1;
-    while i + 1 < m.len() {
-        let key = get16(m, i);
-        if key < least {
-            return false;
-        }
-        least = key + 1;
-        i += 2;
-    }
-    true
-}
-
-// Whether each key of a mandatory list is a parameter's.
-fn all_present(m: &[u8], p: &[u8]) -> bool
-    ensures { λ r. ⌜ r ≡ allIn (words (now (m .entry))) (keysIn (now (p .entry))) ⌝ }
-{
-    let mut i: usize = 0;
-    let mut present = true;
-    'listed: while i + 1 < m.len() {
-        let key = get16(m, i);
-        let mut at: usize = 0;
-        'params: loop {
-            let s = &p[at..];
-            let n = size(s);
-            if n == 0 {
-                present = false;
-                break 'listed;
-            }
-            let k = get16(s, 0);
-            if k == key {
-                break 'params;
-            }
-            at += n;
-        }
-        i += 2;
-    }
-    present
-}
-
-// Whether a mandatory list is not empty and whole, its keys rise without 0, and each is a parameter's.
+// Whether a mandatory list is not empty and whole, its keys rise without 0, and each is a parameter's, in a field whose keys rise.
 fn mandatory(m: &[u8], p: &[u8]) -> bool
+    requires { ⌜ rising 0 (keysIn (now p)) ≡ true ⌝ }
     ensures { λ r. ⌜ r ≡ mandatoryGood (now (m .entry)) (keysIn (now (p .entry))) ⌝ }
 {
     if m.len() == 0 {
@@ -102,10 +75,8 @@ fn mandatory(m: &[u8], p: &[u8]) -> bool
     if m.len() % 2 != 0 {
         return false;
     }
-    if !rises(m) {
-        return false;
-    }
-    all_present(m, p)
+    let walked = all_present(m, p);
+    walked.present
 }
 
 // Whether strings, none of them empty, tile the value, and there is one.
@@ -129,13 +100,11 @@ fn alpn(v: &[u8]) -> bool
     true
 }
 
-// Whether the value v is one that its key allows in the field p.
-pub fn value(key: usize, v: &[u8], p: &[u8]) -> bool
-    ensures { λ r. ⌜ r ≡ valueGood key (now (v .entry)) (keysIn (now (p .entry))) ⌝ }
+// Whether its key allows the value v, for keys other than mandatory: their rules do not depend on the other parameters.
+fn plain(key: usize, v: &[u8]) -> bool
+    requires { ⌜ (key ≡ keys.mandatory → ⊥) ⌝ }
+    ensures { λ r. ⌜ ((ks : List ℕ) → r ≡ valueGood key (now (v .entry)) ks) ⌝ }
 {
-    if key == Key::MANDATORY {
-        return mandatory(v, p);
-    }
     if key == Key::ALPN {
         return alpn(v);
     }
@@ -148,8 +117,33 @@ pub fn value(key: usize, v: &[u8], p: &[u8]) -> bool
     true
 }
 
-// Whether each parameter's value is one that its key allows.
+// Whether the value v is one that its key allows in the field p, in whatever order the keys of p stand.
+pub fn value(key: usize, v: &[u8], p: &[u8]) -> bool
+    ensures { λ r. ⌜ r ≡ valueGood key (now (v .entry)) (keysIn (now (p .entry))) ⌝ }
+{
+    if key != Key::MANDATORY {
+        return plain(key, v);
+    }
+    if rises(p) {
+        return mandatory(v, p);
+    }
+    mandatory_anywhere(v, p)
+}
+
+// Whether the value v is one that its key allows in the field p, whose keys rise.
+fn allowed(key: usize, v: &[u8], p: &[u8]) -> bool
+    requires { ⌜ rising 0 (keysIn (now p)) ≡ true ⌝ }
+    ensures { λ r. ⌜ r ≡ valueGood key (now (v .entry)) (keysIn (now (p .entry))) ⌝ }
+{
+    if key == Key::MANDATORY {
+        return mandatory(v, p);
+    }
+    plain(key, v)
+}
+
+// Whether each parameter's value is one that its key allows, in a field whose keys rise: above the port's no key has a rule.
 fn values(p: &[u8]) -> bool
+    requires { ⌜ rising 0 (keysIn (now p)) ≡ true ⌝ }
     ensures { λ r. ⌜ r ≡ allGood (entries (now (p .entry))) (keysIn (now (p .entry))) ⌝ }
 {
     let mut at: usize = 0;
@@ -160,8 +154,11 @@ fn values(p: &[u8]) -> bool
             return true;
         }
         let key = get16(s, 0);
+        if Key::PORT < key {
+            return true;
+        }
         let v = &s[4..n];
-        if !value(key, v, p) {
+        if !allowed(key, v, p) {
             return false;
         }
         at += n;

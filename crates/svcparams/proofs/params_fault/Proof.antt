@@ -4,18 +4,18 @@ use native.Mathlib.Omega.{arith}
 use Prim.Native.Nat.{_-_}
 use lib.ListN.{length}
 use Rattle.svcparams.specs.TilingLaws.{size-head}
-use Rattle.svcparams.specs.WalkLaws.{InOrder, order-start, order-bad, order-low, order-invalid, order-next, order-hint, order-value, order-none}
+use Rattle.svcparams.specs.WalkLaws.{InOrder, order-start, order-bad, order-low, order-invalid, order-next, order-hint, order-value, order-none, Climbing, climb-start, climb-next, climb-over}
 use Rattle.svcparams.proofs.params_fault.Statement.{statement}
 use Rattle.svcparams.proofs.params_fault.Tie as tie
 
 abbrev Inv-loop : tie.InvT-loop
-Inv-loop p at₀ least₀ hinted₀ at least hinted = InOrder p at least hinted
+Inv-loop p at₀ least₀ hinted₀ at least hinted = InOrder p at least hinted × Climbing p at least
 
 abbrev μ-loop : tie.MeasureT-loop
 μ-loop p at₀ least₀ hinted₀ at least hinted = length p - at
 
 loop-holds : tie.Need-loop-holds Inv-loop μ-loop
-loop-holds c = order-start _
+loop-holds c = (order-start _, climb-start _)
 
 returns : tie.Need-returns Inv-loop μ-loop
 returns c = search (needs, order-bad)
@@ -30,10 +30,13 @@ returns-3 : tie.Need-returns-3 Inv-loop μ-loop
 returns-3 c = search (needs, order-invalid)
 
 loop-again : tie.Need-loop-again Inv-loop μ-loop
-loop-again c = search (needs, order-next)
+loop-again c = (search (needs, order-next), search (needs, climb-next))
 
 returns-4 : tie.Need-returns-4 Inv-loop μ-loop
 returns-4 c = search (needs, order-hint)
+
+values-requires : tie.Need-values-requires Inv-loop μ-loop
+values-requires c κs = search (needs, climb-over)
 
 returns-5 : tie.Need-returns-5 Inv-loop μ-loop
 returns-5 c = search (needs, order-value)
@@ -61,6 +64,6 @@ params-fault-spec =
     (λ c. search needs)
     loop-again
     returns-4
-    (λ c κs. search needs)
+    values-requires
     returns-5
     returns-6)

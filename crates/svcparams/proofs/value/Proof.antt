@@ -1,25 +1,23 @@
 -- `svcparams::value` meets its contract. Assumes nothing.
 use borrow.Author.Needs.{needs}
-use Rattle.svcparams.specs.ValueLaws.{value-mandatory, value-alpn, value-no-default-alpn, value-port, value-other}
+use mathlib.Core.Path.{sym, _∙_}
+use Rattle.svcparams.specs.ValueLaws.{value-mandatory}
 use Rattle.svcparams.proofs.value.Statement.{statement}
 use Rattle.svcparams.proofs.value.Tie as tie
 
 returns : tie.Need-returns
-returns c = search (needs, value-mandatory)
+returns c = c .plain .ensures _
+
+mandatory-requires : tie.Need-mandatory-requires
+mandatory-requires c κs = sym (c .before .rises .ensures) ∙ c .if2 .taken
 
 returns-2 : tie.Need-returns-2
-returns-2 c = search (needs, value-alpn)
+returns-2 c = search (needs, value-mandatory)
 
 returns-3 : tie.Need-returns-3
-returns-3 c = search (needs, value-no-default-alpn)
-
-returns-4 : tie.Need-returns-4
-returns-4 c = search (needs, value-port)
-
-returns-5 : tie.Need-returns-5
-returns-5 c = search (needs, value-other)
+returns-3 c = search (needs, value-mandatory)
 
 pub value-spec : {M : Type 1} → statement M
 value-spec =
     tie.close
-    (tie.spec (λ c κs. search needs) returns (λ c κs. search needs) returns-2 returns-3 returns-4 returns-5)
+    (tie.spec (λ c κs. search needs) returns (λ c κs. search needs) mandatory-requires returns-2 (λ c κs. search needs) returns-3)
