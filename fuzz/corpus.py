@@ -15,6 +15,8 @@ LONGEST = b"".join(bytes([n]) + b"a" * n for n in (63, 63, 63, 61)) + b"\0"
 ALPN_DOT = b"\0\x01\0\x04\x03dot"
 V4 = bytes([192, 0, 2, 1])
 V6 = bytes.fromhex("20010db8012203000000000000000001")
+# as many keys as 1,024 octets have room for, in a mandatory list and as parameters without values
+KEYS = range(384, 65_281, 384)
 
 
 def be(number, octets=2):
@@ -23,6 +25,11 @@ def be(number, octets=2):
 
 def parameter(key, value):
     return be(key) + be(len(value)) + value
+
+
+def mandatory(absent=None):
+    """A mandatory list of the keys, and the parameters that it names but for one."""
+    return parameter(0, b"".join(be(key) for key in KEYS)) + b"".join(parameter(key, b"") for key in KEYS if key != absent)
 
 
 def record(priority=1, lifetime=0, name=NAME, addresses=None, parameters=b""):
@@ -46,6 +53,11 @@ def dhcp6(body):
     return be(144) + be(len(body)) + body
 
 
+def full(parameters):
+    """An option of DHCPv6 with an address and parameters."""
+    return dhcp6(be(1) + be(18) + NAME + be(16) + V6 + parameters)
+
+
 def readings(pieces):
     """Name, carrier, room and area of each reading."""
     for name, (carrier, area) in pieces.items():
@@ -59,7 +71,9 @@ def readings(pieces):
     yield "multicast", 2, ANY_ROOM, put(k1, 28, b"\xff")
     yield "alpn-runs-over", 2, ANY_ROOM, put(k1, 48, b"\x04")
     yield "one-octet-after-name", 2, ANY_ROOM, dhcp6(be(1) + be(18) + NAME + b"\0")
-    yield "absent-mandatory-key", 2, ANY_ROOM, dhcp6(be(1) + be(18) + NAME + be(16) + V6 + parameter(0, be(3)))
+    yield "absent-mandatory-key", 2, ANY_ROOM, full(parameter(0, be(3)))
+    yield "170-mandatory-keys", 2, ANY_ROOM, full(mandatory())
+    yield "170-mandatory-keys-one-absent", 2, ANY_ROOM, full(mandatory(absent=KEYS[85]))
     yield "64-addresses", 2, ANY_ROOM, dhcp6(be(1) + be(18) + NAME + be(16 * 64) + V6 * 64 + ALPN_DOT)
     yield "17-records", 2, ANY_ROOM, dhcp6(be(9) + be(5) + b"\x03doh\0") * 17
     yield "instance-runs-over", 1, ANY_ROOM, put(k2, 3, b"\x16")
@@ -98,6 +112,8 @@ def writings():
     yield "lifetime-in-dhcp6", ANY_ROOM, sheet(2, record(lifetime=1))
     yield "name-only-in-ike4", ANY_ROOM, sheet(4, record())
     yield "loopback", ANY_ROOM, sheet(1, record(addresses=[V4, bytes([127, 0, 0, 1])]))
+    yield "170-mandatory-keys", ANY_ROOM, sheet(2, record(addresses=[V6], parameters=mandatory()))
+    yield "170-mandatory-keys-one-absent", ANY_ROOM, sheet(2, record(addresses=[V6], parameters=mandatory(absent=KEYS[85])))
     yield "router-over-2040", ANY_ROOM, sheet(3, record(addresses=[V6] * 63, parameters=parameter(7, bytes(999))))
 
 

@@ -18,12 +18,13 @@ const ALPN: &[&[u8]] = &[
     b"\x01a\x00",
 ];
 
-fn param(key: u16, value: &[u8]) -> Vec<u8> {
+pub fn param(key: u16, value: &[u8]) -> Vec<u8> {
     let length = u16::try_from(value.len()).expect("values are short");
     [&key.to_be_bytes()[..], &length.to_be_bytes(), value].concat()
 }
 
-fn list(keys: &[u16]) -> Vec<u8> {
+/// The parameter mandatory, with these keys.
+pub fn list(keys: &[u16]) -> Vec<u8> {
     let value: Vec<u8> = keys.iter().flat_map(|key| key.to_be_bytes()).collect();
     param(0, &value)
 }

@@ -4,6 +4,7 @@
 
 use crate::cases::{hex, Cases, Kind};
 use crate::names::{text, wire, with};
+use crate::params::{list, param};
 
 /// Label lengths of the longest name: 255 octets in wire form, 253 as text.
 const LONGEST: [usize; 4] = [63, 63, 63, 61];
@@ -179,6 +180,27 @@ const FIELDS: [(&str, &[u8], usize); 18] = [
     ),
 ];
 
+/// Mandatory lists of twenty keys before parameters from 384 to 7,680 in steps
+/// of 384: all of them, and with one place that is wrong (RULES P4).
+fn add_lists(cases: &mut Cases) {
+    let all: Vec<u16> = (1..=20).map(|count| 384 * count).collect();
+    let rest: Vec<u8> = all.iter().flat_map(|key| param(*key, &[])).collect();
+    let mut state = |place: usize, keys: &[u16], answer: &str| {
+        let listed = [&all[..place], keys, &all[place + keys.len()..]].concat();
+        let field = [list(&listed), rest.clone()].concat();
+        let source = "RULES P4, a list of twenty keys";
+        cases.state(source, Kind::Params, field, answer);
+    };
+    state(0, &[384], "0");
+    // Below all keys that are there, between two of them, above all.
+    state(0, &[383], "28");
+    state(9, &[3_584], "28");
+    state(19, &[7_681], "28");
+    // mandatory itself; two keys exchanged.
+    state(0, &[0], "28");
+    state(9, &[4_224, 3_840], "28");
+}
+
 /// All of the above.
 pub fn add(cases: &mut Cases) {
     add_wire(cases);
@@ -187,4 +209,5 @@ pub fn add(cases: &mut Cases) {
     for (source, field, fault) in FIELDS {
         cases.state(source, Kind::Params, field, fault.to_string());
     }
+    add_lists(cases);
 }

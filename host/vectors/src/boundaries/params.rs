@@ -1,10 +1,10 @@
 //! Parameters and the order of their faults (RULES P1 to P8, T3).
 
-use super::layout::{address, area, hex, param, sheet, Resolver, N};
+use super::layout::{address, area, hex, param, sheet, Resolver, A, N};
 use super::table::{Table, ROOM};
 
 /// Parameters with a fault. Where alpn "dot" stands beside others it is P.
-const BAD: [(&str, &str, usize); 29] = [
+const BAD: [(&str, &str, usize); 32] = [
     ("one octet", "00", 26),
     ("three octets", "0005 00", 26),
     ("a value past the end", "0005 0001", 26),
@@ -44,6 +44,13 @@ const BAD: [(&str, &str, usize); 29] = [
     ("a bad port, then key 6", "0003 0000 0006 0000", 27),
     ("a bad port, then an octet", "0003 0000 00", 26),
     ("all three", "0002 0001 00 0004 0000 ffff 0000", 26),
+    ("an absent key, then key 6", "0000 0002 0005 0006 0000", 27),
+    ("an absent key, then an octet", "0000 0002 0005 00", 26),
+    (
+        "an absent key, then key 65535",
+        "0000 0002 0005 0007 0000 ffff 0000",
+        26,
+    ),
     // A mandatory list that names hints or the reserved key (RULES P4).
     (
         "list of key 4, which is there",
@@ -77,7 +84,50 @@ const GOOD: [(&str, &str); 8] = [
     ("keys 255 and 256", "00ff 0000 0100 0000"),
 ];
 
-/// The parameters above, read and written in every carrier.
+/// A mandatory list of these keys, and behind it parameters without values.
+fn listing(list: &[u16], keys: &[u16]) -> Vec<u8> {
+    let list: Vec<u8> = list.iter().flat_map(|key| key.to_be_bytes()).collect();
+    let rest = keys.iter().flat_map(|key| param(*key, &[]));
+    param(0, &list).into_iter().chain(rest).collect()
+}
+
+/// Lists of 170 keys that are wrong in one place: what they show, the place and
+/// the keys from there on. The other keys, and the parameters, are those from
+/// 384 to 65,280 in steps of 384.
+const WRONG: [(&str, usize, &[u16]); 8] = [
+    ("the first less by 1", 0, &[383]),
+    ("the first 0", 0, &[0]),
+    ("the first two exchanged", 0, &[768, 384]),
+    ("one in the middle less by 256", 84, &[32_384]),
+    ("two in the middle exchanged", 84, &[33_024, 32_640]),
+    ("the last more by 1", 169, &[65_281]),
+    ("the last repeated", 168, &[65_280, 65_280]),
+    ("the last two exchanged", 168, &[65_280, 64_896]),
+];
+
+/// The longest mandatory lists, in carrier 2: 4 + 2 × 170 octets and 4 × 170 of
+/// the keys themselves are 1,024 (RULES P4, L4), and with a key more 1,030.
+fn add_long_lists(table: &mut Table) {
+    let with = |params: &[u8]| [Resolver::full(1, N, A, params)];
+    let all: Vec<u16> = (1..=170).map(|count| 384 * count).collect();
+    let params = listing(&all, &all);
+    assert_eq!(params.len(), 1_024);
+    table.goes_round("RULES P4, a list of 170 keys", 2, &with(&params));
+    let mut refused = |what: &str, params: &[u8], fault| {
+        let source = format!("RULES P4, a list of {what}");
+        table.discarded(source.clone(), 2, &area(2, &with(params)), fault);
+        table.write_refused(source, ROOM, &sheet(2, &with(params)), fault);
+    };
+    for (what, place, keys) in WRONG {
+        let behind = &all[place + keys.len()..];
+        let list = [&all[..place], keys, behind].concat();
+        refused(&format!("170 keys, {what}"), &listing(&list, &all), 28);
+    }
+    let more = [&all[..], &[65_281]].concat();
+    refused("171 keys", &listing(&more, &more), 24);
+}
+
+/// The parameters above, read and written in every carrier, and long lists.
 pub fn add(table: &mut Table) {
     for carrier in 1..=5 {
         let with = |params: &[u8]| [Resolver::full(1, N, &address(carrier, 1), params)];
@@ -95,4 +145,5 @@ pub fn add(table: &mut Table) {
         let source = format!("RULES P5, alpn of 255 octets, carrier {carrier}");
         table.goes_round(source, carrier, &with(&longest));
     }
+    add_long_lists(table);
 }
