@@ -3,7 +3,7 @@
 -- that of the rule, and how soon: `MergeExactly`. Assumes nothing: these are definitions.
 use mathlib.Core.Path.{_≡_}
 use mathlib.Core.Bool.{Bool, true, false, cond}
-use mathlib.Core.List.{List, [], _∷_}
+use mathlib.Core.List.{List, [], _∷_, tail}
 use Prim.Native.Nat.{ℕ, zero, suc, _+_, _≤_, _<_}
 use lib.Dec.{ltb, eqb}
 use lib.ListN.{length}
@@ -41,11 +41,6 @@ pub data State : Type 0 where
 abbrev pub look : List ℕ → Look
 look [] = End
 look (x ∷ xs) = Next x
-
--- the keys after it
-abbrev pub tail : List ℕ → List ℕ
-tail [] = []
-tail (x ∷ xs) = xs
 
 -- a decision carried out: neither list goes on by more than one key
 abbrev pub carried : Decision → List ℕ → List ℕ → State

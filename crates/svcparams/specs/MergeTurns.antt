@@ -1,7 +1,7 @@
 -- The turns of the code's walk over a mandatory list and a field are the machine's steps: each return and each turn has a law. Assumes nothing.
 use mathlib.Core.Path.{_≡_, refl, sym, ap, ap₂, _∙_, subst}
 use mathlib.Core.Bool.{Bool, true, false}
-use mathlib.Core.List.{List, [], _∷_}
+use mathlib.Core.List.{List, [], _∷_, tail}
 use Prim.Native.Nat.{ℕ, _+_, _-_, _≤_, _<_}
 use native.Mathlib.Omega.{arith}
 use lib.Dec.{ltb, leb}
@@ -18,7 +18,7 @@ use Rattle.svcparams.specs.declared.walk.Decision.the-variants.{AllFound
 use Rattle.svcparams.specs.Params.{sizeOf}
 use Rattle.svcparams.specs.Entries.{keysIn}
 use Rattle.svcparams.specs.TilingLaws.{size-room, size-head, rest, stop-keys, next-keys, next-room}
-use Rattle.svcparams.specs.Merge.{decided, done, going, look, tail, carried, step, steps, Ran}
+use Rattle.svcparams.specs.Merge.{decided, done, going, look, carried, step, steps, Ran}
 use Rattle.svcparams.specs.MergeLaws.{answered, steps-more, steps-next}
 
 -- ---- a decision on two keys

@@ -199,7 +199,7 @@ high-good least (kv ∷ kvs) ks h e =
     let v = value-other (kv .key) (kv .value) ks (no 0 (omega arith)) (no 1 (omega arith)) (no 2 (omega arith)) (no 3 (omega arith)) in
     simp (sym v) (high-good (kv .key + 1) kvs ks (omega arith) (q .1))
 
--- the same where there is a smaller least key
+-- keys that rise from a number on rise from any smaller one on
 rising-below : (least a : ℕ) (ks : List ℕ) → a ≤ least → rising least ks ≡ true → rising a ks ≡ true
 unfolding rising
 rising-below least a [] h e = refl
