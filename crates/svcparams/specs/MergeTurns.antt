@@ -1,10 +1,10 @@
 -- The turns of the code's walk over a mandatory list and a field are the machine's steps: each return and each turn has a law. Assumes nothing.
 use mathlib.Core.Path.{_≡_, refl, sym, ap, ap₂, _∙_, subst}
-use mathlib.Core.Bool.{Bool, true, false}
+use mathlib.Core.Bool.{Bool, true, false, cond}
 use mathlib.Core.List.{List, [], _∷_, tail}
 use Prim.Native.Nat.{ℕ, _+_, _-_, _≤_, _<_}
 use native.Mathlib.Omega.{arith}
-use lib.Dec.{ltb, leb}
+use lib.Dec.{ltb, leb, eqb}
 use lib.ListN.{length, drop}
 use borrow.Author.Tests.{lt-ltb, le-ltb, eq-eqb, ne-eqb, ltb-true, ltb-false, leb-true, leb-false}
 use Rattle.octets.specs.Cases.{by-test}
@@ -30,16 +30,20 @@ module _ {l r : Look} {w k : ℕ} (el : l ≡ Next w) (er : r ≡ Next k) where
   pub decided-zero : w ≡ 0 → Refused ≡ decided l r
   decided-zero z = sym (decided-both ∙ simp (eq-eqb _ _ z))
 
-  module _ (some : w ≡ 0 → ⊥) where
-    pub decided-low : w < k → Refused ≡ decided l r
-    decided-low h = sym (decided-both ∙ simp (ne-eqb _ _ some, lt-ltb _ _ h))
+  pub decided-low : w < k → Refused ≡ decided l r
+  decided-low h =
+      sym
+      (decided-both
+      ∙ by-test (eqb w 0) (λ b. cond b Refused (cond (ltb w k) Refused (cond (eqb w k) Found Passed)) ≡ Refused)
+      (λ _. refl)
+      (λ _. simp (lt-ltb _ _ h)))
 
-    module _ (h : k ≤ w) where
-      pub decided-found : w ≡ k → Found ≡ decided l r
-      decided-found e = sym (decided-both ∙ simp (ne-eqb _ _ some, le-ltb _ _ h, eq-eqb _ _ e))
+  module _ (some : w ≡ 0 → ⊥) (h : k ≤ w) where
+    pub decided-found : w ≡ k → Found ≡ decided l r
+    decided-found e = sym (decided-both ∙ simp (ne-eqb _ _ some, le-ltb _ _ h, eq-eqb _ _ e))
 
-      pub decided-passed : (w ≡ k → ⊥) → Passed ≡ decided l r
-      decided-passed n = sym (decided-both ∙ simp (ne-eqb _ _ some, le-ltb _ _ h, ne-eqb _ _ n))
+    pub decided-passed : (w ≡ k → ⊥) → Passed ≡ decided l r
+    decided-passed n = sym (decided-both ∙ simp (ne-eqb _ _ some, le-ltb _ _ h, ne-eqb _ _ n))
 
 -- ---- the next key of each list
 
