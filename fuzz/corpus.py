@@ -13,6 +13,7 @@ ANY_ROOM = 0xFFFF
 NAME = b"\x04doh1\x07example\x03com\0"
 LONGEST = b"".join(bytes([n]) + b"a" * n for n in (63, 63, 63, 61)) + b"\0"
 ALPN_DOT = b"\0\x01\0\x04\x03dot"
+NO_DEFAULT_ALPN = b"\0\x02\0\0"
 V4 = bytes([192, 0, 2, 1])
 V6 = bytes.fromhex("20010db8012203000000000000000001")
 # as many keys as 1,024 octets have room for, in a mandatory list and as parameters without values
@@ -72,6 +73,8 @@ def readings(pieces):
     yield "alpn-runs-over", 2, ANY_ROOM, put(k1, 48, b"\x04")
     yield "one-octet-after-name", 2, ANY_ROOM, dhcp6(be(1) + be(18) + NAME + b"\0")
     yield "absent-mandatory-key", 2, ANY_ROOM, full(parameter(0, be(3)))
+    yield "no-default-alpn-alone", 2, ANY_ROOM, full(NO_DEFAULT_ALPN)
+    yield "alpn-and-no-default-alpn", 2, ANY_ROOM, full(parameter(0, be(1) + be(2)) + ALPN_DOT + NO_DEFAULT_ALPN)
     yield "170-mandatory-keys", 2, ANY_ROOM, full(mandatory())
     yield "170-mandatory-keys-one-absent", 2, ANY_ROOM, full(mandatory(absent=KEYS[85]))
     yield "64-addresses", 2, ANY_ROOM, dhcp6(be(1) + be(18) + NAME + be(16 * 64) + V6 * 64 + ALPN_DOT)
@@ -112,6 +115,8 @@ def writings():
     yield "lifetime-in-dhcp6", ANY_ROOM, sheet(2, record(lifetime=1))
     yield "name-only-in-ike4", ANY_ROOM, sheet(4, record())
     yield "loopback", ANY_ROOM, sheet(1, record(addresses=[V4, bytes([127, 0, 0, 1])]))
+    yield "no-default-alpn-alone", ANY_ROOM, sheet(2, record(addresses=[V6], parameters=NO_DEFAULT_ALPN))
+    yield "alpn-and-no-default-alpn", ANY_ROOM, sheet(2, record(addresses=[V6], parameters=ALPN_DOT + NO_DEFAULT_ALPN))
     yield "170-mandatory-keys", ANY_ROOM, sheet(2, record(addresses=[V6], parameters=mandatory()))
     yield "170-mandatory-keys-one-absent", ANY_ROOM, sheet(2, record(addresses=[V6], parameters=mandatory(absent=KEYS[85])))
     yield "router-over-2040", ANY_ROOM, sheet(3, record(addresses=[V6] * 63, parameters=parameter(7, bytes(999))))

@@ -71,8 +71,8 @@ enum {
     DNR_FAULT_DROPPED = 25,         /* no usable address, or an unusable one in a sheet */
     DNR_FAULT_PARAMETERS = 26,      /* service parameters are cut short, or their keys do not rise, or one is 65535 */
     DNR_FAULT_HINT = 27,            /* address hint among the service parameters (key 4 or 6), where addresses have a field of their own */
-    DNR_FAULT_VALUE = 28,           /* the value of a service parameter is not as its key asks: mandatory (0), alpn (1),
-                                       no-default-alpn (2) or port (3) */
+    DNR_FAULT_VALUE = 28,           /* a service parameter is not as its key asks: mandatory (0), alpn (1),
+                                       no-default-alpn (2, only beside alpn) or port (3) */
 
     DNR_REFUSAL_SHEET = 40,         /* not a record sheet: shorter than 7 octets, or not beginning with RSV */
     DNR_REFUSAL_VERSION = 41,       /* record sheet version not 1 */

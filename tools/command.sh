@@ -281,6 +281,7 @@ refused 25 "52535600010201${R}12${N}01000000000000000000000000000000010000"
 refused 26 "52535600010201${R}12${N}01${A}0004ffff0000"
 refused 27 "52535600010201${R}12${N}01${A}000400040000"
 refused 28 "52535600010201${R}12${N}01${A}000400010000"
+refused 28 "52535600010201${R}12${N}01${A}000400020000"
 refused 44 "52535600010301${R}12${N}3f$(repeated 63 "$A")0400ff0003fc$(repeated 1020 00)"
 
 # discarded FAULT OCTET END HEX: the one block of a DHCPv6 area is discarded (tools/findings.py tries this at length).
@@ -297,6 +298,7 @@ discarded 25 28 '' "0090002800010012${N}001000000000000000000000000000000001"
 discarded 26 44 '; parameter key65535' "0090002c00010012${N}0010${A}ffff0000"
 discarded 27 44 '; parameter key6' "0090002c00010012${N}0010${A}00060000"
 discarded 28 44 '; parameter alpn' "0090002c00010012${N}0010${A}00010000"
+discarded 28 44 '; parameter no-default-alpn' "0090002c00010012${N}0010${A}00020000"
 repeated 17 "0090001600010012$N" >"$work/in"
 says "seventeen records" 1 '' "dnr: standard input: refused, 4: $(words 4)" "$dnr" read 2
 octets 9000 >"$work/in"

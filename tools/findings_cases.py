@@ -14,7 +14,8 @@ SHUT = {4: [bytes(quad) for quad in ([127, 0, 0, 1], [127, 255, 255, 255], [224,
         16: [bytes(15) + b"\1", b"\xff" + bytes(15), b"\xff" * 16, bytes.fromhex("ff0200000000000000000000000000fb")]}
 OPEN = {4: [bytes(quad) for quad in ([126, 255, 255, 255], [128, 0, 0, 0], [223, 255, 255, 255], [240, 0, 0, 0], [0, 0, 0, 0])],
         16: [bytes(16), bytes(15) + b"\2", b"\xfe" + b"\xff" * 15, bytes(10) + b"\xff\xff\x7f\0\0\1", b"\1" + bytes(14) + b"\1"]}
-PARAMETERS = show.parameter(1, b"\3dot") + show.parameter(3, b"\x21\x52") + show.parameter(7, b"/dns-query{?dns}")
+ALPN, NO_DEFAULT = show.parameter(1, b"\3dot"), show.parameter(2, b"")
+PARAMETERS = ALPN + show.parameter(3, b"\x21\x52") + show.parameter(7, b"/dns-query{?dns}")
 
 
 def form(carrier):
@@ -272,7 +273,7 @@ def of_addresses(carrier):
 
 def parameter_cases():
     """Octets, where the parameter at fault begins, fault, and its key where it is told."""
-    one, make = show.parameter(1, b"\3dot"), show.parameter
+    one, make, bare = ALPN, show.parameter, NO_DEFAULT
     for n in (1, 2, 3):
         yield b"\0\1\0\0"[:n], 0, 26, None
         yield one + b"\0\7\0\0"[:n], len(one), 26, None
@@ -296,10 +297,16 @@ def parameter_cases():
         yield make(0, b"\0\1") + make(1, octets) + make(3, b""), 6, 28, 1
     yield one + make(2, b"\0"), len(one), 28, 2
     for octets in (b"", b"\0", b"\0\1\2"):
-        yield one + make(2, b"") + make(3, octets), len(one) + 4, 28, 3
+        yield one + bare + make(3, octets), len(one) + 4, 28, 3
+    # key 2 without key 1 is at fault itself (RULES P6), where nothing before it is; 26 and 27 of what follows it go first (RULES T3)
+    yield from ((octets, 0, 28, 2) for octets in (bare, make(2, b"\0"), bare + make(3, b""), bare + make(3, b"\0\1") + make(5, b"") + make(7, b"")))
+    yield from ((make(0, b"\0\2") + bare, 6, 28, 2), (make(0, b"\0\1\0\2") + bare, 0, 28, 0), (make(1, b"") + bare, 0, 28, 1))
+    yield from ((bare + make(4, b""), 4, 27, 4), (bare + make(65535, b""), 4, 26, 65535), (bare + b"\0", 4, 26, None), (bare + one, 4, 26, 1))
 
 
 def of_parameters(carrier):
+    for octets in (ALPN + NO_DEFAULT, show.parameter(0, b"\0\1\0\2") + ALPN + NO_DEFAULT):
+        yield "no-default-alpn beside alpn", carrier, placed(carrier, [body(carrier, parameters=octets)[0]])[0], []
     for octets, at, fault, key in parameter_cases():
         end = "" if key is None else f"; parameter {show.key_name(key)}"
         yield from spoilt(f"parameters {octets[:30].hex()}", carrier, fault, "parameters", at, end, parameters=octets)

@@ -286,6 +286,7 @@ def listed(field):
 
 
 def right_value(key, value, keys):
+    """Whether a value is as RULES P4 to P7 say, beside parameters with these keys."""
     if key == 0:
         wanted = [int.from_bytes(value[i:i + 2], "big") for i in range(0, len(value), 2)]
         return len(value) % 2 == 0 and bool(wanted) and wanted == sorted(set(wanted)) and 0 not in wanted and set(wanted) <= keys
@@ -294,7 +295,7 @@ def right_value(key, value, keys):
         while at < len(value) and value[at] > 0:
             at += 1 + value[at]
         return bool(value) and at == len(value)
-    return {2: value == b"", 3: len(value) == 2}.get(key, True)
+    return {2: value == b"" and 1 in keys, 3: len(value) == 2}.get(key, True)
 
 
 def check_parameters(field):

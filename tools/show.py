@@ -227,8 +227,8 @@ class Maker:
 
     def field(self, most):
         """Parameters of at most `most` octets."""
-        made = []
-        for key in sorted(self.random.sample([1, 2, 3, 5, 7, 8, 100, 4096, 65280, 65534], self.random.randint(0, 6))):
+        made, chosen = [], set(self.random.sample([1, 2, 3, 5, 7, 8, 100, 4096, 65280, 65534], self.random.randint(0, 6)))
+        for key in sorted(chosen | {1} if 2 in chosen else chosen):  # key 2 stands beside key 1 (RULES P6)
             octets = self.random.randbytes(self.random.choice([0, 0, 1, 5, 40]))
             if key == 1:
                 octets = self.protocols()

@@ -352,9 +352,9 @@ fn print_version(json: bool) -> i32
     ensures { λ r. ⌜ Delivered r ⌝ }
 {
     if json {
-        return output::print(json, b"{\"version\":\"0.1.1\"}\n");
+        return output::print(json, b"{\"version\":\"0.2.0\"}\n");
     }
-    output::print(json, b"dnr 0.1.1\n")
+    output::print(json, b"dnr 0.2.0\n")
 }
 
 // The command, with the arguments of the process; its answer is the exit status.

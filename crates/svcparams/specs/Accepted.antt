@@ -18,7 +18,7 @@ abbrev pub Ascending : List ℕ → Type 0
 Ascending [] = Unit
 Ascending (k ∷ ks) = All (λ x. k < x) ks × Ascending ks
 
--- a number is one of the list (RULES P4)
+-- a number is one of the list (RULES P3, P4, P6)
 abbrev pub In : ℕ → List ℕ → Type 0
 In k [] = ⊥
 In k (x ∷ xs) = (x ≡ k) ⊎ In k xs
@@ -72,11 +72,12 @@ pub record Alpn (v : List ℕ) (ss : List (List ℕ)) : Type 0 where
   pub some : 0 < length ss
   pub sizes : All (λ s. (0 < length s) × (length s < 256)) ss
 
--- the value is one that its key allows among the keys ks (RULES P4 to P8; of no-default-alpn RFC 9460 §7.1, of port §7.2)
+-- the value is one that its key allows among the keys ks (RULES P4 to P8): no-default-alpn is empty and stands beside alpn, else the
+-- parameters are not self-consistent (RULES P6; RFC 9460 §7.1.1, §2.4.3); a port has 2 octets (RULES P7; RFC 9460 §7.2)
 pub record Allowed (ks : List ℕ) (kv : Param) : Type 0 where
   pub mandatory : kv .key ≡ key.mandatory → (ws : List ℕ) × Mandatory ks (kv .value) ws
   pub alpn : kv .key ≡ key.alpn → (ss : List (List ℕ)) × Alpn (kv .value) ss
-  pub noDefaultAlpn : kv .key ≡ key.noDefaultAlpn → length (kv .value) ≡ 0
+  pub noDefaultAlpn : kv .key ≡ key.noDefaultAlpn → (length (kv .value) ≡ 0) × In key.alpn ks
   pub port : kv .key ≡ key.port → length (kv .value) ≡ 2
 
 -- ---- the whole field

@@ -3,15 +3,16 @@
 use mathlib.Core.Path.{_≡_, refl, ap, _∙_}
 use mathlib.Core.Bool.{Bool, true, false, cond, not}
 use mathlib.Core.Logic.{_↔_, _⊎_, inl, inr}
-use mathlib.Core.List.{List}
+use mathlib.Core.List.{List, [], _∷_}
 use Prim.Native.Nat.{ℕ}
 use native.Mathlib.Omega.{arith}
 use Rattle.octets.specs.Numbers.{Bytes}
 use Rattle.numbers.specs.Fault as fault
+use Rattle.svcparams.specs.Key as key
 use Rattle.svcparams.specs.Params.{Tiled, bad, tiled, pairs, ordered, hasHint, allGood, tiledFault, paramsFault}
 use Rattle.svcparams.specs.Param.{Param, keys}
 use Rattle.octets.specs.Lists.{All}
-use Rattle.svcparams.specs.Accepted.{fieldOf, Fits, Ordered, Hinted, Allowed, Accepted}
+use Rattle.svcparams.specs.Accepted.{In, fieldOf, Fits, Ordered, Hinted, Allowed, Accepted}
 use Rattle.svcparams.specs.FieldLaws.{tiled-field, field-tiled}
 use Rattle.svcparams.specs.VerdictLaws.{hinted-fault, forbidden-fault, allowed-fault, unordered-fault, Verdict, unordered, hinted, forbidden, accepted, verdict}
 
@@ -72,6 +73,25 @@ value-exactly p o = (λ z. go (verdict p o) z, λ h. forbidden-fault p (h .0) (h
     go (hinted e kvs w h) z = absurd (omega arith)
     go (forbidden e kvs w u v) z = (kvs, w, u, v)
     go (accepted e a) z = absurd (omega arith)
+
+-- ---- no-default-alpn
+
+beside : (ks : List ℕ) (kvs : List Param) → All (Allowed ks) kvs → In key.noDefaultAlpn (keys kvs) → In key.alpn ks
+unfolding keys
+beside ks [] a i = absurd i
+beside ks (kv ∷ kvs) a (inl e) = a .0 .noDefaultAlpn e .1
+beside ks (kv ∷ kvs) a (inr i) = beside ks kvs (a .1) i
+
+-- an accepted field has no-default-alpn only beside alpn: it is self-consistent (RULES P6; RFC 9460 §7.1.1)
+pub self-consistent : (p : List ℕ) (a : Accepted p) → In key.noDefaultAlpn (keys (a .params)) → In key.alpn (keys (a .params))
+self-consistent p a i = beside (keys (a .params)) (a .params) (a .values) i
+
+-- no-default-alpn without alpn has the fault of values, whatever its own and the other values, once keys and hints are as they should be
+pub alpn-needed : (p : List ℕ) (kvs : List Param) → Bytes p → Ordered p kvs → (Hinted kvs → ⊥)
+    → In key.noDefaultAlpn (keys kvs) → (In key.alpn (keys kvs) → ⊥) → paramsFault p ≡ fault.value
+alpn-needed p kvs o w u i n = value-exactly p o .1 (kvs, w, u, λ a. n (beside (keys kvs) kvs a i))
+
+-- ---- its number
 
 -- one of the four numbers, also where p is no octets
 abbrev pub FaultNumber : ℕ → Type 0

@@ -12,7 +12,7 @@ use Rattle.octets.specs.ListsLaws.{skip-within, skip-past}
 use Rattle.octets.specs.Numbers.{at16, words}
 use Rattle.octets.specs.NumbersLaws.{words-cons, words-end, words-length}
 use Rattle.svcparams.specs.Key as key
-use Rattle.svcparams.specs.Params.{rising, has, allIn, mandatoryGood, stringsFrom, alpnGood, valueGood}
+use Rattle.svcparams.specs.Params.{rising, has, allIn, mandatoryGood, stringsFrom, alpnGood, noDefaultAlpnGood, valueGood}
 use Rattle.svcparams.specs.Merge.{Ran}
 use Rattle.svcparams.specs.MergeLaws.{ran-answer}
 
@@ -122,6 +122,17 @@ module _ (v : List ℕ) (at : ℕ) {n : ℕ} (i : Strings v at) (h : at < length
             ∙ ap (stringsFrom 0) (drop-drop (getD v at 0) (suc at) v ∙ ap (λ (k : ℕ). drop k v) s);
       }
 
+-- ---- no-default-alpn
+
+module _ (v ks : List ℕ) where
+  pub no-default-value : (length v ≡ 0 → ⊥) → false ≡ noDefaultAlpnGood v ks
+  unfolding noDefaultAlpnGood
+  no-default-value z = sym (simp (ne-eqb _ _ z))
+
+  pub no-default-empty : {r : Bool} → length v ≡ 0 → r ≡ has key.alpn ks → r ≡ noDefaultAlpnGood v ks
+  unfolding noDefaultAlpnGood
+  no-default-empty z q = q ∙ sym (simp (eq-eqb _ _ z))
+
 -- ---- one value
 
 module _ (k : ℕ) (v ks : List ℕ) where
@@ -135,9 +146,9 @@ module _ (k : ℕ) (v ks : List ℕ) where
     value-alpn h q = q ∙ sym (simp (ne-eqb _ _ n0, eq-eqb _ _ h))
 
     module _ (n1 : k ≡ key.alpn → ⊥) where
-      pub value-no-default-alpn : k ≡ key.noDefaultAlpn → eqb (length v) 0 ≡ valueGood k v ks
+      pub value-no-default-alpn : {r : Bool} → k ≡ key.noDefaultAlpn → r ≡ noDefaultAlpnGood v ks → r ≡ valueGood k v ks
       unfolding valueGood
-      value-no-default-alpn h = sym (simp (ne-eqb _ _ n0, ne-eqb _ _ n1, eq-eqb _ _ h))
+      value-no-default-alpn h q = q ∙ sym (simp (ne-eqb _ _ n0, ne-eqb _ _ n1, eq-eqb _ _ h))
 
       module _ (n2 : k ≡ key.noDefaultAlpn → ⊥) where
         pub value-port : k ≡ key.port → eqb (length v) 2 ≡ valueGood k v ks

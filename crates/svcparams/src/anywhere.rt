@@ -1,5 +1,6 @@
-// A mandatory list in a field whose keys stand in any order: where they do not rise, one walk cannot tell, and each listed key is sought by
-// itself (RULES P4). Only `value`, which is asked of any field, needs this: `params_fault` looks at values only after 26 is ruled out.
+// What can be asked of a field whose keys stand in any order. Where they do not rise, one walk over a mandatory list cannot tell, and each
+// listed key is sought by itself (RULES P4). Only `value`, which is asked of any field, needs that and `rises`: `params_fault` looks at values
+// only after 26 is ruled out.
 ghost use mathlib.Core.Path.{_≡_};
 ghost use Rattle.svcparams.specs.Params.{rising, has, mandatoryGood};
 ghost use Rattle.svcparams.specs.Entries.{keysIn};
@@ -28,7 +29,7 @@ pub fn rises(p: &[u8]) -> bool
 }
 
 // Whether a parameter has the key.
-fn has_key(p: &[u8], key: usize) -> bool
+pub fn has_key(p: &[u8], key: usize) -> bool
     ensures { λ r. ⌜ r ≡ has key (keysIn (now (p .entry))) ⌝ }
 {
     let mut at: usize = 0;

@@ -3,13 +3,13 @@
 // are decided over the whole field first, then address hints, then values. The values of keys without a rule are carried as they are.
 // Nothing here changes or writes parameters.
 ghost use mathlib.Core.Path.{_≡_};
-ghost use Prim.Native.Nat.{ℕ, _≤_};
+ghost use Prim.Native.Nat.{_≤_};
 ghost use lib.ListN.{length};
 ghost use mathlib.Core.Bool.{true};
-ghost use mathlib.Core.List.{List};
 ghost use Rattle.svcparams.specs.Key as keys;
-ghost use Rattle.svcparams.specs.Params.{sizeOf, rising, mandatoryGood, alpnGood, valueGood, allGood, paramsFault};
+ghost use Rattle.svcparams.specs.Params.{sizeOf, rising, mandatoryGood, alpnGood, noDefaultAlpnGood, valueGood, allGood, paramsFault};
 ghost use Rattle.svcparams.specs.Entries.{entries, keysIn};
+use anywhere::has_key;
 use anywhere::mandatory_anywhere;
 use anywhere::rises;
 use numbers::Fault;
@@ -100,16 +100,26 @@ fn alpn(v: &[u8]) -> bool
     true
 }
 
-// Whether its key allows the value v, for keys other than mandatory: their rules do not depend on the other parameters.
-fn plain(key: usize, v: &[u8]) -> bool
+// Whether the value of no-default-alpn is empty, and alpn is a parameter's. Where keys rise alpn stands just before it, and is soon found.
+fn no_default_alpn(v: &[u8], p: &[u8]) -> bool
+    ensures { λ r. ⌜ r ≡ noDefaultAlpnGood (now (v .entry)) (keysIn (now (p .entry))) ⌝ }
+{
+    if v.len() != 0 {
+        return false;
+    }
+    has_key(p, Key::ALPN)
+}
+
+// Whether the value v is one that its key allows in the field p, for keys other than mandatory: in whatever order the keys of p stand.
+fn plain(key: usize, v: &[u8], p: &[u8]) -> bool
     requires { ⌜ (key ≡ keys.mandatory → ⊥) ⌝ }
-    ensures { λ r. ⌜ ((ks : List ℕ) → r ≡ valueGood key (now (v .entry)) ks) ⌝ }
+    ensures { λ r. ⌜ r ≡ valueGood key (now (v .entry)) (keysIn (now (p .entry))) ⌝ }
 {
     if key == Key::ALPN {
         return alpn(v);
     }
     if key == Key::NO_DEFAULT_ALPN {
-        return v.len() == 0;
+        return no_default_alpn(v, p);
     }
     if key == Key::PORT {
         return v.len() == 2;
@@ -122,7 +132,7 @@ pub fn value(key: usize, v: &[u8], p: &[u8]) -> bool
     ensures { λ r. ⌜ r ≡ valueGood key (now (v .entry)) (keysIn (now (p .entry))) ⌝ }
 {
     if key != Key::MANDATORY {
-        return plain(key, v);
+        return plain(key, v, p);
     }
     if rises(p) {
         return mandatory(v, p);
@@ -138,7 +148,7 @@ fn allowed(key: usize, v: &[u8], p: &[u8]) -> bool
     if key == Key::MANDATORY {
         return mandatory(v, p);
     }
-    plain(key, v)
+    plain(key, v, p)
 }
 
 // Whether each parameter's value is one that its key allows, in a field whose keys rise: above the port's no key has a rule.

@@ -34,7 +34,7 @@ table =
     ∷ worded fault.dropped (ascii "no usable address, or an unusable one in a sheet")
     ∷ worded fault.parameters (ascii "service parameters are cut short, or their keys do not rise, or one is 65535")
     ∷ worded fault.hint (ascii "address hint among the service parameters (key 4 or 6), where addresses have a field of their own")
-    ∷ worded fault.value (ascii "the value of a service parameter is not as its key asks: mandatory (0), alpn (1), no-default-alpn (2) or port (3)")
+    ∷ worded fault.value (ascii "a service parameter is not as its key asks: mandatory (0), alpn (1), no-default-alpn (2, only beside alpn) or port (3)")
     ∷ worded fault.padding (ascii "what follows the last field is not 0 to 7 zeros")
     ∷ worded refusal.sheet (ascii "not a record sheet: shorter than 7 octets, or not beginning with RSV")
     ∷ worded refusal.version (ascii "record sheet version not 1")

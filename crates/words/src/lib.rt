@@ -36,7 +36,7 @@ pub fn put_words(out: &mut [u8], at: usize, number: usize) -> usize
           \x19no usable address, or an unusable one in a sheet\n\
           \x1aservice parameters are cut short, or their keys do not rise, or one is 65535\n\
           \x1baddress hint among the service parameters (key 4 or 6), where addresses have a field of their own\n\
-          \x1cthe value of a service parameter is not as its key asks: mandatory (0), alpn (1), no-default-alpn (2) or port (3)\n\
+          \x1ca service parameter is not as its key asks: mandatory (0), alpn (1), no-default-alpn (2, only beside alpn) or port (3)\n\
           \x1dwhat follows the last field is not 0 to 7 zeros\n\
           \x28not a record sheet: shorter than 7 octets, or not beginning with RSV\n\
           \x29record sheet version not 1\n\

@@ -204,11 +204,13 @@ fn mandatory(keys: u16) -> Vec<u8> {
     let mut p = vec![0, 0];
     p.extend((named.len() as u16).to_be_bytes());
     p.extend(&named);
-    for k in 0..keys {
-        p.extend((1000 + k).to_be_bytes());
-        p.extend([0, 0]);
-    }
+    p.extend(bare(keys));
     p
+}
+
+/// Parameters without values.
+fn bare(keys: u16) -> Vec<u8> {
+    (0..keys).flat_map(|k| [(1000 + k).to_be_bytes(), [0, 0]].concat()).collect()
 }
 
 const CARRIERS: [(u8, &str); 5] = [(1, "DHCPv4"), (2, "DHCPv6"), (3, "router advertisement"), (4, "ENCDNS_IP4"), (5, "ENCDNS_IP6")];
@@ -232,12 +234,20 @@ fn mandatory_rows(print_row: fn(&str, u8, &[u8], Option<&[u8]>)) {
     print_row("84 mandatory keys", 2, &half, Some(&all));
 }
 
+/// no-default-alpn without alpn, and behind it `keys` other parameters: fault 28.
+fn alone(keys: u16) -> Vec<u8> {
+    let p = [vec![0, 2, 0, 0], bare(keys)].concat();
+    option(2, &body(2, 1, NAME, 1, &p))
+}
+
 fn main() {
     println!("| call | octets | library ns | reference ns | ratio | octets/µs | against memcpy | growth ×2 |");
     println!("|---|---|---|---|---|---|---|---|");
     let dot = b"\x00\x01\x00\x04\x03dot";
     let k1 = option(2, &body(2, 1, NAME, 1, dot));
+    let no_default = option(2, &body(2, 1, NAME, 1, b"\x00\x01\x00\x04\x03dot\x00\x02\x00\x00"));
     row("K1", 2, &k1, None);
+    row("K1 with no-default-alpn", 2, &no_default, None);
     full_rows(row);
     let one = area(1, 1, 20, &hints()[..39]);
     row("a record in one option 162", 1, &one, None);
@@ -249,7 +259,10 @@ fn main() {
     row("787 blocks with a fault", 2, &small(787), None);
     row("a 255-octet name", 2, &option(2, &body(2, 1, &longest(), 1, dot)), None);
     mandatory_rows(row);
+    row("no-default-alpn alone before 255 keys", 2, &alone(255), None);
+    row("no-default-alpn alone before 127 keys", 2, &alone(127), Some(&alone(255)));
     write_row("K1", 2, &k1, None);
+    write_row("K1 with no-default-alpn", 2, &no_default, None);
     full_rows(write_row);
     write_row("a 255-octet name", 2, &option(2, &body(2, 1, &longest(), 1, dot)), None);
     mandatory_rows(write_row);

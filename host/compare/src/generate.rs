@@ -106,10 +106,12 @@ fn parameter(key: u16, value: &[u8]) -> Vec<u8> {
 pub(crate) fn parameters(r: &mut Random, health: Health) -> Vec<u8> {
     let hurt = health == Health::Hurt;
     let mut list: Vec<(u16, Vec<u8>)> = Vec::new();
-    if r.once_in(2) {
+    let alpn = r.once_in(2);
+    if alpn {
         list.push((1, b"\x03dot".to_vec()));
     }
-    if r.once_in(4) {
+    // RULES P6: good ones have key 2 only beside key 1.
+    if r.once_in(4) && (alpn || hurt) {
         list.push((2, Vec::new()));
     }
     if r.once_in(2) {

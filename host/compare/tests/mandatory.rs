@@ -139,7 +139,7 @@ fn lists(keys: &[u16], long: usize) -> Vec<Vec<u16>> {
     })
 }
 
-/// Every field with some of the keys 1, 2, 3, 5, 7 and 8, where 2 stands only beside 1 (as RULES Qe will ask), and before them every list of up to four of
+/// Every field with some of the keys 1, 2, 3, 5, 7 and 8, where 2 stands only beside 1 (RULES P6), and before them every list of up to four of
 /// these keys and 0, as it is and with an octet more. Good are one to four of a field's keys in their order: 507 lists over the 48 fields.
 #[test]
 fn every_short_list() {

@@ -74,7 +74,7 @@ impl Fault {
     pub const PARAMETERS: Fault = Fault(26);
     /// 27: an address hint among the parameters, key 4 or 6 (ipv4hint, ipv6hint).
     pub const HINT: Fault = Fault(27);
-    /// 28: the value of parameter 0, 1, 2 or 3 (mandatory, alpn, no-default-alpn, port) is not as its key asks.
+    /// 28: parameter 0, 1, 2 or 3 (mandatory, alpn, no-default-alpn, port) is not as its key asks; no-default-alpn asks for alpn beside it.
     pub const VALUE: Fault = Fault(28);
     /// 29: router advertisement, padding that is not 0 to 7 zeros.
     pub const PADDING: Fault = Fault(29);

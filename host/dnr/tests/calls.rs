@@ -149,6 +149,8 @@ fn refusals_of_a_writing() {
     assert_eq!(write_to_vec(&full(1, &[10, 0, 0, 1], &[0])), Err(Fault::PARAMETERS.into()));
     assert_eq!(write_to_vec(&full(1, &[10, 0, 0, 1], &[0, 4, 0, 0])), Err(Fault::HINT.into()));
     assert_eq!(write_to_vec(&full(1, &[10, 0, 0, 1], &[0, 1, 0, 0])), Err(Fault::VALUE.into()));
+    // no-default-alpn without alpn (RULES P6).
+    assert_eq!(write_to_vec(&full(1, &[10, 0, 0, 1], &[0, 2, 0, 0])), Err(Fault::VALUE.into()));
     assert_eq!(write_to_vec(&full(3, &[32; 16 * 63], &[&[9, 0, 3, 252][..], &[0; 1020]].concat())), Err(Refusal::LARGE));
 }
 

@@ -37,10 +37,10 @@ pub fn params_fault(params: &[u8]) -> u8 {
         if key == INVALID || before.is_some_and(|before| key <= before) {
             return PARAMS_SHAPE;
         }
-        before = Some(key);
         // RFC 9463 §3.1.8: the addresses stand in the option instead.
         hints |= key == IPV4HINT || key == IPV6HINT;
-        values_good = values_good && value_is_good(key, value);
+        values_good = values_good && value_is_good(before, key, value);
+        before = Some(key);
     }
     if hints {
         return PARAMS_HINT;
@@ -51,14 +51,16 @@ pub fn params_fault(params: &[u8]) -> u8 {
     0
 }
 
-/// What a value alone must be. Keys 5 and 7 to 65534 are carried as they are.
-fn value_is_good(key: u16, value: &[u8]) -> bool {
+/// What a value must be, behind a parameter with the key `before` if there is
+/// one. Keys 5 and 7 to 65534 are carried as they are.
+fn value_is_good(before: Option<u16>, key: u16, value: &[u8]) -> bool {
     match key {
         // RFC 9460 §8: a list of keys, not empty.
         MANDATORY => !value.is_empty() && value.len().is_multiple_of(2),
         ALPN => is_alpn(value),
-        // RFC 9460 §7.1.1: empty.
-        NO_DEFAULT_ALPN => value.is_empty(),
+        // RULES P6, RFC 9460 §7.1.1: empty, and alpn is there too. Keys rise,
+        // so that alpn can only stand right before it.
+        NO_DEFAULT_ALPN => value.is_empty() && before == Some(ALPN),
         // RFC 9460 §7.2: 2 octets, any port.
         PORT => value.len() == 2,
         _ => true,

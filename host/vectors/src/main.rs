@@ -33,7 +33,7 @@ fn all_cases() -> Cases {
     names::add_text(&mut cases, &mut numbers, 600);
     addresses::add_ipv4(&mut cases, &mut numbers, 150);
     addresses::add_ipv6(&mut cases, &mut numbers, 150);
-    params::add(&mut cases, &mut numbers, 906);
+    params::add(&mut cases, &mut numbers, 910);
     cases
 }
 
@@ -90,7 +90,7 @@ mod tests {
         let kinds = [Kind::Wire, Kind::Text, Kind::Ipv4, Kind::Ipv6, Kind::Params];
         assert_eq!(
             kinds.map(|kind| cases.count(kind)),
-            [600, 600, 150, 150, 906]
+            [600, 600, 150, 150, 910]
         );
         assert_eq!(all_cases().stdin(), stdin);
     }

@@ -142,6 +142,7 @@ fn some_field(numbers: &mut Numbers) -> Vec<u8> {
         }
         field.extend(list(&listed));
     }
+    let has_alpn = keys.contains(&1);
     for key in keys {
         let value = match key {
             1 => numbers.pick(ALPN).to_vec(),
@@ -151,6 +152,10 @@ fn some_field(numbers: &mut Numbers) -> Vec<u8> {
                 .collect(),
             _ => (0..numbers.below(2)).map(|_| numbers.octet()).collect(),
         };
+        // RULES P6: no-default-alpn is good only beside alpn.
+        if key == 2 && !has_alpn {
+            field.extend(param(1, b"\x01a"));
+        }
         field.extend(param(key, &value));
     }
     field

@@ -127,7 +127,7 @@ fn add_addresses(cases: &mut Cases) {
 }
 
 /// Parameter fields: what they show, the field, the fault or 0.
-const FIELDS: [(&str, &[u8], usize); 18] = [
+const FIELDS: [(&str, &[u8], usize); 28] = [
     ("RULES P1, the field may be empty", b"", 0),
     ("RULES K1, P", b"\0\x01\0\x04\x03dot", 0),
     ("RFC 9460 §D.2, port 53", b"\0\x03\0\x02\0\x35", 0),
@@ -177,6 +177,53 @@ const FIELDS: [(&str, &[u8], usize); 18] = [
         "RFC 9460 §D.3, a key twice in the mandatory list",
         b"\0\0\0\x04\0\x7b\0\x7b\0\x7b\0\x03abc",
         28,
+    ),
+    // RFC 9460 §7.1.1: with no-default-alpn "alpn must also be specified".
+    ("RULES P6, no-default-alpn without alpn", b"\0\x02\0\0", 28),
+    (
+        "RULES P6, alpn h2 and no-default-alpn",
+        b"\0\x01\0\x03\x02h2\0\x02\0\0",
+        0,
+    ),
+    (
+        "RULES P6, alpn h2 and no-default-alpn with a value",
+        b"\0\x01\0\x03\x02h2\0\x02\0\x01\0",
+        28,
+    ),
+    (
+        "RULES P6, no-default-alpn with a value, without alpn",
+        b"\0\x02\0\x01\0",
+        28,
+    ),
+    (
+        "RULES P6, no-default-alpn and port without alpn",
+        b"\0\x02\0\0\0\x03\0\x02\0\x35",
+        28,
+    ),
+    (
+        "RULES P6, mandatory no-default-alpn without alpn",
+        b"\0\0\0\x02\0\x02\0\x02\0\0",
+        28,
+    ),
+    (
+        "RULES P6, mandatory alpn and no-default-alpn, which are there",
+        b"\0\0\0\x04\0\x01\0\x02\0\x01\0\x03\x02h2\0\x02\0\0",
+        0,
+    ),
+    (
+        "RULES T3, no-default-alpn without alpn, then ipv4hint",
+        b"\0\x02\0\0\0\x04\0\0",
+        27,
+    ),
+    (
+        "RULES T3, no-default-alpn without alpn, then key 65,535",
+        b"\0\x02\0\0\xff\xff\0\0",
+        26,
+    ),
+    (
+        "RULES T3, no-default-alpn without alpn, then an octet",
+        b"\0\x02\0\0\0",
+        26,
     ),
 ];
 

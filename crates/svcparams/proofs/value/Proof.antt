@@ -6,7 +6,7 @@ use Rattle.svcparams.proofs.value.Statement.{statement}
 use Rattle.svcparams.proofs.value.Tie as tie
 
 returns : tie.Need-returns
-returns c = c .plain .ensures _
+returns c = c .plain .ensures
 
 mandatory-requires : tie.Need-mandatory-requires
 mandatory-requires c κs = sym (c .before .rises .ensures) ∙ c .if2 .taken

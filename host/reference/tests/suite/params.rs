@@ -86,6 +86,92 @@ fn values_are_28() {
     }
 }
 
+/// RULES P6. RFC 9460 §7.1.1: "When no-default-alpn is specified in an RR, alpn
+/// must also be specified in order for the RR to be self-consistent (Section
+/// 2.4.3)".
+#[test]
+fn no_default_alpn_needs_alpn() {
+    for (text, expected) in [
+        // Alone and beside alpn, empty and with a value.
+        ("0002 0000", 28),
+        ("0001 0002 0161 0002 0000", 0),
+        ("0002 0001 00", 28),
+        ("0001 0002 0161 0002 0001 00", 28),
+        // An alpn that is bad itself.
+        ("0001 0000 0002 0000", 28),
+        // Before it a mandatory list, without alpn and with it.
+        ("0000 0002 0002 0002 0000", 28),
+        ("0000 0002 0001 0002 0000", 28),
+        ("0000 0004 0001 0002 0002 0000", 28),
+        ("0000 0002 0002 0001 0002 0161 0002 0000", 0),
+        ("0000 0004 0001 0002 0001 0002 0161 0002 0000", 0),
+        // No other key stands for alpn.
+        ("0002 0000 0003 0002 0035 0005 0000 0007 0000", 28),
+        ("0002 0000 0101 0002 0161", 28),
+        // 26 and 27 are asked of the whole field before (RULES T3).
+        ("0002 0000 0004 0000", 27),
+        ("0002 0000 0004 0000 ffff 0000", 26),
+        ("0002 0000 ffff 0000", 26),
+        ("0002 0000 0005 0001", 26),
+        ("0002 0000 00", 26),
+        ("0002 0000 0001 0002 0161", 26),
+    ] {
+        assert_eq!(fault(text), expected, "{text}");
+    }
+}
+
+/// Without key 0, and with good values, only key 2 without key 1 is wrong.
+#[test]
+fn every_choice_of_keys() {
+    let all = hex("0001 0002 0161 0002 0000 0003 0002 0035 0005 0000 0007 0000 fffe 0000");
+    let ends = [0, 6, 10, 16, 20, 24, 28];
+    for choice in 0..64 {
+        let has = |place: usize| choice >> place & 1 == 1;
+        let params: Vec<u8> = (0..6)
+            .filter(|place| has(*place))
+            .flat_map(|place| all[ends[place]..ends[place + 1]].to_vec())
+            .collect();
+        let expected = if has(1) && !has(0) { 28 } else { 0 };
+        assert_eq!(params_fault(&params), expected, "{params:02x?}");
+    }
+}
+
+/// A block with no-default-alpn alone is discarded and the one beside it kept;
+/// in carrier 1 they are one block. A sheet is refused (RULES P6, W9).
+#[test]
+fn no_default_alpn_when_read_and_written() {
+    let (alone, both) = (hex("0002 0000"), [P, &hex("0002 0000")].concat());
+    for carrier in 1..=5 {
+        let name = if carrier < 4 { N } else { b"doh1.example.com" };
+        let address = if carrier == 1 || carrier == 4 { A4 } else { A };
+        let area = |fields: &[&[u8]]| {
+            let block = |params: &&[u8]| block(carrier, 1, full(name, address, params));
+            let blocks: Vec<u8> = fields.iter().flat_map(block).collect();
+            match carrier {
+                1 => option(1, &blocks),
+                _ => blocks,
+            }
+        };
+        let of = |params: &[u8]| record(carrier, 1, 0, full(N, address, params));
+        let (good, bad) = (sheet(carrier, &[of(&both)]), sheet(carrier, &[of(&alone)]));
+        goes_round(carrier, &area(&[&both]), &good);
+        assert_eq!(fault_of(carrier, &area(&[&alone])), 28);
+        assert_eq!(write_number(&bad), 28);
+        assert_eq!(write_in(0, &bad).0, 28);
+        let later = sheet(carrier, &[of(&both), of(&alone)]);
+        assert_eq!(write_number(&later), 28);
+        for fields in [[&both[..], &alone], [&alone, &both]] {
+            let (reading, read_sheet) = read_done(carrier, &area(&fields));
+            let (found, left) = match carrier {
+                1 => (1, sheet(1, &[])),
+                _ => (2, good.clone()),
+            };
+            assert_eq!((reading.found, reading.discarded), (found, 1));
+            assert_eq!((reading.fault, read_sheet), (28, left));
+        }
+    }
+}
+
 /// The whole field for 26, then for 27, then for 28 (RULES T3).
 #[test]
 fn the_earlier_number_wins_over_the_earlier_parameter() {

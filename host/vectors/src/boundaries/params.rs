@@ -1,10 +1,10 @@
 //! Parameters and the order of their faults (RULES P1 to P8, T3).
 
-use super::layout::{address, area, hex, param, sheet, Resolver, A, N};
-use super::table::{Table, ROOM};
+use super::layout::{address, area, hex, param, sheet, Resolver, A, N, P};
+use super::table::{Done, Table, ROOM};
 
 /// Parameters with a fault. Where alpn "dot" stands beside others it is P.
-const BAD: [(&str, &str, usize); 32] = [
+const BAD: [(&str, &str, usize); 40] = [
     ("one octet", "00", 26),
     ("three octets", "0005 00", 26),
     ("a value past the end", "0005 0001", 26),
@@ -67,14 +67,40 @@ const BAD: [(&str, &str, usize); 32] = [
         "0000 0002 ffff 0001 0004 03646f74",
         28,
     ),
+    // no-default-alpn without alpn (RULES P6, RFC 9460 §7.1.1), and what goes
+    // before it (RULES T3).
+    ("key 2 without alpn", "0002 0000", 28),
+    ("key 2 with a value and without alpn", "0002 0001 00", 28),
+    (
+        "list of key 2, which is there without alpn",
+        "0000 0002 0002 0002 0000",
+        28,
+    ),
+    (
+        "key 2 without alpn, then a port",
+        "0002 0000 0003 0002 0355",
+        28,
+    ),
+    ("key 2 without alpn, then key 4", "0002 0000 0004 0000", 27),
+    (
+        "key 2 without alpn, then key 65535",
+        "0002 0000 ffff 0000",
+        26,
+    ),
+    ("key 2 without alpn, then an octet", "0002 0000 00", 26),
+    ("key 2, then P", "0002 0000 0001 0004 03646f74", 26),
 ];
 
-/// Good parameters (RULES P1, P5 to P8).
-const GOOD: [(&str, &str); 8] = [
+/// Good parameters (RULES P1, P4 to P8).
+const GOOD: [(&str, &str); 9] = [
     ("no parameters", ""),
     ("port 0", "0003 0002 0000"),
     ("port 65535", "0003 0002 ffff"),
     ("P and no-default-alpn", "0001 0004 03646f74 0002 0000"),
+    (
+        "list of keys 1 and 2, P and no-default-alpn",
+        "0000 0004 0001 0002 0001 0004 03646f74 0002 0000",
+    ),
     ("two strings of alpn", "0001 0006 026832 026833"),
     ("key 5", "0005 0003 010203"),
     (
@@ -127,6 +153,39 @@ fn add_long_lists(table: &mut Table) {
     refused("171 keys", &listing(&more, &more), 24);
 }
 
+/// no-default-alpn without alpn beside a resolver that has both: alpn in other
+/// parameters does not count (RULES P6). Of two blocks the bad one is discarded;
+/// in carrier 1 both are instances of one (RULES W9, T2). A sheet is refused
+/// whole, whatever the room (RULES T5, T6), and written with alpn.
+fn add_no_default_alpn(table: &mut Table) {
+    let alone = hex("0002 0000");
+    let both = [P, &alone].concat();
+    for carrier in 1..=5 {
+        let with = |params: &[u8]| Resolver::full(1, N, &address(carrier, 1), params);
+        let (good, bad) = (with(&both), with(&alone));
+        let (first, last) = ([bad.clone(), good.clone()], [good.clone(), bad.clone()]);
+        let done = match carrier {
+            1 => Done::discarded(1, 28),
+            _ => Done {
+                found: 2,
+                discarded: 1,
+                fault: 28,
+                sheet: sheet(carrier, std::slice::from_ref(&good)),
+            },
+        };
+        let source = format!("RULES P6, key 2 without alpn in one of two, carrier {carrier}");
+        table.read_in_rooms(&source, carrier, &area(carrier, &first), &done);
+        table.read(source.clone(), carrier, ROOM, &area(carrier, &last), &done);
+        for resolvers in [&first, &last] {
+            table.write_refused(source.clone(), ROOM, &sheet(carrier, resolvers), 28);
+        }
+        let source = format!("RULES P6, a sheet with key 2, carrier {carrier}");
+        table.write_refused(source.clone(), 0, &sheet(carrier, &[bad]), 28);
+        let octets = area(carrier, std::slice::from_ref(&good));
+        table.write_in_rooms(&source, &sheet(carrier, &[good]), &octets);
+    }
+}
+
 /// The parameters above, read and written in every carrier, and long lists.
 pub fn add(table: &mut Table) {
     for carrier in 1..=5 {
@@ -145,5 +204,6 @@ pub fn add(table: &mut Table) {
         let source = format!("RULES P5, alpn of 255 octets, carrier {carrier}");
         table.goes_round(source, carrier, &with(&longest));
     }
+    add_no_default_alpn(table);
     add_long_lists(table);
 }
