@@ -5,7 +5,7 @@ The same machine code is faster or slower by where it stands. So host/bench is l
 octets past a multiple of 64, and each function of the Rust side at such a multiple. The four programs run in turn, N times (once where
 nothing is said), and each number of a row is the median of what they print; "by place" has the least and the largest ratio. With --before
 another version's library goes through the same, program by program in turn with this one: its time and ratio, and the change of the ratio,
-are further columns. With words only the rows that have one of them in their name are timed.
+are further columns, empty where it answers differently. With words only the rows that have one of them in their name are timed.
 """
 import argparse
 import os
@@ -59,8 +59,11 @@ def row(key, now, before):
     cells = [*key, f"{library:.0f}", f"{reference:.0f}", f"{ratio:.2f}", f"{min(ratios):.2f} to {max(ratios):.2f}", f"{speed:.0f}", f"{copy:.1f}"]
     cells.append("-" if growth is None else f"{growth:.2f}")
     if before:
-        (old, _, old_ratio, *_), _ = medians(before, key)
-        cells += [f"{old:.0f}", f"{old_ratio:.2f}", f"{ratio - old_ratio:+.2f}"]
+        if key in before[0]:
+            (old, _, old_ratio, *_), _ = medians(before, key)
+            cells += [f"{old:.0f}", f"{old_ratio:.2f}", f"{ratio - old_ratio:+.2f}"]
+        else:
+            cells += ["-"] * 3
     return "| " + " | ".join(cells) + " |"
 
 
@@ -79,7 +82,7 @@ def main():
     for _ in range(given.rounds):
         for place in range(len(PLACES)):
             for version, made in programs.items():
-                runs[version].append(rows(made[place], given.words))
+                runs[version].append(rows(made[place], [*(["--before"] if version == "before" else []), *given.words]))
     headings = HEADINGS + (["ns before", "ratio before", "change"] if given.before else [])
     print("| " + " | ".join(headings) + " |")
     print("|" + "---|" * len(headings))

@@ -23,7 +23,7 @@ rising-parts least k ks e =
     (leb-true _ _ (q .0), q .1)
 
 -- a key below all of them is not among them
-low-absent : (w least : ℕ) (ks : List ℕ) → w < least → rising least ks ≡ true → has w ks ≡ false
+pub low-absent : (w least : ℕ) (ks : List ℕ) → w < least → rising least ks ≡ true → has w ks ≡ false
 unfolding has
 low-absent w least [] h e = refl
 low-absent w least (k ∷ ks) h e =

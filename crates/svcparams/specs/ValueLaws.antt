@@ -122,17 +122,6 @@ module _ (v : List ℕ) (at : ℕ) {n : ℕ} (i : Strings v at) (h : at < length
             ∙ ap (stringsFrom 0) (drop-drop (getD v at 0) (suc at) v ∙ ap (λ (k : ℕ). drop k v) s);
       }
 
--- ---- no-default-alpn
-
-module _ (v ks : List ℕ) where
-  pub no-default-value : (length v ≡ 0 → ⊥) → false ≡ noDefaultAlpnGood v ks
-  unfolding noDefaultAlpnGood
-  no-default-value z = sym (simp (ne-eqb _ _ z))
-
-  pub no-default-empty : {r : Bool} → length v ≡ 0 → r ≡ has key.alpn ks → r ≡ noDefaultAlpnGood v ks
-  unfolding noDefaultAlpnGood
-  no-default-empty z q = q ∙ sym (simp (eq-eqb _ _ z))
-
 -- ---- one value
 
 module _ (k : ℕ) (v ks : List ℕ) where
@@ -146,9 +135,9 @@ module _ (k : ℕ) (v ks : List ℕ) where
     value-alpn h q = q ∙ sym (simp (ne-eqb _ _ n0, eq-eqb _ _ h))
 
     module _ (n1 : k ≡ key.alpn → ⊥) where
-      pub value-no-default-alpn : {r : Bool} → k ≡ key.noDefaultAlpn → r ≡ noDefaultAlpnGood v ks → r ≡ valueGood k v ks
-      unfolding valueGood
-      value-no-default-alpn h q = q ∙ sym (simp (ne-eqb _ _ n0, ne-eqb _ _ n1, eq-eqb _ _ h))
+      pub value-no-default-alpn : {b : Bool} → k ≡ key.noDefaultAlpn → b ≡ has key.alpn ks → eqb (length v) 0 && b ≡ valueGood k v ks
+      unfolding valueGood noDefaultAlpnGood
+      value-no-default-alpn h q = ap (λ (b : Bool). eqb (length v) 0 && b) q ∙ sym (simp (ne-eqb _ _ n0, ne-eqb _ _ n1, eq-eqb _ _ h))
 
       module _ (n2 : k ≡ key.noDefaultAlpn → ⊥) where
         pub value-port : k ≡ key.port → eqb (length v) 2 ≡ valueGood k v ks

@@ -15,7 +15,7 @@ use Rattle.svcparams.specs.Param.{Param, keys}
 use Rattle.svcparams.specs.Entries.{entriesFrom, entries, keysIn}
 use Rattle.svcparams.specs.TilingLaws.{rest, valueAt, paramAt, pairs-none, entries-tiled, stop-pairs, stop-entries, stop-keys, next-room, next-pairs, next-entries, next-keys}
 use Rattle.svcparams.specs.ValueLaws.{value-other}
-use Rattle.svcparams.specs.MergeLaws.{rising-parts}
+use Rattle.svcparams.specs.MergeLaws.{rising-parts, low-absent}
 
 -- ---- tiling, the order of keys, and hints
 
@@ -209,15 +209,16 @@ rising-below least a (k ∷ ks) h e =
     let g : a ≤ k = omega arith in
     simp (le-leb _ _ g) (q .1)
 
--- what is left of the field decides, and its keys rise
-pub record Valued (p : List ℕ) (at : ℕ) : Type 0 where
+-- what is left of the field decides, and its keys rise; `beside` is whether alpn stood before
+pub record Valued (p : List ℕ) (at : ℕ) (beside : Bool) : Type 0 where
   pub walk : Walk (λ es. allGood es (keysIn p)) p at
   pub rise : rising 0 (keysIn (drop at p)) ≡ true
+  pub alpn : has key.alpn (keysIn p) ≡ beside || has key.alpn (keysIn (drop at p))
 
-pub values-start : (p : List ℕ) → rising 0 (keysIn p) ≡ true → Valued p 0
-values-start p o = record { walk = walk-start _ p; rise = o }
+pub values-start : (p : List ℕ) → rising 0 (keysIn p) ≡ true → Valued p 0 false
+values-start p o = record { walk = walk-start _ p; rise = o; alpn = refl }
 
-module _ (p : List ℕ) (at : ℕ) {n : ℕ} (i : Valued p at) (e : n ≡ sizeOf (rest p at)) where
+module _ (p : List ℕ) (at : ℕ) (beside : Bool) {n : ℕ} (i : Valued p at beside) (e : n ≡ sizeOf (rest p at)) where
   pub values-end : n ≡ 0 → true ≡ allGood (entries p) (keysIn p)
   unfolding allGood
   values-end z = sym (walk-end p at (i .walk) e z)
@@ -233,6 +234,17 @@ module _ (p : List ℕ) (at : ℕ) {n : ℕ} (i : Valued p at) (e : n ≡ sizeOf
         let r : rising (at16 (rest p at) 0) (at16 (rest p at) 0 ∷ keysIn (drop (at + n) p)) ≡ true = simp (le-leb (at16 (rest p at) 0) (at16 (rest p at) 0) (omega arith)) (upward .1) in
         sym (walk-at p at (i .walk) e z ∙ high-good (at16 (rest p at) 0) (paramAt p at n ∷ entries (drop (at + n) p)) (keysIn p) a r)
 
+    alpn-at : has key.alpn (keysIn p) ≡ beside || (eqb (at16 (rest p at) 0) key.alpn || has key.alpn (keysIn (drop (at + n) p)))
+    unfolding has
+    alpn-at = i .alpn ∙ ap (λ (ks : List ℕ). beside || has key.alpn ks) (next-keys p at e z)
+
+    -- from a key above alpn's on, alpn is there only if it stood before
+    pub values-beside : k ≡ key.noDefaultAlpn → beside ≡ has key.alpn (keysIn p)
+    values-beside h =
+        let none = low-absent key.alpn (at16 (rest p at) 0 + 1) (keysIn (drop (at + n) p)) (omega arith) (upward .1) in
+        let other : at16 (rest p at) 0 ≡ key.alpn → ⊥ = λ y. omega arith in
+        sym (alpn-at ∙ simp (ne-eqb _ _ other, none, or-false))
+
     module _ {b : Bool} (g : b ≡ valueGood k (valueAt p at n) (keysIn p)) where
       judged : valueGood (at16 (rest p at) 0) (valueAt p at n) (keysIn p) ≡ b
       judged = ap (λ (x : ℕ). valueGood x (valueAt p at n) (keysIn p)) (sym q) ∙ sym g
@@ -241,10 +253,11 @@ module _ (p : List ℕ) (at : ℕ) {n : ℕ} (i : Valued p at) (e : n ≡ sizeOf
       unfolding allGood
       values-bad y = sym (walk-at p at (i .walk) e z ∙ simp (judged ∙ not-true _ y))
 
-      pub values-next : not b ≡ false → Valued p (at + n)
+      pub values-next : not b ≡ false → Valued p (at + n) (beside || eqb k key.alpn)
       unfolding allGood
       values-next y =
           record {
             walk = walk-next p at (i .walk) e z (simp (judged ∙ not-false _ y));
             rise = rising-below (at16 (rest p at) 0 + 1) 0 (keysIn (drop (at + n) p)) (omega arith) (upward .1);
+            alpn = alpn-at ∙ simp (sym q, or-assoc);
           }

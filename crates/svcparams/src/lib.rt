@@ -3,11 +3,12 @@
 // are decided over the whole field first, then address hints, then values. The values of keys without a rule are carried as they are.
 // Nothing here changes or writes parameters.
 ghost use mathlib.Core.Path.{_≡_};
-ghost use Prim.Native.Nat.{_≤_};
+ghost use Prim.Native.Nat.{ℕ, _≤_};
 ghost use lib.ListN.{length};
 ghost use mathlib.Core.Bool.{true};
+ghost use mathlib.Core.List.{List};
 ghost use Rattle.svcparams.specs.Key as keys;
-ghost use Rattle.svcparams.specs.Params.{sizeOf, rising, mandatoryGood, alpnGood, noDefaultAlpnGood, valueGood, allGood, paramsFault};
+ghost use Rattle.svcparams.specs.Params.{sizeOf, rising, has, mandatoryGood, alpnGood, valueGood, allGood, paramsFault};
 ghost use Rattle.svcparams.specs.Entries.{entries, keysIn};
 use anywhere::has_key;
 use anywhere::mandatory_anywhere;
@@ -100,26 +101,17 @@ fn alpn(v: &[u8]) -> bool
     true
 }
 
-// Whether the value of no-default-alpn is empty, and alpn is a parameter's. Where keys rise alpn stands just before it, and is soon found.
-fn no_default_alpn(v: &[u8], p: &[u8]) -> bool
-    ensures { λ r. ⌜ r ≡ noDefaultAlpnGood (now (v .entry)) (keysIn (now (p .entry))) ⌝ }
-{
-    if v.len() != 0 {
-        return false;
-    }
-    has_key(p, Key::ALPN)
-}
-
-// Whether the value v is one that its key allows in the field p, for keys other than mandatory: in whatever order the keys of p stand.
-fn plain(key: usize, v: &[u8], p: &[u8]) -> bool
+// Whether the value v is one that its key allows, for keys other than mandatory. Of the other parameters these rules ask only whether alpn is
+// one of them: `beside`, which is looked at for no-default-alpn alone.
+fn plain(key: usize, v: &[u8], beside: bool) -> bool
     requires { ⌜ (key ≡ keys.mandatory → ⊥) ⌝ }
-    ensures { λ r. ⌜ r ≡ valueGood key (now (v .entry)) (keysIn (now (p .entry))) ⌝ }
+    ensures { λ r. ⌜ ((ks : List ℕ) → (key ≡ keys.noDefaultAlpn → beside ≡ has keys.alpn ks) → r ≡ valueGood key (now (v .entry)) ks) ⌝ }
 {
     if key == Key::ALPN {
         return alpn(v);
     }
     if key == Key::NO_DEFAULT_ALPN {
-        return no_default_alpn(v, p);
+        return (v.len() == 0) & beside;
     }
     if key == Key::PORT {
         return v.len() == 2;
@@ -131,8 +123,11 @@ fn plain(key: usize, v: &[u8], p: &[u8]) -> bool
 pub fn value(key: usize, v: &[u8], p: &[u8]) -> bool
     ensures { λ r. ⌜ r ≡ valueGood key (now (v .entry)) (keysIn (now (p .entry))) ⌝ }
 {
+    if key == Key::NO_DEFAULT_ALPN {
+        return plain(key, v, has_key(p, Key::ALPN));
+    }
     if key != Key::MANDATORY {
-        return plain(key, v, p);
+        return plain(key, v, false);
     }
     if rises(p) {
         return mandatory(v, p);
@@ -140,23 +135,26 @@ pub fn value(key: usize, v: &[u8], p: &[u8]) -> bool
     mandatory_anywhere(v, p)
 }
 
-// Whether the value v is one that its key allows in the field p, whose keys rise.
-fn allowed(key: usize, v: &[u8], p: &[u8]) -> bool
+// Whether the value v is one that its key allows in the field p, whose keys rise; `beside` as for `plain`.
+fn allowed(key: usize, v: &[u8], p: &[u8], beside: bool) -> bool
     requires { ⌜ rising 0 (keysIn (now p)) ≡ true ⌝ }
+    requires { ⌜ (key ≡ keys.noDefaultAlpn → beside ≡ has keys.alpn (keysIn (now p))) ⌝ }
     ensures { λ r. ⌜ r ≡ valueGood key (now (v .entry)) (keysIn (now (p .entry))) ⌝ }
 {
     if key == Key::MANDATORY {
         return mandatory(v, p);
     }
-    plain(key, v, p)
+    plain(key, v, beside)
 }
 
-// Whether each parameter's value is one that its key allows, in a field whose keys rise: above the port's no key has a rule.
+// Whether each parameter's value is one that its key allows, in a field whose keys rise: above the port's no key has a rule, and alpn, if it is
+// there, stands before no-default-alpn.
 fn values(p: &[u8]) -> bool
     requires { ⌜ rising 0 (keysIn (now p)) ≡ true ⌝ }
     ensures { λ r. ⌜ r ≡ allGood (entries (now (p .entry))) (keysIn (now (p .entry))) ⌝ }
 {
     let mut at: usize = 0;
+    let mut beside = false;
     loop {
         let s = &p[at..];
         let n = size(s);
@@ -168,9 +166,10 @@ fn values(p: &[u8]) -> bool
             return true;
         }
         let v = &s[4..n];
-        if !allowed(key, v, p) {
+        if !allowed(key, v, p, beside) {
             return false;
         }
+        beside = beside | (key == Key::ALPN);
         at += n;
     }
 }

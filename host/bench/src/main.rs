@@ -3,11 +3,13 @@
 //! The three are timed in turn within each of many short rounds, so that they meet the same machine. A time is the best round's; the ratio of
 //! library and reference is the median of the rounds' ratios, which other work on the machine moves least. The buffers are not cleared
 //! between calls. Growth is the library's time on input of twice the size, divided by its time here. Given words, it times the rows that have one
-//! of them in their name.
+//! of them in their name. Given `--before` it leaves out the rows that the library, which then is another version's, answers differently.
 
 use std::hint::black_box;
 use std::time::{Duration, Instant};
 
+/// The argument that says that the library is another version's.
+const BEFORE: &str = "--before";
 const ROUNDS: usize = 301;
 const ROUND: Duration = Duration::from_micros(300);
 
@@ -46,32 +48,39 @@ fn times(calls: [&mut dyn FnMut(); 3]) -> Times {
     Times { best, ratio: ratios[ROUNDS / 2] }
 }
 
-fn timed_reading(carrier: u8, area: &[u8]) -> Times {
+/// Whether the library answers as the reference does. Only another version's may answer differently.
+fn alike<A: PartialEq + std::fmt::Debug>(library: A, reference: A) -> bool {
+    let same = library == reference;
+    assert!(same || std::env::args().any(|a| a == BEFORE), "{library:?} of the library, {reference:?} of the reference");
+    same
+}
+
+fn timed_reading(carrier: u8, area: &[u8]) -> Option<Times> {
     let (mut one, mut two, mut three) = (vec![0u8; 36_775], vec![0u8; 36_775], vec![0u8; 40_960]);
     let number = usize::from(carrier);
-    let check = compare::read(number, area, &mut one);
-    assert_eq!(check, dnr_reference::read(carrier, area, &mut two));
-    times([
+    let same = alike(compare::read(number, area, &mut one), dnr_reference::read(carrier, area, &mut two));
+    same.then(|| times([
         &mut || { black_box(compare::read(number, black_box(area), black_box(&mut one))); },
         &mut || { black_box(dnr_reference::read(carrier, black_box(area), black_box(&mut two))); },
         &mut || { black_box(&mut three[..area.len()]).copy_from_slice(black_box(area)); },
-    ])
+    ]))
 }
 
-fn timed_writing(sheet: &[u8]) -> Times {
+fn timed_writing(sheet: &[u8]) -> Option<Times> {
     let (mut one, mut two, mut three) = (vec![0u8; 40_960], vec![0u8; 40_960], vec![0u8; 40_960]);
     let check = compare::write(sheet, &mut one);
-    assert_eq!(check, dnr_reference::write(sheet, &mut two));
     assert_eq!(check.number, 0);
-    times([
+    let same = alike(check, dnr_reference::write(sheet, &mut two));
+    same.then(|| times([
         &mut || { black_box(compare::write(black_box(sheet), black_box(&mut one))); },
         &mut || { black_box(dnr_reference::write(black_box(sheet), black_box(&mut two))); },
         &mut || { black_box(&mut three[..sheet.len()]).copy_from_slice(black_box(sheet)); },
-    ])
+    ]))
 }
 
-/// Prints a row, with the times of the same on twice the input where there are some.
-fn print(what: &str, octets: usize, times: Times, doubled: Option<Times>) {
+/// Prints a row that was timed, with the times of the same on twice the input where there are some.
+fn print(what: &str, octets: usize, times: Option<Times>, doubled: Option<Times>) {
+    let Some(times) = times else { return };
     let [library, reference, copy] = times.best;
     let growth = doubled.map_or("-".into(), |d| format!("{:.2}", d.best[0] / library));
     println!(
@@ -84,14 +93,14 @@ fn print(what: &str, octets: usize, times: Times, doubled: Option<Times>) {
 
 /// Whether a row is to be timed.
 fn wanted(what: &str) -> bool {
-    let mut words = std::env::args().skip(1).peekable();
+    let mut words = std::env::args().skip(1).filter(|a| a != BEFORE).peekable();
     words.peek().is_none() || words.any(|w| what.contains(&w))
 }
 
 fn row(what: &str, carrier: u8, area: &[u8], doubled: Option<&[u8]>) {
     let what = format!("reading {what}");
     if wanted(&what) {
-        let more = doubled.map(|d| timed_reading(carrier, d));
+        let more = doubled.and_then(|d| timed_reading(carrier, d));
         print(&what, area.len(), timed_reading(carrier, area), more);
     }
 }
@@ -108,7 +117,7 @@ fn sheet(carrier: u8, area: &[u8]) -> Vec<u8> {
 fn write_row(what: &str, carrier: u8, area: &[u8], doubled: Option<&[u8]>) {
     let what = format!("writing {what}");
     if wanted(&what) {
-        let more = doubled.map(|d| timed_writing(&sheet(carrier, d)));
+        let more = doubled.and_then(|d| timed_writing(&sheet(carrier, d)));
         let s = sheet(carrier, area);
         print(&what, s.len(), timed_writing(&s), more);
     }

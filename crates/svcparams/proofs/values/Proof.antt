@@ -4,15 +4,15 @@ use native.Mathlib.Omega.{arith}
 use Prim.Native.Nat.{_-_}
 use lib.ListN.{length}
 use Rattle.svcparams.specs.TilingLaws.{size-head}
-use Rattle.svcparams.specs.WalkLaws.{Valued, values-start, values-end, values-high, values-bad, values-next}
+use Rattle.svcparams.specs.WalkLaws.{Valued, values-start, values-end, values-high, values-beside, values-bad, values-next}
 use Rattle.svcparams.proofs.values.Statement.{statement}
 use Rattle.svcparams.proofs.values.Tie as tie
 
 abbrev Inv-loop : tie.InvT-loop
-Inv-loop p at₀ at = Valued p at
+Inv-loop p at₀ beside₀ at beside = Valued p at beside
 
 abbrev μ-loop : tie.MeasureT-loop
-μ-loop p at₀ at = length p - at
+μ-loop p at₀ beside₀ at beside = length p - at
 
 loop-holds : tie.Need-loop-holds Inv-loop μ-loop
 loop-holds c = search (needs, values-start)
@@ -31,6 +31,9 @@ part-v-start c = omega (arith, size-head _ (c .before .before .before .size .ens
 
 returns-2 : tie.Need-returns-2 Inv-loop μ-loop
 returns-2 c = search (needs, values-high)
+
+allowed-requires : tie.Need-allowed-requires Inv-loop μ-loop
+allowed-requires c κs = search (needs, values-beside)
 
 returns-3 : tie.Need-returns-3 Inv-loop μ-loop
 returns-3 c = search (needs, values-bad)
@@ -55,7 +58,7 @@ values-spec =
     sub-v
     part-v-start
     (λ c. search needs)
-    (λ c κs. search needs)
+    allowed-requires
     returns-3
     (λ c. search needs)
     (λ c. search needs)
