@@ -5,7 +5,7 @@ The same machine code is faster or slower by where it stands. So host/bench is l
 octets past a multiple of 64, and each function of the Rust side at such a multiple. The four programs run in turn, N times (once where
 nothing is said), and each number of a row is the median of what they print; "by place" has the least and the largest ratio. With --before
 another version's library goes through the same, program by program in turn with this one: its time and ratio, and the change of the ratio,
-are further columns, empty where it answers differently. With words only the rows that have one of them in their name are timed.
+are further columns, `-` where it answers differently. With words only the rows that have one of them in their name are timed.
 """
 import argparse
 import os

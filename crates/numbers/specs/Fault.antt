@@ -34,7 +34,7 @@ parameters = 26
 abbrev pub hint : ℕ
 hint = 27
 
--- the value of key 0, 1, 2 or 3 (RULES R28)
+-- key 0, 1, 2 or 3 is not as RULES P4 to P7 say (RULES R28)
 abbrev pub value : ℕ
 value = 28
 

@@ -65,7 +65,7 @@ impl Fault {
     // Key 4 or 6 (ipv4hint, ipv6hint).
     pub const HINT: usize = 27;
 
-    // The value of key 0, 1, 2 or 3.
+    // Key 0, 1, 2 or 3 is not as RULES P4 to P7 say.
     pub const VALUE: usize = 28;
 
     // Carrier 3: padding that is not 0 to 7 zeros.

@@ -15,7 +15,7 @@ use Rattle.octets.specs.NumbersLaws.{words-small, length-numbers, words-numbers
 use Rattle.svcparams.specs.Key as key
 use Rattle.svcparams.specs.Params.{rising, has, isHint, hasHint, allIn, mandatoryGood, stringsFrom, alpnGood, noDefaultAlpnGood, valueGood, allGood}
 use Rattle.svcparams.specs.Param.{Param, keys}
-use Rattle.svcparams.specs.ValueLaws.{strings-skip, strings-past, value-mandatory, value-alpn, value-no-default-alpn, value-port, value-other}
+use Rattle.svcparams.specs.ValueLaws.{strings-skip, strings-past, value-mandatory, value-alpn, no-default-value, value-port, value-other}
 use Rattle.svcparams.specs.MergeLaws.{rising-parts}
 use Rattle.octets.specs.Cases.{by-test}
 use Rattle.octets.specs.Lists.{All}
@@ -233,11 +233,10 @@ good-alpn v o e =
 
 -- ---- no-default-alpn
 
-no-default-good : (ks v : List ℕ) → (length v ≡ 0) × In key.alpn ks → eqb (length v) 0 && has key.alpn ks ≡ true
+no-default-good : (ks v : List ℕ) → (length v ≡ 0) × In key.alpn ks → noDefaultAlpnGood v ks ≡ true
 no-default-good ks v g = simp (eq-eqb _ _ (g .0)) (in-has key.alpn ks (g .1))
 
 good-no-default : (ks v : List ℕ) → noDefaultAlpnGood v ks ≡ true → (length v ≡ 0) × In key.alpn ks
-unfolding noDefaultAlpnGood
 good-no-default ks v e =
     let q = and-eq-true-iff (eqb (length v) 0) (has key.alpn ks) .0 e in
     (eqb-true _ _ (q .0), has-in key.alpn ks (q .1))
@@ -250,7 +249,7 @@ allowed-good ks kv g =
     let v = kv .value in
     by-equal k key.mandatory (λ e. let m = g .mandatory e in sym (value-mandatory k v ks e (sym (mandatory-good ks v (m .0) (m .1)))))
     (λ n0. by-equal k key.alpn (λ e. let a = g .alpn e in sym (value-alpn k v ks n0 e (sym (alpn-good v (a .0) (a .1)))))
-    (λ n1. by-equal k key.noDefaultAlpn (λ e. sym (value-no-default-alpn k v ks n0 n1 e refl) ∙ no-default-good ks v (g .noDefaultAlpn e))
+    (λ n1. by-equal k key.noDefaultAlpn (λ e. no-default-value k v ks n0 n1 e ∙ no-default-good ks v (g .noDefaultAlpn e))
     (λ n2. by-equal k key.port (λ e. sym (value-port k v ks n0 n1 n2 e) ∙ eq-eqb _ _ (g .port e))
     (λ n3. sym (value-other k v ks n0 n1 n2 n3)))))
 

@@ -91,7 +91,7 @@ pub alpn-needed : (p : List ℕ) (kvs : List Param) → Bytes p → Ordered p kv
     → In key.noDefaultAlpn (keys kvs) → (In key.alpn (keys kvs) → ⊥) → paramsFault p ≡ fault.value
 alpn-needed p kvs o w u i n = value-exactly p o .1 (kvs, w, u, λ a. n (beside (keys kvs) kvs a i))
 
--- ---- its number
+-- ---- the number of a field's fault
 
 -- one of the four numbers, also where p is no octets
 abbrev pub FaultNumber : ℕ → Type 0

@@ -90,11 +90,11 @@ unfoldable pub alpnGood : List ℕ → Bool
 alpnGood v = not (eqb (length v) 0) && stringsFrom 0 v
 
 -- no-default-alpn: empty, and alpn is among the keys ks (RULES P6; RFC 9460 §7.1.1, §2.4.3)
-unfoldable pub noDefaultAlpnGood : List ℕ → List ℕ → Bool
+abbrev pub noDefaultAlpnGood : List ℕ → List ℕ → Bool
 noDefaultAlpnGood v ks = eqb (length v) 0 && has key.alpn ks
 
--- the value v of the key k, where ks are the keys of the same parameters: of mandatory, alpn and no-default-alpn as above, port has 2 octets
--- (RULES P7; RFC 9460 §7.2), and the value of a key without a rule is carried as it is (RULES P8)
+-- the value v of the key k, where ks are the keys of the same parameters: mandatory, alpn and no-default-alpn as above; port has 2 octets
+-- (RULES P7; RFC 9460 §7.2); the value of any other key is carried as it is (RULES P8)
 unfoldable pub valueGood : ℕ → List ℕ → List ℕ → Bool
 valueGood k v ks =
     cond (eqb k key.mandatory) (mandatoryGood v ks)

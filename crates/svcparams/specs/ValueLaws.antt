@@ -135,9 +135,12 @@ module _ (k : ℕ) (v ks : List ℕ) where
     value-alpn h q = q ∙ sym (simp (ne-eqb _ _ n0, eq-eqb _ _ h))
 
     module _ (n1 : k ≡ key.alpn → ⊥) where
+      pub no-default-value : k ≡ key.noDefaultAlpn → valueGood k v ks ≡ noDefaultAlpnGood v ks
+      unfolding valueGood
+      no-default-value h = simp (ne-eqb _ _ n0, ne-eqb _ _ n1, eq-eqb _ _ h)
+
       pub value-no-default-alpn : {b : Bool} → k ≡ key.noDefaultAlpn → b ≡ has key.alpn ks → eqb (length v) 0 && b ≡ valueGood k v ks
-      unfolding valueGood noDefaultAlpnGood
-      value-no-default-alpn h q = ap (λ (b : Bool). eqb (length v) 0 && b) q ∙ sym (simp (ne-eqb _ _ n0, ne-eqb _ _ n1, eq-eqb _ _ h))
+      value-no-default-alpn h q = ap (λ (b : Bool). eqb (length v) 0 && b) q ∙ sym (no-default-value h)
 
       module _ (n2 : k ≡ key.noDefaultAlpn → ⊥) where
         pub value-port : k ≡ key.port → eqb (length v) 2 ≡ valueGood k v ks

@@ -238,7 +238,7 @@ module _ (p : List ℕ) (at : ℕ) (beside : Bool) {n : ℕ} (i : Valued p at be
     unfolding has
     alpn-at = i .alpn ∙ ap (λ (ks : List ℕ). beside || has key.alpn ks) (next-keys p at e z)
 
-    -- from a key above alpn's on, alpn is there only if it stood before
+    -- at no-default-alpn: alpn is there exactly if it stood before
     pub values-beside : k ≡ key.noDefaultAlpn → beside ≡ has key.alpn (keysIn p)
     values-beside h =
         let none = low-absent key.alpn (at16 (rest p at) 0 + 1) (keysIn (drop (at + n) p)) (omega arith) (upward .1) in

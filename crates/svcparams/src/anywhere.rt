@@ -1,6 +1,6 @@
-// What is asked of a field whose keys stand in any order: whether they rise, whether a key is there, and a mandatory list, where each listed key
-// is sought by itself, since one walk cannot tell (RULES P4). Only `value`, which is asked of any field, needs this: `params_fault` looks at
-// values only after 26 is ruled out.
+// What is asked of a field whose keys stand in any order: whether they rise; whether a key is there (RULES P6); and whether a mandatory list is
+// good, where each listed key is sought by itself, since one walk cannot tell (RULES P4). Only `value`, which is asked of any field, needs this:
+// `params_fault` looks at values only after 26 is ruled out.
 ghost use mathlib.Core.Path.{_≡_};
 ghost use Rattle.svcparams.specs.Params.{rising, has, mandatoryGood};
 ghost use Rattle.svcparams.specs.Entries.{keysIn};

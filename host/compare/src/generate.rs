@@ -1,5 +1,6 @@
 //! Areas for the five carriers: valid ones, and ones damaged in a field, a length, the framing or any octet.
 
+use crate::parameters::parameter;
 use crate::random::Random;
 
 /// The octets of an address.
@@ -93,13 +94,6 @@ fn addresses(r: &mut Random, carrier: u8, health: Health) -> Vec<u8> {
         out.push(r.octet());
     }
     out
-}
-
-fn parameter(key: u16, value: &[u8]) -> Vec<u8> {
-    let mut p = key.to_be_bytes().to_vec();
-    p.extend((value.len() as u16).to_be_bytes());
-    p.extend(value);
-    p
 }
 
 /// Parameters with rising keys; damaged ones break a rule of keys or values, or a length.

@@ -1,6 +1,7 @@
 //! The proved library's calls for Rust, and the generator of input on which it is compared with the reference.
 
 pub mod generate;
+pub mod parameters;
 pub mod random;
 pub mod sheets;
 

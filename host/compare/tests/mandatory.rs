@@ -1,25 +1,12 @@
 //! Mandatory lists (RULES P4) by the proved library, by the reference and by the rule in terms of sets: the same fault of all three, when an
 //! option is read and when its sheet is written, and the same octets.
 
+use compare::parameters::{agree, good_value, parameter};
 use compare::random::Random;
-use compare::{read, write, Reading, Writing};
 use std::collections::BTreeSet;
-
-const MARK: u8 = 0x3C;
 
 /// The most octets of parameters (RULES L4).
 const MOST: usize = 1_024;
-
-const NAME: &[u8] = b"\x01a\x01b\x00";
-const ADDRESS: &[u8] = &[0x20, 1, 0xd, 0xb8, 0, 0, 0, 0, 0, 0, 0, 0, 0, 0, 0, 9];
-
-/// An implementation: what it is called, and its two calls, the first under carrier 2.
-type Side = (&'static str, fn(&[u8], &mut [u8]) -> Reading, fn(&[u8], &mut [u8]) -> Writing);
-
-const SIDES: [Side; 2] = [
-    ("library", |area, sheet| read(2, area, sheet), write),
-    ("reference", |area, sheet| dnr_reference::read(2, area, sheet), dnr_reference::write),
-];
 
 /// A mandatory list as octets, and the keys of the parameters after it, each with its value.
 struct Field {
@@ -29,19 +16,6 @@ struct Field {
 
 fn octets_of(keys: &[u16]) -> Vec<u8> {
     keys.iter().flat_map(|key| key.to_be_bytes()).collect()
-}
-
-fn parameter(key: u16, value: &[u8]) -> Vec<u8> {
-    [&key.to_be_bytes()[..], &(value.len() as u16).to_be_bytes(), value].concat()
-}
-
-/// A value that its key takes: alpn "dot", the port 853, else none.
-fn good_value(key: u16) -> Vec<u8> {
-    match key {
-        1 => b"\x03dot".to_vec(),
-        3 => vec![3, 85],
-        _ => vec![],
-    }
 }
 
 impl Field {
@@ -81,40 +55,11 @@ impl Field {
     }
 }
 
-/// An option of carrier 2: priority 1, the name a.b, one address, the parameters (RULES B1).
-fn option(parameters: &[u8]) -> Vec<u8> {
-    let body = [&[0, 1, 0, 5][..], NAME, &[0, 16], ADDRESS, parameters].concat();
-    [&[0, 144][..], &(body.len() as u16).to_be_bytes(), &body].concat()
-}
-
-/// The sheet of that option (RULES S1, S2).
-fn sheet(parameters: &[u8]) -> Vec<u8> {
-    let length = (parameters.len() as u16).to_be_bytes();
-    [b"RSV\x00\x01\x02\x01", &[0, 1, 0, 0, 0, 0, 1, 5][..], NAME, &[1], ADDRESS, &length, parameters].concat()
-}
-
-/// Whether a buffer begins with these octets and is as it was past them.
-fn holds(buffer: &[u8], octets: &[u8]) -> bool {
-    buffer.starts_with(octets) && buffer[octets.len()..].iter().all(|&octet| octet == MARK)
-}
-
-/// Both calls of both implementations. Without a fault the option is read as the sheet, and the sheet written as the option; with one the
-/// option is discarded (RULES W9), and the sheet refused (RULES T6). Gives back the fault.
+/// Asserts that both implementations have the fault of the rules, in carrier 2, and gives it back.
 fn agreed(field: &Field) -> usize {
     let (parameters, fault) = (field.octets(), field.fault());
     assert!(parameters.len() <= MOST);
-    let (area, sheet) = (option(&parameters), sheet(&parameters));
-    let (as_sheet, as_octets) = if fault == 0 { (&sheet[..], &area[..]) } else { (&b"RSV\x00\x01\x02\x00"[..], &[][..]) };
-    let reading = Reading { number: 0, length: as_sheet.len(), found: 1, discarded: usize::from(fault != 0), fault };
-    let writing = Writing { number: fault, length: as_octets.len() };
-    for (side, read, write) in SIDES {
-        let mut buffer = vec![MARK; sheet.len() + 3];
-        assert_eq!(read(&area, &mut buffer), reading, "{side}, parameters {parameters:02x?}");
-        assert!(holds(&buffer, as_sheet), "{side}, the sheet of parameters {parameters:02x?}");
-        let mut buffer = vec![MARK; area.len() + 3];
-        assert_eq!(write(&sheet, &mut buffer), writing, "{side}, parameters {parameters:02x?}");
-        assert!(holds(&buffer, as_octets), "{side}, the option of parameters {parameters:02x?}");
-    }
+    agree(2..=2, &[(parameters, fault)]);
     fault
 }
 

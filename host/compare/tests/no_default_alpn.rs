@@ -1,24 +1,9 @@
 //! no-default-alpn only beside alpn (RULES P6) by the proved library, by the reference and by the rule itself: the same fault of all three, when
-//! options are read and when their sheet is written, in every carrier, and the same octets. RFC 9460 §7.1.1: "When no-default-alpn is specified in
-//! an RR, alpn must also be specified in order for the RR to be self-consistent (Section 2.4.3)".
+//! options are read and when their sheet is written, in every carrier, and the same octets. RFC 9460 §7.1.1: a record with no-default-alpn
+//! is self-consistent (§2.4.3) only if it has alpn too.
 
-use compare::{read, write, Reading, Writing};
+use compare::parameters::{agree, good_value, parameter};
 use std::slice::from_ref;
-
-const MARK: u8 = 0x96;
-
-/// The name a.b in wire form, and an address of each width.
-const NAME: &[u8] = b"\x01a\x01b\x00";
-const V4: &[u8] = &[192, 0, 2, 9];
-const V6: &[u8] = &[0x20, 1, 0xd, 0xb8, 0, 0, 0, 0, 0, 0, 0, 0, 0, 0, 0, 9];
-
-/// An implementation: what it is called, and its two calls.
-type Side = (&'static str, fn(u8, &[u8], &mut [u8]) -> Reading, fn(&[u8], &mut [u8]) -> Writing);
-
-const SIDES: [Side; 2] = [
-    ("library", |carrier, area, sheet| read(usize::from(carrier), area, sheet), write),
-    ("reference", dnr_reference::read, dnr_reference::write),
-];
 
 /// A parameter, and whether its value alone is good.
 #[derive(Clone)]
@@ -28,14 +13,8 @@ struct Parameter {
     good: bool,
 }
 
-/// A value that its key takes: alpn "dot", the port 853, else none.
 fn good(key: u16) -> Parameter {
-    let value = match key {
-        1 => b"\x03dot".to_vec(),
-        3 => vec![3, 85],
-        _ => vec![],
-    };
-    Parameter { key, value, good: true }
+    Parameter { key, value: good_value(key), good: true }
 }
 
 /// A value that its key does not take: alpn without a string, no-default-alpn with an octet, a port of one.
@@ -44,13 +23,8 @@ fn bad(key: u16) -> Parameter {
     Parameter { key, value, good: false }
 }
 
-fn octets(parameter: &Parameter) -> Vec<u8> {
-    let length = (parameter.value.len() as u16).to_be_bytes();
-    [&parameter.key.to_be_bytes()[..], &length, &parameter.value].concat()
-}
-
 fn octets_of(field: &[Parameter]) -> Vec<u8> {
-    field.iter().flat_map(octets).collect()
+    field.iter().flat_map(|one| parameter(one.key, &one.value)).collect()
 }
 
 /// The fault of parameters that tile and whose keys rise: 26 for key 65535 (RULES P2), then 27 for a hint (RULES P3), then 28 for a value that is
@@ -68,88 +42,6 @@ fn fault(field: &[Parameter]) -> usize {
     }
 }
 
-fn address(carrier: u8) -> &'static [u8] {
-    if carrier == 1 || carrier == 4 { V4 } else { V6 }
-}
-
-/// The body of a resolver of priority 1, with the name a.b, one address and these parameters (RULES B1).
-fn body(carrier: u8, parameters: &[u8]) -> Vec<u8> {
-    let address = address(carrier);
-    let length = (parameters.len() as u16).to_be_bytes();
-    match carrier {
-        1 => [&[0, 1, 5][..], NAME, &[4], address, parameters].concat(),
-        2 => [&[0, 1, 0, 5][..], NAME, &[0, 16], address, parameters].concat(),
-        3 => [&[0, 1, 0, 0, 0, 7, 0, 5][..], NAME, &[0, 16], address, &length, parameters].concat(),
-        _ => [&[0, 1, 1, 3][..], address, b"a.b", parameters].concat(),
-    }
-}
-
-/// Its option, in carrier 1 its instance.
-fn block(carrier: u8, parameters: &[u8]) -> Vec<u8> {
-    let body = body(carrier, parameters);
-    let length = (body.len() as u16).to_be_bytes();
-    let eights = (body.len() + 2).div_ceil(8);
-    match carrier {
-        1 => [&length[..], &body].concat(),
-        2 => [&[0, 144][..], &length, &body].concat(),
-        3 => [&[144, eights as u8][..], &body, &vec![0; 8 * eights - 2 - body.len()]].concat(),
-        _ => [&[0, 23 + carrier][..], &length, &body].concat(),
-    }
-}
-
-/// The octets of resolvers with these parameters, as they are written (RULES E2, E3).
-fn area(carrier: u8, fields: &[&[u8]]) -> Vec<u8> {
-    let blocks: Vec<u8> = fields.iter().flat_map(|parameters| block(carrier, parameters)).collect();
-    match carrier {
-        1 => blocks.chunks(255).flat_map(|data| [&[162, data.len() as u8][..], data].concat()).collect(),
-        _ => blocks,
-    }
-}
-
-/// The sheet of the same (RULES S1, S2).
-fn sheet(carrier: u8, fields: &[&[u8]]) -> Vec<u8> {
-    let lifetime = if carrier == 3 { 7 } else { 0 };
-    let record = |parameters: &&[u8]| {
-        let length = (parameters.len() as u16).to_be_bytes();
-        [&[0, 1, 0, 0, 0, lifetime, 1, 5][..], NAME, &[1], address(carrier), &length, parameters].concat()
-    };
-    let records: Vec<u8> = fields.iter().flat_map(record).collect();
-    [b"RSV\x00\x01", &[carrier, fields.len() as u8][..], &records].concat()
-}
-
-/// Whether a buffer begins with these octets and is as it was past them.
-fn holds(buffer: &[u8], octets: &[u8]) -> bool {
-    buffer.starts_with(octets) && buffer[octets.len()..].iter().all(|&octet| octet == MARK)
-}
-
-/// Both calls of both implementations, in every carrier, on resolvers with these parameters, each beside the fault that it has. Those without one
-/// are read, the others discarded (RULES W9); in carrier 1 all are one block. The sheet of all is written, or refused with the first fault
-/// (RULES T5, T6).
-fn agree(fields: &[(Vec<u8>, usize)]) {
-    let all: Vec<&[u8]> = fields.iter().map(|(parameters, _)| &parameters[..]).collect();
-    let kept: Vec<&[u8]> = fields.iter().filter(|(_, fault)| *fault == 0).map(|(parameters, _)| &parameters[..]).collect();
-    let fault = fields.iter().map(|(_, fault)| *fault).find(|&fault| fault != 0).unwrap_or(0);
-    for carrier in 1..=5 {
-        let (found, discarded, left) = match carrier {
-            1 if fault != 0 => (1, 1, &[][..]),
-            1 => (1, 0, &kept[..]),
-            _ => (all.len(), all.len() - kept.len(), &kept[..]),
-        };
-        let (area, whole, left) = (area(carrier, &all), sheet(carrier, &all), sheet(carrier, left));
-        let written = if fault == 0 { &area[..] } else { &[] };
-        let reading = Reading { number: 0, length: left.len(), found, discarded, fault };
-        let writing = Writing { number: fault, length: written.len() };
-        for (side, read, write) in SIDES {
-            let mut buffer = vec![MARK; whole.len() + 3];
-            assert_eq!(read(carrier, &area, &mut buffer), reading, "{side}, carrier {carrier}, parameters {all:02x?}");
-            assert!(holds(&buffer, &left), "{side}, carrier {carrier}, the sheet of parameters {all:02x?}");
-            let mut buffer = vec![MARK; area.len() + 3];
-            assert_eq!(write(&whole, &mut buffer), writing, "{side}, carrier {carrier}, parameters {all:02x?}");
-            assert!(holds(&buffer, written), "{side}, carrier {carrier}, the octets of parameters {all:02x?}");
-        }
-    }
-}
-
 /// Mandatory lists, and whether each rises and is not empty.
 const LISTS: [(&[u16], bool); 8] =
     [(&[1], true), (&[2], true), (&[3], true), (&[1, 2], true), (&[2, 3], true), (&[1, 2, 3, 8], true), (&[], false), (&[2, 1], false)];
@@ -160,7 +52,7 @@ fn mandatory((list, rises): (&[u16], bool), keys: &[u16]) -> Parameter {
     Parameter { key: 0, value, good: rises && list.iter().all(|key| keys.contains(key)) }
 }
 
-/// Parameters with these keys, none of them 0: all values good, or bad those of some of the keys 1, 2 and 3.
+/// Parameters with these keys, none of them 0, in every choice of good and bad values of the keys 1, 2 and 3.
 fn valued(keys: &[u16]) -> Vec<Vec<Parameter>> {
     keys.iter().fold(vec![vec![]], |shorter, &key| {
         let values = if key <= 3 { vec![good(key), bad(key)] } else { vec![good(key)] };
@@ -184,7 +76,7 @@ fn every_choice_of_keys() {
             let listed = LISTS.iter().map(|&list| [&[mandatory(list, &keys)], &field[..]].concat());
             for field in listed.chain([field.clone()]) {
                 let wrong = fault(&field);
-                agree(&[(octets_of(&field), wrong)]);
+                agree(1..=5, &[(octets_of(&field), wrong)]);
                 met[wrong] += 1;
                 alone += usize::from(wrong == 28 && field.iter().all(|parameter| parameter.good));
             }
@@ -209,7 +101,7 @@ fn cut_after_every_octet() {
             let all = octets_of(&first(keys.len()));
             for cut in 1..=all.len() {
                 let whole = (0..=keys.len()).map(first).find(|field| octets_of(field).len() == cut);
-                agree(&[(all[..cut].to_vec(), whole.map_or(26, |field| fault(&field)))]);
+                agree(1..=5, &[(all[..cut].to_vec(), whole.map_or(26, |field| fault(&field)))]);
             }
         }
     }
@@ -220,7 +112,7 @@ fn cut_after_every_octet() {
 fn keys_that_do_not_rise() {
     for keys in [&[2, 1][..], &[2, 1, 3], &[2, 3, 1], &[1, 3, 2], &[3, 1, 2], &[3, 2], &[2, 2], &[1, 2, 2], &[1, 1, 2]] {
         let field: Vec<Parameter> = keys.iter().map(|&key| good(key)).collect();
-        agree(&[(octets_of(&field), 26)]);
+        agree(1..=5, &[(octets_of(&field), 26)]);
     }
 }
 
@@ -233,12 +125,12 @@ fn alpn_of_another_resolver() {
     let mut some = vec![vec![]];
     for _ in 0..3 {
         some = some.iter().flat_map(|fields| kinds.iter().map(|kind| [&fields[..], from_ref(kind)].concat())).collect();
-        some.iter().for_each(|fields| agree(fields));
+        some.iter().for_each(|fields| agree(1..=5, fields));
     }
     for place in 0..16 {
         let mut fields = vec![kinds[3].clone(); 16];
-        agree(&fields);
+        agree(1..=5, &fields);
         fields[place] = kinds[2].clone();
-        agree(&fields);
+        agree(1..=5, &fields);
     }
 }

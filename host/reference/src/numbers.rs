@@ -29,7 +29,7 @@ pub const UNUSABLE: u8 = 25;
 pub const PARAMS_SHAPE: u8 = 26;
 /// Parameters: key 4 or 6.
 pub const PARAMS_HINT: u8 = 27;
-/// Parameters: the value of key 0, 1, 2 or 3.
+/// Parameters: key 0, 1, 2 or 3 is not as RULES P4 to P7 say.
 pub const PARAMS_VALUE: u8 = 28;
 
 /// The sheet is shorter than 7 octets, or does not begin with RSV.

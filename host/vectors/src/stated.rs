@@ -178,7 +178,7 @@ const FIELDS: [(&str, &[u8], usize); 28] = [
         b"\0\0\0\x04\0\x7b\0\x7b\0\x7b\0\x03abc",
         28,
     ),
-    // RFC 9460 §7.1.1: with no-default-alpn "alpn must also be specified".
+    // RFC 9460 §7.1.1: no-default-alpn asks for alpn.
     ("RULES P6, no-default-alpn without alpn", b"\0\x02\0\0", 28),
     (
         "RULES P6, alpn h2 and no-default-alpn",

@@ -155,8 +155,8 @@ fn add_long_lists(table: &mut Table) {
 
 /// no-default-alpn without alpn beside a resolver that has both: alpn in other
 /// parameters does not count (RULES P6). Of two blocks the bad one is discarded;
-/// in carrier 1 both are instances of one (RULES W9, T2). A sheet is refused
-/// whole, whatever the room (RULES T5, T6), and written with alpn.
+/// in carrier 1 both are instances of one (RULES W9, T2). A sheet with the bad one
+/// is refused whole, whatever the room (RULES T5, T6); one with alpn is written.
 fn add_no_default_alpn(table: &mut Table) {
     let alone = hex("0002 0000");
     let both = [P, &alone].concat();
@@ -179,8 +179,9 @@ fn add_no_default_alpn(table: &mut Table) {
         for resolvers in [&first, &last] {
             table.write_refused(source.clone(), ROOM, &sheet(carrier, resolvers), 28);
         }
-        let source = format!("RULES P6, a sheet with key 2, carrier {carrier}");
-        table.write_refused(source.clone(), 0, &sheet(carrier, &[bad]), 28);
+        let source = format!("RULES P6, a sheet with key 2 alone, carrier {carrier}");
+        table.write_refused(source, 0, &sheet(carrier, &[bad]), 28);
+        let source = format!("RULES P6, a sheet with keys 1 and 2, carrier {carrier}");
         let octets = area(carrier, std::slice::from_ref(&good));
         table.write_in_rooms(&source, &sheet(carrier, &[good]), &octets);
     }
