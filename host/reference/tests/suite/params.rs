@@ -86,9 +86,8 @@ fn values_are_28() {
     }
 }
 
-/// RULES P6. RFC 9460 §7.1.1: "When no-default-alpn is specified in an RR, alpn
-/// must also be specified in order for the RR to be self-consistent (Section
-/// 2.4.3)".
+/// RULES P6. RFC 9460 §7.1.1: a record with no-default-alpn is self-consistent
+/// (§2.4.3) only if it has alpn too.
 #[test]
 fn no_default_alpn_needs_alpn() {
     for (text, expected) in [
