@@ -115,7 +115,10 @@ static int print_resolvers(unsigned carrier, const uint8_t *area, size_t area_le
     printf("%s: %zu found, %zu discarded", names[carrier], reading.found, reading.discarded);
     if (reading.discarded > 0) {
         dnr_words(reading.fault, why, sizeof why);
-        printf(", first fault %zu: %s", reading.fault, why);
+        printf(", first fault %zu", reading.fault);
+        if (reading.fault == DNR_FAULT_NAME)
+            printf(" at octet %zu of its block", reading.place);
+        printf(": %s", why);
     }
     putchar('\n');
     const uint8_t *record = sheet + 7;

@@ -18,7 +18,7 @@
 
 /* host/fuzz: the reference under the same signatures. */
 dnr_reading ref_read(size_t carrier, const uint8_t *area, size_t area_len, uint8_t *sheet, size_t sheet_len);
-dnr_writing ref_write(const uint8_t *sheet, size_t sheet_len, uint8_t *octets, size_t octets_len);
+dnr_result ref_write(const uint8_t *sheet, size_t sheet_len, uint8_t *octets, size_t octets_len);
 int LLVMFuzzerTestOneInput(const uint8_t *data, size_t size);
 
 enum { CAPACITY = 1 << 16, GUARD = 64, MARK = 0xa5 };
@@ -84,31 +84,35 @@ static dnr_reading reading(size_t carrier, const uint8_t *area, size_t area_len,
     const dnr_reading wanted = ref_read(carrier, in, area_len, lent(theirs_end, room), room);
     if (memcmp(&got, &wanted, sizeof got) != 0)
         stop("the numbers of a reading differ");
-    if (got.number != DNR_DONE && (got.length | got.found | got.discarded | got.fault) != 0)
+    if (got.number != DNR_DONE && (got.length | got.found | got.discarded | got.fault | got.place) != 0)
         stop("a refused reading has another number than zero");
+    if (got.fault != DNR_FAULT_NAME ? got.place != 0 : got.place < 5 || got.place > area_len)
+        stop("a reading has a place that no name has");
     check_buffers(area, area_len, room, got.length);
     return got;
 }
 
 /* Both writings, compared. The octets stand at mine_end - room. */
-static dnr_writing writing(const uint8_t *sheet, size_t sheet_len, size_t room)
+static dnr_result writing(const uint8_t *sheet, size_t sheet_len, size_t room)
 {
     const uint8_t *in = handed(sheet, sheet_len);
-    const dnr_writing got = dnr_write(in, sheet_len, lent(mine_end, room), room);
-    const dnr_writing wanted = ref_write(in, sheet_len, lent(theirs_end, room), room);
+    const dnr_result got = dnr_write(in, sheet_len, lent(mine_end, room), room);
+    const dnr_result wanted = ref_write(in, sheet_len, lent(theirs_end, room), room);
     if (memcmp(&got, &wanted, sizeof got) != 0)
         stop("the numbers of a writing differ");
     if (got.number != DNR_DONE && got.length != 0)
         stop("a refused writing has a length");
+    if (got.number != DNR_FAULT_NAME ? got.place != 0 : got.place < 15 || got.place > sheet_len)
+        stop("a writing has a place that no name has");
     check_buffers(sheet, sheet_len, room, got.length);
     return got;
 }
 
 /* Writes a sheet with room for anything and reads the octets under its carrier: every block is kept, and the sheet is the same. */
-static dnr_writing round_trip(const uint8_t *sheet, size_t sheet_len)
+static dnr_result round_trip(const uint8_t *sheet, size_t sheet_len)
 {
     static uint8_t octets[DNR_MAX_OCTETS];
-    const dnr_writing written = writing(sheet, sheet_len, sizeof octets);
+    const dnr_result written = writing(sheet, sheet_len, sizeof octets);
     if (written.number == DNR_REFUSAL_ROOM)
         stop("the room for any octets is too short");
     if (written.number != DNR_DONE)
@@ -118,7 +122,7 @@ static dnr_writing round_trip(const uint8_t *sheet, size_t sheet_len)
     const dnr_reading read = reading(sheet[5], octets, written.length, sheet_len);
     if (read.number != DNR_DONE || read.length != sheet_len || memcmp(mine_end - sheet_len, sheet, sheet_len) != 0)
         stop("reading what was written does not give the sheet back");
-    if (read.found != blocks || read.discarded != 0 || read.fault != 0)
+    if (read.found != blocks || (read.discarded | read.fault | read.place) != 0)
         stop("reading what was written discards or finds other blocks");
     return written;
 }
@@ -145,10 +149,13 @@ static void try_reading(size_t carrier, const uint8_t *area, size_t area_len, si
 
 static void try_writing(const uint8_t *sheet, size_t sheet_len, size_t room)
 {
-    const dnr_writing given = writing(sheet, sheet_len, room);
-    const dnr_writing all = round_trip(sheet, sheet_len);
-    if (all.number != DNR_DONE)
+    const dnr_result given = writing(sheet, sheet_len, room);
+    const dnr_result all = round_trip(sheet, sheet_len);
+    if (all.number != DNR_DONE) {
+        if (given.number != all.number || given.place != all.place)
+            stop("the refusal of a sheet depends on the room");
         return;
+    }
     if (given.number != (room < all.length ? DNR_REFUSAL_ROOM : DNR_DONE))
         stop("a writing does not depend on its room as it should");
     if (writing(sheet, sheet_len, all.length).number != DNR_DONE)

@@ -11,6 +11,7 @@ CARRIERS = {"dhcp4": 1, "dhcp6": 2, "ra": 3, "ike4": 4, "ike6": 5}
 WRITE = 6
 ANY_ROOM = 0xFFFF
 NAME = b"\x04doh1\x07example\x03com\0"
+BAD_NAME = b"\x04doh1\x07example\x03c_m\0"
 LONGEST = b"".join(bytes([n]) + b"a" * n for n in (63, 63, 63, 61)) + b"\0"
 ALPN_DOT = b"\0\x01\0\x04\x03dot"
 NO_DEFAULT_ALPN = b"\0\x02\0\0"
@@ -59,6 +60,37 @@ def full(parameters):
     return dhcp6(be(1) + be(18) + NAME + be(16) + V6 + parameters)
 
 
+def option_162(data):
+    return bytes([162, len(data)]) + data
+
+
+def instance(name):
+    """An instance of DHCPv4 with a name only."""
+    return be(3 + len(name)) + be(1) + bytes([len(name)]) + name
+
+
+def attribute(text, addresses):
+    """An attribute of ENCDNS_IP4 with a name as text."""
+    body = be(1) + bytes([len(addresses), len(text)]) + b"".join(addresses) + text + ALPN_DOT
+    return be(27) + be(len(body)) + body
+
+
+def bad_names(pieces):
+    """Readings of which the first discarded block has a bad name."""
+    k1, k2, k3, k5, k7 = (pieces[name][1] for name in ("k01-dhcp6", "k02-dhcp4", "k03-ra", "k05-ike6", "k07-dhcp6"))
+    joined = instance(NAME) * 2 + instance(BAD_NAME) + instance(NAME)
+    yield "bad-name-dhcp4", 1, ANY_ROOM, put(k2, 8, b"-")
+    yield "bad-name-dhcp4-third-instance", 1, ANY_ROOM, option_162(joined[:52]) + bytes(3) + option_162(joined[52:])
+    yield "bad-name-dhcp6", 2, ANY_ROOM, k1 + dhcp6(be(1) + be(len(BAD_NAME)) + BAD_NAME) + k7
+    yield "bad-name-dhcp6-256-octets", 2, ANY_ROOM, dhcp6(be(1) + be(256) + LONGEST + b"\0")
+    yield "bad-name-ra", 3, ANY_ROOM, put(k3, 11, b"-")
+    yield "bad-name-ike4", 4, ANY_ROOM, attribute(b"a-.b", [V4, V4])
+    yield "bad-name-ike4-empty", 4, ANY_ROOM, attribute(b"", [V4])
+    yield "bad-name-ike4-254-octets", 4, ANY_ROOM, attribute(b".".join([b"a" * 63] * 3 + [b"a" * 62]), [V4])
+    yield "bad-name-ike6", 5, ANY_ROOM, put(k5, 28, b"_")
+    yield "bad-name-room-6", 5, 6, put(k5, 28, b"_")
+
+
 def readings(pieces):
     """Name, carrier, room and area of each reading."""
     for name, (carrier, area) in pieces.items():
@@ -87,6 +119,7 @@ def readings(pieces):
     yield "attribute-empty", 5, ANY_ROOM, be(28) + be(0)
     yield "40960-octets", 1, 7, bytes(40_960)
     yield "40961-octets", 1, 7, bytes(40_961)
+    yield from bad_names(pieces)
 
 
 def writings():
@@ -119,6 +152,10 @@ def writings():
     yield "alpn-and-no-default-alpn", ANY_ROOM, sheet(2, record(addresses=[V6], parameters=ALPN_DOT + NO_DEFAULT_ALPN))
     yield "170-mandatory-keys", ANY_ROOM, sheet(2, record(addresses=[V6], parameters=mandatory()))
     yield "170-mandatory-keys-one-absent", ANY_ROOM, sheet(2, record(addresses=[V6], parameters=mandatory(absent=KEYS[85])))
+    yield "bad-name-third-record", ANY_ROOM, sheet(1, record(), record(addresses=[V4, V4], parameters=ALPN_DOT), record(name=BAD_NAME))
+    yield "bad-name-third-record-ike6", 0, sheet(5, *(record(name=name, addresses=[V6]) for name in (NAME, NAME, b"\x02a-\0")))
+    yield "bad-name-without-root", ANY_ROOM, sheet(2, record(name=LONGEST[:-1]))
+    yield "bad-name-after-no-address", ANY_ROOM, sheet(2, record(addresses=[]), record(name=BAD_NAME))
     yield "router-over-2040", ANY_ROOM, sheet(3, record(addresses=[V6] * 63, parameters=parameter(7, bytes(999))))
 
 

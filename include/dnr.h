@@ -99,15 +99,28 @@ enum {
  * key 3 the port.
  * In a sheet that dnr_read wrote all this holds, so a program may walk it without testing it again; examples/resolvers.c does. */
 
+/* The place of a bad name, which fault 22 has when dnr_read discards a block and refusal 22 when dnr_write refuses a sheet. It is the first
+ * octet of the name at which no host name can continue; where the name as far as it goes is the beginning of one and is only cut short,
+ * it is the end of the name's field. Octets count from 0.
+ *   dnr_read   counts from the first octet of the block, that of its option's or attribute's header: the name begins at 8 in DHCPv6, at 10
+ *              in a router advertisement, and in IKEv2 at 8 plus the octets of all addresses, where the octet is one of the name's text.
+ *              DHCPv4: it counts in the data of all options 162 joined, from their first octet. The two octets of code and length before
+ *              each option's data are not counted, the 16-bit length of each instance is: an instance that starts with its length at s
+ *              has its name at s + 5.
+ *   dnr_write  counts from the sheet's first octet, in the wire form that a sheet holds for every carrier: the name of a record that starts
+ *              at s begins at s + 8.
+ * For every other fault and every other refusal, and where there is neither, place is 0; for a bad name it never is. */
+
 /* What dnr_read gives back.
  *   number     DNR_DONE, or a refusal, 1 to 5, with every other field 0.
  *   length     octets of the sheet that were written.
  *   found      blocks of the carrier that the area has (DHCPv4: all options 162 together are one).
  *   discarded  those of them that were discarded for a fault.
  *   fault      the first discarded block's fault, 20 to 29, or 0.
+ *   place      where that block's name is wrong, if the fault is 22; else 0.
  */
 typedef struct {
-    size_t number, length, found, discarded, fault;
+    size_t number, length, found, discarded, fault, place;
 } dnr_reading;
 
 /* Reads an area and writes the record sheet of its resolvers. Options of other codes are skipped, multicast and loopback addresses
@@ -118,15 +131,17 @@ dnr_reading dnr_read(size_t carrier, const uint8_t *area, size_t area_len, uint8
 /* What dnr_write gives back.
  *   number     DNR_DONE, or a refusal, one of 2, 4, 5, 21 to 28 and 40 to 44, with length 0.
  *   length     octets that were written.
+ *   place      where the name is wrong for which the sheet is refused with 22; else 0. This is the one refusal that gives back another
+ *              number than zero beside its own.
  */
 typedef struct {
-    size_t number, length;
-} dnr_writing;
+    size_t number, length, place;
+} dnr_result;
 
 /* Takes a record sheet and writes its records in sheet order under its own carrier: DHCPv4 as options 162 of 255 octets each and a last
  * one of 1 to 255, without the end option 255; the others as an option or attribute each. Nothing is written for a sheet of no records,
  * and nothing is dropped: an address that reading would drop is refused with 25. */
-dnr_writing dnr_write(const uint8_t *sheet, size_t sheet_len, uint8_t *octets, size_t octets_len);
+dnr_result dnr_write(const uint8_t *sheet, size_t sheet_len, uint8_t *octets, size_t octets_len);
 
 /* Says in words, in English and ASCII, what a number means: 0 "done", a refusal or a fault as it stands beside it above, any other
  * "unknown number". As many characters as fit are written to text before a closing 0, and nothing past that; with text_len 0, nothing.

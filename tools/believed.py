@@ -161,7 +161,8 @@ def called(page):
     """Each call of the table of calls as (file, function)."""
     rows = re.findall(r"^\| ((?:`[^`]+`(?:, )?)+) \|", part(page, "## The calls"), re.M)
     for name in re.findall(r"`([^`]+)`", " ".join(rows)):
-        crate, _, function = name.rpartition("::")
+        place, _, function = name.rpartition("::")
+        crate, _, _ = place.partition("::")
         yield f"{crate or 'dnr'}/src", function
 
 

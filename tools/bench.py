@@ -1,11 +1,14 @@
 #!/usr/bin/env python3
-"""Times the library beside the reference implementation, at four places: `tools/bench.py [--before OLD.a] [--rounds N] [WORD..]`.
+"""Times the library beside the reference implementation, at four places: `tools/bench.py [--before OLD] [--rounds N] [WORD..]`.
 
 The same machine code is faster or slower by where it stands. So host/bench is linked four times, with the library 0, 16, 32 and 48
 octets past a multiple of 64, and each function of the Rust side at such a multiple. The four programs run in turn, N times (once where
 nothing is said), and each number of a row is the median of what they print; "by place" has the least and the largest ratio. With --before
 another version's library goes through the same, program by program in turn with this one: its time and ratio, and the change of the ratio,
-are further columns, `-` where it answers differently. With words only the rows that have one of them in their name are timed.
+are further columns. OLD is its archive, libdnr.a, which is linked with this version's benchmark; a row has `-` where it answers differently.
+Where the structs of include/dnr.h are others, OLD is a folder, a checkout of that version with its target/staticlib/libdnr.a: its own
+host/bench is built, so its ratio is that to its own reference, and a row has `-` where it has none of that name and size. With words only the
+rows that have one of them in their name are timed.
 """
 import argparse
 import os
@@ -16,24 +19,24 @@ import subprocess
 import sys
 
 ROOT = pathlib.Path(__file__).resolve().parent.parent
-LIBRARY = ROOT / "target/staticlib/libdnr.a"
+LIBRARY = "target/staticlib/libdnr.a"
 PLACES = [0, 16, 32, 48]
 HEADINGS = ["call", "octets", "library ns", "reference ns", "ratio", "by place", "octets/µs", "against memcpy", "growth ×2"]
 # a retained section before the library's, so that a linker that drops what is not called keeps it
 PAD = '.section .note.GNU-stack,"",@progbits\n.section .text.before,"axR",@progbits\n.balign 64\n.fill {}, 1, 0x90\n'
 
 
-def linked(version, library, place):
-    """The benchmark's program with the library `place` octets past a multiple of 64."""
+def linked(version, root, library, place):
+    """The benchmark's program of the checkout `root` with the library `place` octets past a multiple of 64."""
     folder = ROOT / "target/bench" / version / str(place)
     folder.mkdir(parents=True, exist_ok=True)
     subprocess.run(["as", "-o", folder / "pad.o"], input=PAD.format(place), text=True, check=True)
     subprocess.run(["ld", "-r", "-o", folder / "dnr.o", folder / "pad.o", "--whole-archive", library], check=True)
     (folder / "libdnr.a").unlink(missing_ok=True)
     subprocess.run(["ar", "rcs", folder / "libdnr.a", folder / "dnr.o"], check=True)
-    build = ROOT / "target/bench/host"
+    build = ROOT / "target/bench" / ("host" if root == ROOT else "host-before")
     settings = {"DNR_LIB_DIR": str(folder), "CARGO_TARGET_DIR": str(build), "RUSTFLAGS": "-C llvm-args=-align-all-functions=6"}
-    words = ["cargo", "build", "--quiet", "--offline", "--release", "--manifest-path", ROOT / "host/Cargo.toml", "-p", "bench"]
+    words = ["cargo", "build", "--quiet", "--offline", "--release", "--manifest-path", root / "host/Cargo.toml", "-p", "bench"]
     subprocess.run(words, env={**os.environ, **settings}, check=True)
     return shutil.copy(build / "release/bench", folder / "bench")
 
@@ -69,20 +72,24 @@ def row(key, now, before):
 
 def main():
     parser = argparse.ArgumentParser(description=__doc__.splitlines()[0])
-    parser.add_argument("--before", type=pathlib.Path, metavar="OLD.a", help="the library of another version")
+    parser.add_argument("--before", type=pathlib.Path, metavar="OLD", help="another version: its libdnr.a, or a checkout of it that is built")
     parser.add_argument("--rounds", type=int, default=1, metavar="N", help="how often each program runs")
     parser.add_argument("words", nargs="*", metavar="WORD", help="time the rows that have one of these in their name")
     given = parser.parse_args()
-    versions = {"now": LIBRARY, **({"before": given.before.resolve()} if given.before else {})}
-    for library in versions.values():
+    versions = {"now": (ROOT, ROOT / LIBRARY)}
+    if given.before:
+        old = given.before.resolve()
+        versions["before"] = (old, old / LIBRARY) if old.is_dir() else (ROOT, old)
+    for _, library in versions.values():
         if not library.exists():
             sys.exit(f"bench: {library} is not there: run make")
-    programs = {version: [linked(version, library, place) for place in PLACES] for version, library in versions.items()}
+    programs = {version: [linked(version, *made, place) for place in PLACES] for version, made in versions.items()}
     runs = {version: [] for version in versions}
     for _ in range(given.rounds):
         for place in range(len(PLACES)):
             for version, made in programs.items():
-                runs[version].append(rows(made[place], [*(["--before"] if version == "before" else []), *given.words]))
+                other = ["--before"] if version == "before" and versions[version][0] == ROOT else []
+                runs[version].append(rows(made[place], [*other, *given.words]))
     headings = HEADINGS + (["ns before", "ratio before", "change"] if given.before else [])
     print("| " + " | ".join(headings) + " |")
     print("|" + "---|" * len(headings))

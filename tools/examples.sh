@@ -27,8 +27,13 @@ same() {
 ${CC:-cc} -std=c11 -O2 -Wall -Wextra -Wpedantic -Werror -I include examples/resolvers.c -L "$DNR_LIB_DIR" -ldnr -o "$work/c" &&
     cargo build --quiet --offline --release --manifest-path host/Cargo.toml -p dnr --example resolvers &&
     cp "${CARGO_TARGET_DIR:-host/target}/release/examples/resolvers" "$work/rust" || failed=1
+# K5 with an underscore for the first dot of its name, which stands behind the header, 4 octets of fields and 16 of the address.
+sed 's/31 2e 65/31 5f 65/' examples/k05-ike6.hex >"$work/name.hex"
+why='the name is no host name: labels of 1 to 63 letters, digits and inner hyphens, 255 octets in all'
+echo "ike6: 1 found, 1 discarded, first fault 22 at octet 28 of its block: $why" >"$work/name.out"
 [ "$failed" -eq 0 ] && for language in c rust; do
     same "$language, built in" examples/k01-dhcp6.out "$work/$language"
+    same "$language, a bad name" "$work/name.out" "$work/$language" ike6 "$work/name.hex"
     for hex in examples/*-*.hex; do
         piece=$(basename "$hex" .hex)
         same "$language, $piece" "examples/$piece.out" "$work/$language" "${piece##*-}" "$hex"

@@ -62,10 +62,10 @@ class Wanted:
             self.text = self.json = ""
         else:
             said = list(reference.messages(carrier, area, self.reading))
-            found, discarded = self.reading.found, self.reading.discarded
             sheet = reference.sheet(carrier, self.reading)
-            self.text = show.text(sheet) + f"found {found}, discarded {discarded}\n"
-            self.json = show.line_of_json({"found": found, "discarded": discarded, "fault": self.reading.fault, "sheet": show.tree(sheet)})
+            self.text = show.text(sheet) + reference.numbers(self.reading) + "\n"
+            numbers = {key: getattr(self.reading, key) for key in ("found", "discarded", "fault", "place")}
+            self.json = show.line_of_json({**numbers, "sheet": show.tree(sheet)})
         self.error = "".join(f"dnr: {name}: {message}\n" for message, _ in said)
         self.json += "".join(told(name, message, members) for message, members in said)
 

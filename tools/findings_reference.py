@@ -14,6 +14,7 @@ ROOT = pathlib.Path(__file__).resolve().parents[1]
 WORDS = {int(line.split(" ")[0]): line.split(" ", 1)[1] for line in (ROOT / "tests" / "command" / "words.txt").read_text().splitlines()}
 CARRIERS = {1: "dhcp4", 2: "dhcp6", 3: "ra", 4: "ike4", 5: "ike6"}
 CODES, WIDTHS = {1: 162, 2: 144, 3: 144, 4: 27, 5: 28}, {1: 4, 2: 16, 3: 16, 4: 4, 5: 16}
+BEFORE = {1: 0, 2: 4, 3: 2, 4: 4, 5: 4}  # octets of a block before its body: of the option's header, none of joined data (RULES W11)
 MOST_OCTETS, MOST_RECORDS, MOST_ADDRESSES, MOST_PARAMETERS, MOST_PADDING = 40960, 16, 63, 1024, 7
 
 NO_END = "it has no end: the name stops before its last octet 0"
@@ -73,6 +74,7 @@ class Reading:
     found: int
     discarded: int
     fault: int
+    place: int
     records: list
     findings: list
 
@@ -342,13 +344,15 @@ def read(carrier, area):
     if len(area) > MOST_OCTETS:
         raise Refused(2)
     found = blocks(carrier, area)
-    reading = Reading(len(found), 0, 0, [], [])
+    reading = Reading(len(found), 0, 0, 0, [], [])
     for k, block in enumerate(found, 1):
         try:
             made = [record(carrier, body) for body in (instances(block) if carrier == 1 else [block])]
         except Discarded as fault:
             reading.discarded += 1
-            reading.fault = reading.fault or fault.fault
+            if not reading.fault:
+                reading.fault = fault.fault
+                reading.place = BEFORE[carrier] + block.places.index(fault.octet) if fault.fault == 22 else 0
             reading.findings.append((k, fault))
             continue
         reading.records += [(priority, octets) for priority, octets, _ in made]
@@ -393,6 +397,12 @@ def messages(carrier, area, reading):
         else:
             address, octet = finding
             yield f"block {block}, octet {octet}: address {show.address(address)} dropped: multicast or loopback", {"block": block, "octet": octet}
+
+
+def numbers(reading):
+    """The line of text after the sheet."""
+    at = f" at octet {reading.place}" if reading.fault == 22 else ""
+    return f"found {reading.found}, discarded {reading.discarded}" + (f", fault {reading.fault}{at}" if reading.fault else "")
 
 
 def sheet(carrier, reading):

@@ -68,7 +68,7 @@ command_built() {
 
 # Compiles exactly when the header says what the source exports.
 header_held() {
-    python3 tools/header.py include/dnr.h host/dnr/src/raw.rs crates/dnr/src/lib.rt crates/reading/src/lib.rt crates/writing/src/lib.rt crates/numbers/src/lib.rt \
+    python3 tools/header.py include/dnr.h host/dnr/src/raw.rs crates/dnr/src/lib.rt crates/reading/src/lib.rt crates/answers/src/lib.rt crates/numbers/src/lib.rt \
         >"$log/header.c" &&
         gcc -std=gnu11 -fsyntax-only -Wall -Werror -I . "$log/header.c"
 }

@@ -94,7 +94,7 @@ def by_examples():
         faults["sev"] = "block 1, octet 21: address 127.0.0.1 dropped: multicast or loopback"
         said = faults.get(piece[:3], "")
         # the attribute of this example that has no octets is no value
-        wanted = shown(piece).replace("found 2, discarded 1", "found 1, discarded 0")
+        wanted = shown(piece).replace("found 2, discarded 1, fault 20", "found 1, discarded 0")
         found = values(carrier, example(piece))
         for words in (f"read {carrier} --value", f"read --value {CARRIERS[carrier]} --hex"):
             held(f"values of {piece}", "".join(value.hex() + "\n" for value in found), words, 0, wanted, said)
@@ -166,8 +166,9 @@ def by_sizes():
     held("above 2,038 octets", base64.encodebytes(bytes(2039)), "read 3 --value --base64", 2, "", f"line 1: {LARGE}")
     # beside a header of 4 octets; beside 160 headers of 2, 159 of them before 255 octets (RULES E2)
     for carrier, n in ((2, 40956), (4, 40956), (5, 40956), (1, 40640)):
-        wanted = nothing(carrier).replace("found 0, discarded 0", "found 1, discarded 1")
-        held(f"{n} octets", n * "00", f"read {carrier} --value", 0, wanted, discarded(4, 20 if carrier == 1 else 21))
+        fault = 20 if carrier == 1 else 21
+        wanted = nothing(carrier).replace("found 0, discarded 0", f"found 1, discarded 1, fault {fault}")
+        held(f"{n} octets", n * "00", f"read {carrier} --value", 0, wanted, discarded(4, fault))
         for more in (n + 1, 40961):
             held(f"{more} octets", more * "00", f"read {carrier} --value", 1, "", LONG)
             held(f"{more} octets", bytes(more), f"read {carrier} --value", 1, "", LONG)
@@ -198,7 +199,7 @@ def by_nothing():
         held("nothing found", area, f"read {carrier} --raw", 0, nothing(carrier), said)
         held("nothing found", area.hex(), f"read {CARRIERS[carrier]} --strict", 3, nothing(carrier), said)
         sheet = f'"carrier":{carrier},"carrierName":"{NAMES[carrier]}","records":[]'
-        told = f'{{"found":0,"discarded":0,"fault":0,"sheet":{{{sheet}}}}}\n{{"message":"standard input: {said}"}}\n'
+        told = f'{{"found":0,"discarded":0,"fault":0,"place":0,"sheet":{{{sheet}}}}}\n{{"message":"standard input: {said}"}}\n'
         held("nothing found", area.hex(), f"read {carrier} --json", 0, told, said)
     held("one octet", "00", "read 1", 0, nothing(1), missing(1, 1))
 

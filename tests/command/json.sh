@@ -20,7 +20,7 @@ done
 # ---- results that go to a file
 
 rm -f "$work/new"
-tells "read -o --json" 0 '{"found":1,"discarded":0,"fault":0,"saved":60}' '' "$dnr" read 2 examples/k01-dhcp6.hex -o "$work/new" --json
+tells "read -o --json" 0 '{"found":1,"discarded":0,"fault":0,"place":0,"saved":60}' '' "$dnr" read 2 examples/k01-dhcp6.hex -o "$work/new" --json
 step "read -o --json: the sheet" cmp "$work/k1.rsv" "$work/new"
 rm "$work/new"
 tells "write -o --json" 0 '{"saved":52}' '' "$dnr" write --json "$work/k1.rsv" "--output=$work/new"
@@ -33,13 +33,22 @@ step "octets -o --json, nothing: the file" test ! -s "$work/new"
 tells "octets -o --json, a device" 0 '{"saved":52}' '' "$dnr" octets --json "$work/octets" -o /dev/null
 "$dnr" read 1 examples/several-dhcp4.hex -o "$work/several.rsv" 2>"$work/err"
 rm "$work/new"
-tells "read -o --json, all discarded" 0 '{"found":1,"discarded":1,"fault":21,"saved":7}' "$discard" \
+tells "read -o --json, all discarded" 0 '{"found":1,"discarded":1,"fault":21,"place":0,"saved":7}' "$discard" \
     "$dnr" read 2 --json examples/k07-dhcp6.hex -o "$work/new"
 step "read -o --json, all discarded: the sheet" cmp "$work/none.rsv" "$work/new"
-tells "read -o --json, a dropped address" 0 "{\"found\":1,\"discarded\":0,\"fault\":0,\"saved\":$(wc -c <"$work/several.rsv")}" \
+tells "read -o --json, a dropped address" 0 "{\"found\":1,\"discarded\":0,\"fault\":0,\"place\":0,\"saved\":$(wc -c <"$work/several.rsv")}" \
     'dnr: examples/several-dhcp4.hex: block 1, octet 28: address 127.0.0.1 dropped: multicast or loopback' \
     "$dnr" read 1 --json examples/several-dhcp4.hex -o "$work/new"
 step "read -o --json, a dropped address: the sheet" cmp "$work/several.rsv" "$work/new"
+
+# fault 22 has a place, counted in the block: here in the joined data of two options
+octets a20400060001a20403015f00 >"$work/in"
+tells "read --json, a name that is wrong" 0 '{"found":1,"discarded":1,"fault":22,"place":6,"sheet":{"carrier":1,"carrierName":"DHCPv4","records":[]}}' \
+    "$(discards 'standard input' 1 10 22); an underscore" "$dnr" read 1 --json
+rm "$work/new"
+octets 0090000700010003015f00 >"$work/in"
+tells "read -o --json, a name that is wrong" 0 '{"found":1,"discarded":1,"fault":22,"place":9,"saved":7}' \
+    "$(discards 'standard input' 1 9 22); an underscore" "$dnr" read 2 --json -o "$work/new"
 
 # a file that is left as it is
 cp "$work/k1.rsv" "$work/left"
@@ -48,7 +57,7 @@ $none" "$dnr" read 2 -o "$work/left" --json
 step "left as it is: the file" cmp "$work/k1.rsv" "$work/left"
 tells "left as it is, all discarded, --strict" 2 '' "dnr: $work/left: $kept
 $discard" "$dnr" read 2 --strict --json examples/k07-dhcp6.hex -o "$work/left"
-tells "--force" 3 '{"found":0,"discarded":0,"fault":0,"saved":7}' "$none" "$dnr" read 2 -o "$work/left" --json --force --strict
+tells "--force" 3 '{"found":0,"discarded":0,"fault":0,"place":0,"saved":7}' "$none" "$dnr" read 2 -o "$work/left" --json --force --strict
 step "--force: the file" cmp "$work/none.rsv" "$work/left"
 
 # ---- refusals
@@ -75,6 +84,12 @@ for number in 41 42 43; do
         43) octets 5253560001020000 ;;
     esac >"$work/in"
     tells "write refuses by $number" 1 '' "dnr: standard input: refused, $number: $(words $number)" "$dnr" write --json
+done
+for command in write show; do
+    octets 525356000102010001000000000003015f00 >"$work/in"
+    says "$command --json, a name that is wrong" 1 \
+        "{\"message\":\"standard input: octet 16: refused, 22: $(words 22); an underscore\",\"status\":1,\"number\":22,\"octet\":16}" \
+        "dnr: standard input: octet 16: refused, 22: $(words 22); an underscore" "$dnr" $command --json
 done
 (cat "$work/zeros" && printf '\0') >"$work/longer"
 head -c 655361 /dev/zero >"$work/longest"
@@ -149,7 +164,7 @@ named() {
     step "$name: objects" is_json "$work/out"
 }
 named "an odd name" 0 "$(cat "$tests/k01-dhcp6.json")" '' read 2 --json "$odd"
-named "an odd name, nothing found" 0 '{"found":0,"discarded":0,"fault":0,"sheet":{"carrier":4,"carrierName":"IKEv2 ENCDNS_IP4","records":[]}}
+named "an odd name, nothing found" 0 '{"found":0,"discarded":0,"fault":0,"place":0,"sheet":{"carrier":4,"carrierName":"IKEv2 ENCDNS_IP4","records":[]}}
 {"message":"'"$told"': no attribute 27 in 52 octets; read as dhcp6 a resolver is found"}' \
     "dnr: $odd: no attribute 27 in 52 octets; read as dhcp6 a resolver is found" read 4 --json "$odd"
 named "an odd name, refused" 1 '{"message":"'"$told"': refused, 40: '"$(words 40)"'","status":1,"number":40}' "dnr: $odd: refused, 40: $(words 40)" \

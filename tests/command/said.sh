@@ -8,6 +8,7 @@ is_json() {
 # objects MESSAGES: the messages of standard error as --json tells them; those of a failing call of the system are not made here.
 objects() {
     printf '%s\n' "$1" | sed -e '/^$/d' -e 's/["\\]/\\&/g' -e 's/^dnr: //' -e '/^try dnr --help$/d' -e 't done' -e ':done' \
+        -e 's/^.*: octet \([0-9]*\): refused, \([0-9]*\): .*$/{"message":"&","status":1,"number":\2,"octet":\1}/; t' \
         -e 's/^.*: refused, \([0-9]*\): .*$/{"message":"&","status":1,"number":\1}/; t' \
         -e 's/^.*: block \([0-9]*\), octet \([0-9]*\): discarded, \([0-9]*\): .*$/{"message":"&","number":\3,"block":\1,"octet":\2}/; t' \
         -e 's/^.*: block \([0-9]*\), octet \([0-9]*\): address .* dropped: .*$/{"message":"&","block":\1,"octet":\2}/; t' \

@@ -12,7 +12,7 @@ use Rattle.carriers.specs.declared.Carrier.the-variants.{Router}
 use Rattle.carriers.specs.declared.Form.{Form}
 use Rattle.carriers.specs.declared.Form.the-variants.{Wire, Padded, Text}
 use Rattle.blocks.specs.declared.Head.{Head}
-use Rattle.carriers.specs.Carriers.{headerOf, lengthWidth, formOf, lifetimeWidth, addressWidth}
+use Rattle.carriers.specs.Carriers.{headerOf, lengthWidth, formOf, lifetimeWidth, addressWidth, asText}
 
 -- what one body says (RULES B1), or what a record of a sheet holds (RULES S2): of a body name and addresses are as carried, in carriers 4 and 5 the name
 -- is text (RULES N4); of a record the name is in wire form
@@ -91,6 +91,11 @@ layoutBy Text c f = putAttribute c f
 
 unfoldable pub layout : Carrier → Fields → List ℕ
 layout c f = layoutBy (formOf c) c f
+
+-- where the name stands in a body with m octets of addresses: after priority, lifetime (in carrier 3) and ADN length; in carriers 4 and 5 after
+-- priority, number of addresses, ADN length and the addresses (RULES B1; `name-stands`)
+abbrev pub nameAt : Carrier → ℕ → ℕ
+nameAt c m = cond (asText c) (4 + m) (2 + lifetimeWidth c + lengthWidth c)
 
 -- octets of a body with a name of n octets, a of addresses and p of parameters: L in carrier 1, the option's length in carriers 2, 4 and 5,
 -- and in carrier 3 what follows type and length (RULES B1, B8)

@@ -7,4 +7,5 @@ pub mod Together
 pub mod PlacesLaws
 pub mod Holding
 pub mod HoldingLaws
+pub mod NameLaws
 pub mod Parse

@@ -1,14 +1,14 @@
 -- What the offsets that `split` answers say of a body. Assumes nothing: these are definitions.
 use mathlib.Core.Path.{_≡_}
-use mathlib.Core.Bool.{true, false, cond}
+use mathlib.Core.Bool.{true, false}
 use mathlib.Core.List.{List}
 use Prim.Native.Nat.{ℕ, _+_, _%_, _≤_, _<_}
 use lib.ListN.{length, take, drop}
 use Rattle.carriers.specs.declared.Carrier.{Carrier}
-use Rattle.carriers.specs.Carriers.{lengthWidth, lifetimeWidth, addressWidth, asText}
+use Rattle.carriers.specs.Carriers.{lifetimeWidth, addressWidth, asText}
 use Rattle.blocks.specs.declared.Places.{Places}
 use Rattle.blocks.specs.declared.Places.the-variants.{Bad, NameOnly, Full}
-use Rattle.blocks.specs.Block.{nameOnly, whole}
+use Rattle.blocks.specs.Block.{nameOnly, whole, nameAt}
 use Rattle.blocks.specs.Parse.{Parsed, bad, fields}
 
 -- the fields at the offsets
@@ -22,10 +22,6 @@ abbrev pub Inside : List ℕ → Places → Type 0
 Inside b (Bad k) = Unit {0}
 Inside b (NameOnly p t at n) = at + n ≤ length b
 Inside b (Full p t at n a m q k) = (at + n ≤ length b) × (a + m ≤ length b) × (q + k ≤ length b)
-
--- where the name stands, after m octets of addresses in carriers 4 and 5
-abbrev pub nameAt : Carrier → ℕ → ℕ
-nameAt c m = cond (asText c) (4 + m) (2 + lifetimeWidth c + lengthWidth c)
 
 -- priority and lifetime have room in their fields, and only carrier 3 has a lifetime
 pub record Numbers (c : Carrier) (p t : ℕ) : Type 0 where

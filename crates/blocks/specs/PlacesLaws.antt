@@ -22,10 +22,10 @@ use Rattle.carriers.specs.Carriers.{lengthWidth, formOf, lifetimeWidth, address
 use Rattle.carriers.specs.CarriersLaws.{text-width, wire-form, text-form}
 use Rattle.blocks.specs.declared.Places.{Places}
 use Rattle.blocks.specs.declared.Places.the-variants.{Bad, NameOnly, Full}
-use Rattle.blocks.specs.Block.{whole}
+use Rattle.blocks.specs.Block.{whole, nameAt}
 use Rattle.blocks.specs.Parse.{Parsed, fields, short, opening, afterName, isPadding, padded, afterNamePadded, attribute, parseBy, parse}
 use Rattle.blocks.specs.Together.{part-is, part-two, part-three}
-use Rattle.blocks.specs.Places.{told, Inside, nameAt, Numbers, Ranged, Named, pastName}
+use Rattle.blocks.specs.Places.{told, Inside, Numbers, Ranged, Named, pastName}
 
 -- ---- carriers 1 to 3: up to the name, which stands at a, after a lifetime of t octets and a length of w
 

@@ -2,15 +2,15 @@
 // A case of reading is the letter r, a carrier, a room, a length and as many octets of an area; a case of writing is the letter w, a
 // room, a length and as many octets of a sheet. A carrier is one octet; a room and a length are four, and a room above 65,536 counts
 // as 65,536. Each case gives one line: what the call gives back, in decimal (of a reading the number, the length, what was found and
-// discarded and the fault; of a writing the number and the length), the octets that it wrote, in hexadecimal or `-` for none, and `kept` or
-// `changed`, whether the rest of its buffer is as before. Where no whole case stands the line is `?`, the last one. At most 1,048,576 octets
-// are read.
+// discarded, the fault and the place; of a writing the number, the length and the place), the octets that it wrote, in hexadecimal or `-` for
+// none, and `kept` or `changed`, whether the rest of its buffer is as before. Where no whole case stands the line is `?`, the last one. At most
+// 1,048,576 octets are read.
+use answers::Result;
 use libc::STDIN_FILENO;
 use libc::STDOUT_FILENO;
 use octets::lesser;
 use octets::wide;
 use reading::Reading;
-use writing::Writing;
 ghost use mathlib.Core.Path.{_≡_};
 ghost use mathlib.Core.Bool.{true};
 ghost use Prim.Native.Nat.{_+_, _≤_, _<_};
@@ -117,12 +117,14 @@ fn print_reading(r: Reading) {
     print_number(r.found);
     print_number(r.discarded);
     print_number(r.fault);
+    print_number(r.place);
 }
 
-fn print_writing(w: Writing) {
+fn print_writing(w: Result) {
     io::write_all(STDOUT_FILENO, b"w");
     print_number(w.number);
     print_number(w.length);
+    print_number(w.place);
 }
 
 // Prints that no whole case stands here.

@@ -21,8 +21,8 @@ use Rattle.reading.specs.Result as reading
 use Rattle.taking.specs.Taking.{Taken, takeOf}
 use Rattle.taking.specs.Taking as taking
 use Rattle.written.specs.Writing.{writeOf}
-use Rattle.written.specs.Octets.{written}
-use Rattle.written.specs.Octets as writing
+use Rattle.answers.specs.Answers.{written}
+use Rattle.answers.specs.Answers as writing
 
 -- ---- an entry
 
@@ -62,9 +62,9 @@ pub record Piece : Type 0 where
   pub back : Back
   pub says : List Claim
 
--- a sheet and one block found, which is discarded for a fault
+-- a sheet and one block found, which is discarded for a fault other than 22
 abbrev pub oneDiscarded : List ℕ → ℕ → Done
-oneDiscarded sheet fault = record { sheet = sheet; found = 1; discarded = 1; fault = fault }
+oneDiscarded sheet fault = record { sheet = sheet; found = 1; discarded = 1; fault = fault; place = 0 }
 
 -- ---- what a sentence means
 
@@ -102,7 +102,7 @@ pub record IsRead (p : Piece) : Type 0 where
 -- writing its sheet with the room for these octets, or more, gives them; with less it is refusal 5
 pub record IsWritten (p : Piece) (bs : List ℕ) : Type 0 where
   pub enough : (room : ℕ) → length bs ≤ room → writeOf (p .gives .sheet) room ≡ written bs
-  pub short : (room : ℕ) → room < length bs → writeOf (p .gives .sheet) room ≡ writing.refuse refusal.room
+  pub short : (room : ℕ) → room < length bs → writeOf (p .gives .sheet) room ≡ writing.refuse refusal.room 0
 
 -- writing its sheet gives its octets in no room
 abbrev pub IsOther : Piece → Type 0

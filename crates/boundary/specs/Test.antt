@@ -16,8 +16,8 @@ use Rattle.reading.specs.Result as reading
 use Rattle.taking.specs.Taking.{Taken, takeOf}
 use Rattle.taking.specs.Taking as taking
 use Rattle.written.specs.Writing.{writeOf}
-use Rattle.written.specs.Octets.{written}
-use Rattle.written.specs.Octets as writing
+use Rattle.answers.specs.Answers.{written}
+use Rattle.answers.specs.Answers as writing
 use Rattle.boundary.specs.Piece.{Back, again, others, Claim, octets, sheetOctets, partOctets, number, ends, joined, options, replaced, short, enough, Piece, dataOf, lastOf, sheetIn}
 
 -- whether each passes
@@ -54,14 +54,15 @@ sameTaken (taking.sheet c rs) (taking.sheet d qs) = eqb (numberOf c) (numberOf d
 abbrev pub isDone : Done → reading.Answer → Bool
 isDone d (reading.refuse k) = false
 isDone d (done e) =
-    same (e .sheet) (d .sheet) && (eqb (e .found) (d .found) && (eqb (e .discarded) (d .discarded) && eqb (e .fault) (d .fault)))
+    same (e .sheet) (d .sheet)
+    && (eqb (e .found) (d .found) && (eqb (e .discarded) (d .discarded) && (eqb (e .fault) (d .fault) && eqb (e .place) (d .place))))
 
 abbrev pub isRefused : ℕ → reading.Answer → Bool
 isRefused k (reading.refuse j) = eqb j k
 isRefused k (done e) = false
 
 abbrev pub isWritten : List ℕ → writing.Answer → Bool
-isWritten bs (writing.refuse k) = false
+isWritten bs (writing.refuse k p) = false
 isWritten bs (written cs) = same cs bs
 
 -- ---- the test

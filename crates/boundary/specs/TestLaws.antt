@@ -22,8 +22,8 @@ use Rattle.taking.specs.Taking.{Taken}
 use Rattle.taking.specs.Taking as taking
 use Rattle.octets.specs.SameLaws.{same-true, same-self}
 use Rattle.written.specs.Writing.{writeOf}
-use Rattle.written.specs.Octets.{written}
-use Rattle.written.specs.Octets as writing
+use Rattle.answers.specs.Answers.{written}
+use Rattle.answers.specs.Answers as writing
 use Rattle.reading.specs.Reading as answered
 use Rattle.reading.specs.RoomLaws as readRoom
 use Rattle.written.specs.Writing as wrote
@@ -95,18 +95,20 @@ done-true d (done x) e =
     let s : x .sheet ≡ d .sheet = same-true _ _ (f .0) in
     let n : x .found ≡ d .found = eqb-true _ _ (g .0) in
     let m : x .discarded ≡ d .discarded = eqb-true _ _ (h .0) in
-    let k : x .fault ≡ d .fault = eqb-true _ _ (h .1) in
-    let i : _≡_ {A = Done}
-    (record { sheet = x .sheet; found = x .found; discarded = x .discarded; fault = x .fault })
-    (record { sheet = d .sheet; found = d .found; discarded = d .discarded; fault = d .fault }) = rw (s, n, m, k) refl in
-    ap done i
+    let i = both _ _ (h .1) in
+    let k : x .fault ≡ d .fault = eqb-true _ _ (i .0) in
+    let p : x .place ≡ d .place = eqb-true _ _ (i .1) in
+    let all : _≡_ {A = Done}
+    (record { sheet = x .sheet; found = x .found; discarded = x .discarded; fault = x .fault; place = x .place })
+    (record { sheet = d .sheet; found = d .found; discarded = d .discarded; fault = d .fault; place = d .place }) = rw (s, n, m, k, p) refl in
+    ap done all
 
 refused-true : (k : ℕ) (a : reading.Answer) → isRefused k a ≡ true → a ≡ reading.refuse k
 refused-true k (reading.refuse j) e = ap reading.refuse (eqb-true j k e)
 refused-true k (done x) e = absurd (false≢true e)
 
 written-true : (bs : List ℕ) (a : writing.Answer) → isWritten bs a ≡ true → a ≡ written bs
-written-true bs (writing.refuse k) e = absurd (false≢true e)
+written-true bs (writing.refuse k p) e = absurd (false≢true e)
 written-true bs (written cs) e = ap written (same-true cs bs e)
 
 -- ---- an entry
@@ -150,7 +152,7 @@ module _ (p : Piece) where
     is-other : same bs (p .area) ≡ false → IsOther p
     is-other n room h = go (ltb room (length bs)) (sym (any-room room) ∙ h)
       where
-        go : (b : Bool) → cond b (writing.refuse refusal.room) (written bs) ≡ written (p .area) → ⊥
+        go : (b : Bool) → cond b (writing.refuse refusal.room 0) (written bs) ≡ written (p .area) → ⊥
         go true q = let z : _≡_ {A = ℕ} 0 1 = cc in omega arith
         go false q =
             let i : bs ≡ p .area = cc in

@@ -19,7 +19,7 @@ use Rattle.vetting.specs.declared.Vetted.the-variants.{Refused, Sheet}
 use Rattle.vetting.specs.Vetting.{vetOf}
 use Rattle.vetting.specs.Vetting as vetting
 use Rattle.written.specs.Writing.{writeOf}
-use Rattle.writing.specs.Writes as writing
+use Rattle.answers.specs.Answers as answers
 use Rattle.inputs.specs.declared.Read.{Read}
 use Rattle.inputs.specs.declared.Read.the-variants.{Octets, Bad, Long}
 use Rattle.decoding.specs.Decoding.{Answer}
@@ -52,7 +52,7 @@ pub record ReadAs (strict : Bool) (r : Reading) (x : ℤ) : Type 0 where
 
 -- the number that writing a sheet answers, with room for 40,960 octets
 abbrev pub writeNumber : List ℕ → ℕ
-writeNumber sheet = writing.told (writeOf sheet limit.input) .number
+writeNumber sheet = answers.told (writeOf sheet limit.input) .number
 
 -- a sheet is shown when writing would accept it: one that passes, and of which no record is large (44)
 abbrev pub Fitting : Bool → ℤ → Type 0
@@ -60,7 +60,7 @@ Fitting true r = r ≡ pos refused
 Fitting false r = Delivered r
 
 abbrev pub Shows : Vetted → ℤ → Type 0
-Shows (Refused k) r = r ≡ pos refused
+Shows (Refused k p) r = r ≡ pos refused
 Shows (Sheet c n large size) r = Fitting large r
 
 -- ---- what is asked, done with octets

@@ -16,9 +16,9 @@ use Rattle.reading.specs.Result as reading
 use Rattle.vetting.specs.declared.Vetted.{Vetted}
 use Rattle.vetting.specs.declared.Vetted.the-variants.{Refused, Sheet}
 use Rattle.written.specs.Writing.{writeOf}
-use Rattle.writing.specs.declared.Writing.{Writing}
-use Rattle.writing.specs.Writes.{Writes}
-use Rattle.writing.specs.Writes as writing
+use Rattle.answers.specs.declared.Result.{Result}
+use Rattle.answers.specs.Answers.{Writes}
+use Rattle.answers.specs.Answers as answers
 use Rattle.files.specs.Status.{oneOf, Delivered, Exited, Answers, done, refused, failed, no}
 use Rattle.files.specs.StatusLaws.{failed-delivered, delivered-exited, denied-exited, refused-exited, answers-done, answers-refused}
 use Rattle.command.specs.Numbers.{readingOf, less, Gives, ReadAs, writeNumber, Fitting, Shows}
@@ -75,9 +75,9 @@ read-exited strict r x a = go (eqb (r .number) 0) refl
 
 -- ---- writing
 
-module _ (sheet out : List ℕ) {out′ : List ℕ} {r : Writing} (h : Writes (writeOf sheet (length out)) out r out′) (e : length out ≡ limit.input) where
+module _ (sheet out : List ℕ) {out′ : List ℕ} {r : Result} (h : Writes (writeOf sheet (length out)) out r out′) (e : length out ≡ limit.input) where
   write-number : r .number ≡ writeNumber sheet
-  write-number = ap (λ (x : Writing). x .number) (h .numbers) ∙ ap (λ (n : ℕ). writing.told (writeOf sheet n) .number) e
+  write-number = ap (λ (x : Result). x .number) (h .numbers) ∙ ap (λ (n : ℕ). answers.told (writeOf sheet n) .number) e
 
   pub write-refused : (r .number ≡ 0 → ⊥) → (x : ℤ) → x ≡ pos refused → Answers (writeNumber sheet) x
   write-refused z x i = answers-as write-number (answers-refused (r .number) x z i)
@@ -88,8 +88,8 @@ module _ (sheet out : List ℕ) {out′ : List ℕ} {r : Writing} (h : Writes (w
 -- ---- showing
 
 module _ {v w : Vetted} (e : v ≡ w) where
-  pub shows-refused : {k : ℕ} → v ≡ Refused k → (x : ℤ) → x ≡ pos refused → Shows w x
-  shows-refused {k} i x h = subst (λ (u : Vetted). Shows u x) (sym i ∙ e) h
+  pub shows-refused : {k p : ℕ} → v ≡ Refused k p → (x : ℤ) → x ≡ pos refused → Shows w x
+  shows-refused i x h = subst (λ (u : Vetted). Shows u x) (sym i ∙ e) h
 
   module _ {c : Carrier} {n size : ℕ} {large : Bool} (i : v ≡ Sheet c n large size) where
     pub shows-large : large ≡ true → (x : ℤ) → x ≡ pos refused → Shows w x
@@ -103,5 +103,5 @@ fitting-exited true r e = refused-exited r e
 fitting-exited false r w = delivered-exited r w
 
 pub shows-exited : (v : Vetted) (r : ℤ) → Shows v r → Exited r
-shows-exited (Refused k) r e = refused-exited r e
+shows-exited (Refused k p) r e = refused-exited r e
 shows-exited (Sheet c n large size) r h = fitting-exited large r h

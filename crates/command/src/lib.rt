@@ -27,6 +27,7 @@ use forms::places;
 use inputs::Read;
 use libc::STDERR_FILENO;
 use libc::STDOUT_FILENO;
+use numbers::Fault;
 use numbers::Limit;
 use numbers::Refusal;
 use octets::lesser;
@@ -121,7 +122,7 @@ fn has_records(a: Asked) -> bool {
     }
     let n = got.length;
     match vetting::vet(&old[..n]) {
-        Vetted::Refused(_) => false,
+        Vetted::Refused { .. } => false,
         Vetted::Sheet { count, .. } => 0 < count,
     }
 }
@@ -153,7 +154,7 @@ fn give_saved(a: Asked, r: Reading, sheet: &[u8], text: &mut [u8]) -> i32
     if !a.json {
         return status;
     }
-    let n = results::put_saved(text, r.found, r.discarded, r.fault, sheet.len());
+    let n = results::put_saved(text, r.found, r.discarded, r.fault, r.place, sheet.len());
     output::print(a.json, &text[..n])
 }
 
@@ -164,7 +165,7 @@ fn give_reading(a: Asked, r: Reading, sheet: &[u8], text: &mut [u8]) -> i32
     if a.output != 0 {
         return give_saved(a, r, sheet, text);
     }
-    let n = results::put(text, a.json, r.found, r.discarded, r.fault, sheet);
+    let n = results::put(text, a.json, r.found, r.discarded, r.fault, r.place, sheet);
     output::print(a.json, &text[..n])
 }
 
@@ -214,6 +215,17 @@ fn give_octets(a: Asked, s: &[u8], text: &mut [u8]) -> i32
     output::print_hex(a.json, s, text)
 }
 
+// Says that a sheet is refused; for a name, at which octet and why.
+fn refuse_sheet(a: Asked, name: &[u8], sheet: &[u8], number: usize, place: usize) -> i32
+    ensures { λ r. ⌜ r ≡ pos status.refused ⌝ }
+{
+    if number == Fault::NAME {
+        let reason = findings::sheet::reason(sheet, place);
+        return messages::refused_at(a.json, name, place, reason);
+    }
+    messages::refused(a.json, name, number, 0)
+}
+
 // Writes the octets of a sheet.
 fn write(a: Asked, name: &[u8], sheet: &[u8], text: &mut [u8]) -> i32
     ensures { λ r. ⌜ Answers (writeNumber (now (sheet .entry))) r ⌝ }
@@ -221,7 +233,7 @@ fn write(a: Asked, name: &[u8], sheet: &[u8], text: &mut [u8]) -> i32
     let mut octets = [0u8; OCTETS];
     let w = writing::write(sheet, &mut octets);
     if w.number != 0 {
-        return messages::refused(a.json, name, w.number, 0);
+        return refuse_sheet(a, name, sheet, w.number, w.place);
     }
     let n = w.length;
     give_octets(a, &octets[..n], text)
@@ -240,7 +252,7 @@ fn show(a: Asked, name: &[u8], sheet: &[u8], text: &mut [u8]) -> i32
     ensures { λ r. ⌜ Shows (vetting.told (vetOf (now (sheet .entry)))) r ⌝ }
 {
     match vetting::vet(sheet) {
-        Vetted::Refused(k) => messages::refused(a.json, name, k, 0),
+        Vetted::Refused { number, place } => refuse_sheet(a, name, sheet, number, place),
         Vetted::Sheet { large, .. } => {
             if large {
                 return messages::refused(a.json, name, Refusal::LARGE, 0);
@@ -352,9 +364,9 @@ fn print_version(json: bool) -> i32
     ensures { λ r. ⌜ Delivered r ⌝ }
 {
     if json {
-        return output::print(json, b"{\"version\":\"0.2.0\"}\n");
+        return output::print(json, b"{\"version\":\"0.3.0\"}\n");
     }
-    output::print(json, b"dnr 0.2.0\n")
+    output::print(json, b"dnr 0.3.0\n")
 }
 
 // The command, with the arguments of the process; its answer is the exit status.

@@ -19,11 +19,10 @@ use Rattle.reading.specs.declared.Reading.{Reading}
 use Rattle.reading.specs.Reading.{readOf}
 use Rattle.reading.specs.Result.{Answer, Reads}
 use Rattle.written.specs.Writing.{writeOf}
-use Rattle.written.specs.Octets.{written}
 use Rattle.written.specs.Defined.{Defined}
 use Rattle.written.specs.DefinedLaws.{written-defined, defined-sheet}
-use Rattle.writing.specs.declared.Writing.{Writing}
-use Rattle.writing.specs.Writes.{Writes}
+use Rattle.answers.specs.declared.Result.{Result}
+use Rattle.answers.specs.Answers.{written, Writes}
 use Rattle.roundtrip.specs.RoundTripLaws.{call-wrote, call-fits, sheet-number}
 use Rattle.cuts.specs.Cuts.{CutCall, first-records, no-room, unframed}
 use Rattle.cuts.specs.Readings.{readCut, Cut, after-options, elsewhere}
@@ -52,7 +51,7 @@ cut-call {c} {rs} {octets} {n} {sheet} {sheet₁} {r} (after-options k e f) g = 
 cut-call {sheet = sheet} {sheet₁} {r} (elsewhere none e) g = unframed none (subst (λ (a : Answer). Reads a sheet r sheet₁) e g)
 
 -- a call of `write` that returned 0, and a call of `read` with the first n octets that it left
-pub calls-cut : (c : Carrier) → Plain c → (s : List ℕ) (rs : List Fields) (out out₁ sheet sheet₁ : List ℕ) (w : Writing) (r : Reading)
+pub calls-cut : (c : Carrier) → Plain c → (s : List ℕ) (rs : List Fields) (out out₁ sheet sheet₁ : List ℕ) (w : Result) (r : Reading)
     → Bytes s → IsSheet s c rs
     → Writes (writeOf s (length out)) out w out₁ → w .number ≡ 0
     → (n : ℕ) → n ≤ w .length

@@ -5,12 +5,12 @@ ghost use lib.ListN.{length};
 ghost use Rattle.reading.specs.Reading.{readOf};
 ghost use Rattle.reading.specs.Result.{Reads};
 ghost use Rattle.written.specs.Writing.{writeOf};
-ghost use Rattle.writing.specs.Writes.{Writes};
+ghost use Rattle.answers.specs.Answers.{Writes};
 ghost use Rattle.words.specs.Words.{wordsOf};
 ghost use Rattle.words.specs.Strings.{PutsString};
+use answers::Result;
 use octets::lesser;
 use reading::Reading;
-use writing::Writing;
 
 // Reads an area under a carrier number and writes its record sheet. (Field by field: see docs/DESIGN.md, Speed.)
 #[no_mangle]
@@ -24,12 +24,13 @@ pub extern "C" fn dnr_read(carrier: usize, area: &[u8], sheet: &mut [u8]) -> Rea
         found: done.found,
         discarded: done.discarded,
         fault: done.fault,
+        place: done.place,
     }
 }
 
 // Writes the octets of a record sheet: its options, or its attributes.
 #[no_mangle]
-pub extern "C" fn dnr_write(sheet: &[u8], octets: &mut [u8]) -> Writing
+pub extern "C" fn dnr_write(sheet: &[u8], octets: &mut [u8]) -> Result
     ensures { λ r. ⌜ Writes (writeOf (now (sheet .entry)) (length (now (octets .entry)))) (now (octets .entry)) r (now (octets .exit)) ⌝ }
 {
     writing::write(sheet, octets)

@@ -4,7 +4,7 @@ use mathlib.Core.Path.{_≡_, refl, sym, ap, ap₂, subst, _∙_}
 use mathlib.Core.Bool.{true≢false}
 use mathlib.Core.Logic.{_↔_}
 use mathlib.Core.List.{List, [], _∷_, _++_, map}
-use Prim.Native.Nat.{ℕ, _≤_, _<_}
+use Prim.Native.Nat.{ℕ, _+_, _≤_, _<_}
 use native.Mathlib.Omega.{arith}
 use lib.ListN.{length}
 use Rattle.octets.specs.Numbers.{Bytes}
@@ -12,13 +12,14 @@ use Rattle.octets.specs.Lists.{All}
 use Rattle.octets.specs.Fields.{putCounted}
 use Rattle.carriers.specs.declared.Carrier.{Carrier}
 use Rattle.carriers.specs.declared.Carrier.the-variants.{Dhcp4}
+use Rattle.carriers.specs.Carriers.{headerOf}
 use Rattle.carriers.specs.CarriersLaws.{other-joined}
 use Rattle.blocks.specs.Block.{Fields, layout, Fits, Possible}
 use Rattle.judge.specs.declared.Side.the-variants.{Reading}
 use Rattle.judge.specs.Allowed.{Allowed}
-use Rattle.records.specs.Records.{Outcome, faulty, kept, keepOf}
+use Rattle.records.specs.Records.{Outcome, faulty, kept, further, keepOf}
 use Rattle.records.specs.Yielded.{outcomeOf}
-use Rattle.reading.specs.Reading.{yieldOf}
+use Rattle.reading.specs.Reading.{alone, yieldOf}
 use Rattle.reading.specs.Result.{Yield, yields, single}
 use Rattle.reading.specs.InstanceLaws.{counted-ahead}
 use Rattle.layouts.specs.Layouts.{joinedOf}
@@ -40,15 +41,15 @@ body-exactly c b r h m = let i = body-is c b (kept r) h m in (λ e. keeps-yieldi
 
 -- ---- one block of carriers 2 to 5
 
-single-yields : (o : Outcome) (rs : List Fields) → single o ≡ yields rs → (r : Fields) × (rs ≡ r ∷ []) × (o ≡ kept r)
-single-yields (faulty k) rs e = let z : _≡_ {A = ℕ} 0 1 = cc in absurd (omega arith)
-single-yields (kept r) rs e = (r, (cc), refl)
+single-yields : (n : ℕ) (o : Outcome) (rs : List Fields) → single (further n o) ≡ yields rs → (r : Fields) × (rs ≡ r ∷ []) × (o ≡ kept r)
+single-yields n (faulty j) rs e = let z : _≡_ {A = ℕ} 0 1 = cc in absurd (omega arith)
+single-yields n (kept r) rs e = (r, (cc), refl)
 
 module _ (c : Carrier) (b : List ℕ) (rs : List Fields) (octets : Bytes b) (possible : Possible c b) where
-  single-exactly : (single (outcomeOf c b) ≡ yields rs) ↔ ((r : Fields) × (rs ≡ r ∷ []) × Yielding c b r)
+  single-exactly : (alone c b ≡ yields rs) ↔ ((r : Fields) × (rs ≡ r ∷ []) × Yielding c b r)
   single-exactly = (
-    λ e. (let k = single-yields (outcomeOf c b) rs e in (k .0, k .1, body-exactly c b (k .0) octets possible .0 (k .2))),
-    λ y. ap single (body-exactly c b (y .0) octets possible .1 (y .2)) ∙ ap yields (sym (y .1)),
+    λ e. (let k = single-yields (headerOf c) (outcomeOf c b) rs e in (k .0, k .1, body-exactly c b (k .0) octets possible .0 (k .2))),
+    λ y. ap (λ (o : Outcome). single (further (headerOf c) o)) (body-exactly c b (y .0) octets possible .1 (y .2)) ∙ ap yields (sym (y .1)),
   )
 
 -- a block of another carrier than 1 yields the one record of its body, exactly if its body yields one
@@ -66,9 +67,9 @@ Made l rs fs =
     × All (Allowed Reading Dhcp4) fs
     × (rs ≡ map (keepOf Dhcp4) fs)
 
-instances-made : {l : List ℕ} {rs : List Fields} → Instances l (yields rs) → (fs : List Fields) × Made l rs fs
+instances-made : {at : ℕ} {l : List ℕ} {rs : List Fields} → Instances at l (yields rs) → (fs : List Fields) × Made l rs fs
 instances-made none = ([], (refl, tt, tt, refl))
-instances-made (one-more {joined} {body} {rest} {r} b i later) =
+instances-made (one-more {body = body} {rest = rest} {r = r} b i later) =
     let y : Yielding Dhcp4 body r = keeps-yielding i in
     let m = instances-made later in
     let k = m .1 in
@@ -76,17 +77,17 @@ instances-made (one-more {joined} {body} {rest} {r} b i later) =
     let small : length (layout Dhcp4 (y .fields)) < 65536 = rw (y .laid) at (b .small) in
     (y .fields ∷ m .0, (laid, ((y .fits, small), k .1), (y .allowed, k .2), ap₂ (λ (r : Fields) (rs : List Fields). r ∷ rs) (y .kept) (k .3)))
 
-made-instances : (fs : List Fields) → All (λ (f : Fields). Fits Dhcp4 f × (length (layout Dhcp4 f) < 65536)) fs → All (Allowed Reading Dhcp4) fs
-    → Instances (joinedOf fs) (yields (map (keepOf Dhcp4) fs))
-made-instances [] fits allowed = none
-made-instances (f ∷ fs) fits allowed =
+made-instances : (at : ℕ) (fs : List Fields) → All (λ (f : Fields). Fits Dhcp4 f × (length (layout Dhcp4 f) < 65536)) fs → All (Allowed Reading Dhcp4) fs
+    → Instances at (joinedOf fs) (yields (map (keepOf Dhcp4) fs))
+made-instances at [] fits allowed = none
+made-instances at (f ∷ fs) fits allowed =
     one-more (record { small = fits .0 .1; are = counted-ahead (layout Dhcp4 f) (joinedOf fs) }) (keeps (refl, fits .0 .0) (allowed .0))
-    (made-instances fs (fits .1) (allowed .1))
+    (made-instances (at + 2 + length (layout Dhcp4 f)) fs (fits .1) (allowed .1))
 
-block-instances : {b : List ℕ} {y : Yield} (rs : List Fields) → BlockIs Dhcp4 b y → y ≡ yields rs → (b ≡ [] → ⊥) × Instances b (yields rs)
+block-instances : {b : List ℕ} {y : Yield} (rs : List Fields) → BlockIs Dhcp4 b y → y ≡ yields rs → (b ≡ [] → ⊥) × Instances 0 b (yields rs)
 block-instances rs (one-body e i) q = absurd (true≢false e)
 block-instances rs (no-instance e n) q = let z : _≡_ {A = ℕ} 0 1 = cc in absurd (omega arith)
-block-instances {b} rs (instances e some i) q = (some, subst (Instances b) q i)
+block-instances {b} rs (instances e some i) q = (some, subst (Instances 0 b) q i)
 
 -- octets that there are have a first instance, and an instance has octets
 made-some : (fs : List Fields) → (joinedOf fs ≡ [] → ⊥) → 1 ≤ length fs
@@ -101,7 +102,7 @@ some-made (f ∷ fs) h e = let z : length (joinedOf (f ∷ fs)) ≡ 0 = ap lengt
 pub joined-exactly : (b : List ℕ) (rs : List Fields) → Bytes b → (yieldOf Dhcp4 b ≡ yields rs) ↔ YieldingAll b rs
 joined-exactly b rs h = (λ e. all (block-instances rs (block-is Dhcp4 b (yields rs) h tt .0 e) refl), λ y. block-is Dhcp4 b (yields rs) h tt .1 (block y))
   where
-    all : (b ≡ [] → ⊥) × Instances b (yields rs) → YieldingAll b rs
+    all : (b ≡ [] → ⊥) × Instances 0 b (yields rs) → YieldingAll b rs
     all i =
         let m = instances-made (i .1) in
         let k = m .1 in
@@ -109,5 +110,5 @@ joined-exactly b rs h = (λ e. all (block-instances rs (block-is Dhcp4 b (yields
 
     block : YieldingAll b rs → BlockIs Dhcp4 b (yields rs)
     block y =
-        let i : Instances b (yields rs) = rw (y .laid, y .kept) (made-instances (y .fields) (y .fits) (y .allowed)) in
+        let i : Instances 0 b (yields rs) = rw (y .laid, y .kept) (made-instances 0 (y .fields) (y .fits) (y .allowed)) in
         instances refl (λ e. some-made (y .fields) (y .some) (sym (y .laid) ∙ e)) i

@@ -3,5 +3,7 @@ pub mod Yielding
 pub mod PartsLaws
 pub mod BlockLaws
 pub mod AnswersLaws
+pub mod Wrong
+pub mod WrongLaws
 pub mod Exactly
 pub mod Sizes

@@ -17,13 +17,15 @@ use Rattle.carriers.specs.declared.Carrier.{Carrier}
 use Rattle.carriers.specs.declared.Carrier.the-variants.{Dhcp4}
 use Rattle.carriers.specs.declared.Chosen.{Chosen}
 use Rattle.carriers.specs.declared.Chosen.the-variants.{Known, Unknown}
-use Rattle.carriers.specs.Carriers.{chosenOf}
+use Rattle.carriers.specs.Carriers.{chosenOf, headerOf}
 use Rattle.carriers.specs.CarriersLaws.{by-joined}
 use Rattle.frames.specs.Frame.{Framed, framed, frame}
 use Rattle.frames.specs.Area.{blocksOf}
 use Rattle.frames.specs.Frame as area
 use Rattle.blocks.specs.Block.{Fields}
-use Rattle.records.specs.Records.{Outcome, faulty, kept, recordOf}
+use Rattle.judge.specs.declared.Judged.{Judged}
+use Rattle.judge.specs.Place.{judged}
+use Rattle.records.specs.Records.{Outcome, faulty, kept, further, recordOf}
 use Rattle.records.specs.Yielded.{outcomeOf}
 use Rattle.records.specs.RecordsLaws.{record-small}
 use Rattle.sheets.specs.Sheets.{sheetOf}
@@ -42,41 +44,42 @@ abbrev Smalls : Carrier → Yield → Type 0
 Smalls c y = All (Small c) (recordsIn y)
 
 -- a discarded block has no record
-unless-small : (c : Carrier) (bad : Bool) (k : ℕ) (y : Yield) → Smalls c y → Smalls c (cond bad (discarded k) y)
-unless-small c true k y h = tt
-unless-small c false k y h = h
+unless-small : (c : Carrier) (bad : Bool) (j : Judged) (y : Yield) → Smalls c y → Smalls c (cond bad (discarded j) y)
+unless-small c true j y h = tt
+unless-small c false j y h = h
 
-single-small : (c : Carrier) (o : Outcome) → ((r : Fields) → o ≡ kept r → Small c r) → Smalls c (single o)
-single-small c (faulty k) h = tt
-single-small c (kept r) h = (h r refl, tt)
+single-small : (c : Carrier) (n : ℕ) (o : Outcome) → ((r : Fields) → o ≡ kept r → Small c r) → Smalls c (single (further n o))
+single-small c n (faulty j) h = tt
+single-small c n (kept r) h = (h r refl, tt)
 
-ahead-small : (c : Carrier) (o : Outcome) (y : Yield) → ((r : Fields) → o ≡ kept r → Small c r) → Smalls c y → Smalls c (ahead o y)
-ahead-small c (faulty k) y h later = tt
-ahead-small c (kept r) (discarded k) h later = tt
-ahead-small c (kept r) (yields rs) h later = (h r refl, later)
+ahead-small : (c : Carrier) (n : ℕ) (o : Outcome) (y : Yield) → ((r : Fields) → o ≡ kept r → Small c r) → Smalls c y → Smalls c (ahead (further n o) y)
+ahead-small c n (faulty j) y h later = tt
+ahead-small c n (kept r) (discarded j) h later = tt
+ahead-small c n (kept r) (yields rs) h later = (h r refl, later)
 
-instance-small : (l : List ℕ) (go : ℕ → Yield) → ((k : ℕ) → Smalls Dhcp4 (go k)) → Smalls Dhcp4 (instance l go)
-instance-small l go later =
+instance-small : (at : ℕ) (l : List ℕ) (go : ℕ → Yield) → ((k : ℕ) → Smalls Dhcp4 (go k)) → Smalls Dhcp4 (instance at l go)
+instance-small at l go later =
     let b : List ℕ = take (at16 l 0) (drop 2 l) in
-    let y : Yield = ahead (outcomeOf Dhcp4 b) (go (1 + at16 l 0)) in
+    let y : Yield = ahead (further (at + 2) (outcomeOf Dhcp4 b)) (go (1 + at16 l 0)) in
     let past : Bool = ltb (length l - 2) (at16 l 0) in
-    let small : Smalls Dhcp4 y = ahead-small Dhcp4 (outcomeOf Dhcp4 b) (go (1 + at16 l 0)) (record-small Dhcp4 b) (later (1 + at16 l 0)) in
-    unless-small Dhcp4 (ltb (length l) 2) fault.field (cond past (discarded fault.field) y) (unless-small Dhcp4 past fault.field y small)
+    let none : Judged = judged fault.field 0 in
+    let small : Smalls Dhcp4 y = ahead-small Dhcp4 (at + 2) (outcomeOf Dhcp4 b) (go (1 + at16 l 0)) (record-small Dhcp4 b) (later (1 + at16 l 0)) in
+    unless-small Dhcp4 (ltb (length l) 2) none (cond past (discarded none) y) (unless-small Dhcp4 past none y small)
 
-instances-small : (k : ℕ) (l : List ℕ) → Smalls Dhcp4 (instancesFrom k l)
+instances-small : (k at : ℕ) (l : List ℕ) → Smalls Dhcp4 (instancesFrom k at l)
 unfolding instancesFrom
-instances-small k [] = tt
-instances-small zero (x ∷ xs) = instance-small (x ∷ xs) (λ k. instancesFrom k xs) (λ k. instances-small k xs)
-instances-small (suc k) (x ∷ xs) = instances-small k xs
+instances-small k at [] = tt
+instances-small zero at (x ∷ xs) = instance-small at (x ∷ xs) (λ k. instancesFrom k (at + 1) xs) (λ k. instances-small k (at + 1) xs)
+instances-small (suc k) at (x ∷ xs) = instances-small k (at + 1) xs
 
 joined-small : (b : List ℕ) → Smalls Dhcp4 (joinedYield b)
 unfolding joinedYield
-joined-small b = unless-small Dhcp4 (eqb (length b) 0) fault.field (instancesFrom 0 b) (instances-small 0 b)
+joined-small b = unless-small Dhcp4 (eqb (length b) 0) (judged fault.field 0) (instancesFrom 0 0 b) (instances-small 0 0 b)
 
 block-small : (c : Carrier) (b : List ℕ) → Smalls c (yieldOf c b)
 block-small =
     by-joined (λ c. (b : List ℕ) → Smalls c (yieldOf c b)) joined-small
-    (λ c e b. rw e (single-small c (outcomeOf c b) (record-small c b)))
+    (λ c e b. rw e (single-small c (headerOf c) (outcomeOf c b) (record-small c b)))
 
 arrivals-small : (c : Carrier) (bs : List (List ℕ)) → All (Small c) (arrivals (map (yieldOf c) bs))
 arrivals-small c [] = tt
@@ -108,7 +111,13 @@ settle-within room rs d size = go (ltb limit.records (length rs)) refl (ltb room
 yields-within : (c : Carrier) (ys : List Yield) (room : ℕ) → All (Small c) (arrivals ys) → Within room (readYields c ys room)
 yields-within c ys room h =
     settle-within room (arrivals ys)
-    (record { sheet = sheetOf c (inOrder (arrivals ys)); found = length ys; discarded = discardedIn ys; fault = firstFault ys })
+    (record {
+      sheet = sheetOf c (inOrder (arrivals ys));
+      found = length ys;
+      discarded = discardedIn ys;
+      fault = firstFault ys .fault;
+      place = firstFault ys .place;
+    })
     (ordered-few c (arrivals ys) h)
 
 framed-within : (c : Carrier) (f : Framed) (room : ℕ) → Within room (readFramed c f room)

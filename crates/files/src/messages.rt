@@ -14,6 +14,7 @@ use lines::listed::Discard;
 use lines::objects;
 use lines::objects::Note;
 use lines::said;
+use numbers::Fault;
 
 // Octets of a line: a path, and 512 for the longest words and what stands around them.
 const LINE: usize = PATH_MAX + 512;
@@ -42,16 +43,16 @@ fn failure(errno: usize) -> Note
     }
 }
 
-// A refusal.
-fn refusal(number: usize) -> Note
-    ensures { λ r. ⌜ (r .status ≡ status.refused) × (r .number ≡ number) × (r .errno ≡ 0) × (r .block ≡ 0) × (r .octet ≡ 0) ⌝ }
+// A refusal; `octet` says where, if that is told.
+fn refusal(number: usize, octet: usize) -> Note
+    ensures { λ r. ⌜ (r .status ≡ status.refused) × (r .number ≡ number) × (r .errno ≡ 0) × (r .block ≡ 0) × (r .octet ≡ octet) ⌝ }
 {
     Note {
         status: 1,
         number,
         errno: 0,
         block: 0,
-        octet: 0,
+        octet,
     }
 }
 
@@ -152,7 +153,17 @@ pub fn refused(json: bool, name: &[u8], number: usize, hint: usize) -> i32
 {
     let mut line = [0u8; LINE];
     let n = said::put_refused(&mut line, name, number, hint);
-    say(json, &line[..n], refusal(number));
+    say(json, &line[..n], refusal(number, 0));
+    REFUSED
+}
+
+// A sheet is refused for a name that is wrong at an octet: why, where that is known (`reasons::Reason`), or 0.
+pub fn refused_at(json: bool, name: &[u8], octet: usize, reason: usize) -> i32
+    ensures { λ r. ⌜ r ≡ pos status.refused ⌝ }
+{
+    let mut line = [0u8; LINE];
+    let n = said::put_refused_at(&mut line, name, octet, reason);
+    say(json, &line[..n], refusal(Fault::NAME, octet));
     REFUSED
 }
 

@@ -4,7 +4,7 @@
 use mathlib.Core.Path.{_≡_, refl, sym, ap, ap₂, _∙_, subst}
 use mathlib.Core.Bool.{Bool, true, false, cond}
 use mathlib.Core.List.{List, [], _∷_, _++_, map}
-use Prim.Native.Nat.{ℕ, _+_, _≤_, _<_}
+use Prim.Native.Nat.{ℕ, _+_, _-_, _≤_, _<_}
 use native.Mathlib.Omega.{arith}
 use lib.Dec.{eqb}
 use lib.ListN.{length, getD, drop}
@@ -13,18 +13,26 @@ use Rattle.octets.specs.Numbers.{Bytes}
 use Rattle.numbers.specs.Fault as fault
 use Rattle.carriers.specs.declared.Carrier.{Carrier}
 use Rattle.carriers.specs.declared.Carrier.the-variants.{Dhcp4, Router}
-use Rattle.carriers.specs.Carriers.{asText}
+use Rattle.names.specs.Names.{FirstBad}
 use Rattle.frames.specs.Frame.{framed, frame}
-use Rattle.blocks.specs.Block.{Fields}
+use Rattle.blocks.specs.Block.{Fields, nameAt}
 use Rattle.blocks.specs.Parse.{bad, fields, parse}
-use Rattle.blocks.specs.Places.{nameAt}
 use Rattle.blocks.specs.Holding.{Holds}
+use Rattle.judge.specs.declared.Side.the-variants.{Reading}
+use Rattle.judge.specs.declared.Judged.{Judged}
+use Rattle.judge.specs.Place.{judged}
+use Rattle.judge.specs.Allowed.{NameAllowed}
+use Rattle.records.specs.Records.{faulty}
 use Rattle.records.specs.Yielded.{outcomeOf}
 use Rattle.reading.specs.Reading.{instancesFrom, joinedYield}
 use Rattle.reading.specs.Result.{discarded}
+use Rattle.written.specs.Wrong.{WrongName}
+use Rattle.reasons.specs.Names.{nameReason}
+use Rattle.findings.specs.Sheet.{sheetReason}
+use Rattle.findings.specs.SheetLaws as sheet
 use Rattle.findings.specs.Troubles.{plain, paddingAt, pastPadding, laidPlace, troubleOf, instancesTrouble, joinedTrouble}
 use Rattle.findings.specs.Spots.{Spot, spotsOf, placeIn, placeOf}
-use Rattle.findings.specs.Told.{faultIn, blockFault, bodyAt, Lies, FirstUnpadded, FieldsStand, BadAt}
+use Rattle.findings.specs.Told.{faultIn, blockFault, bodyAt, Lies, FirstUnpadded, FieldsStand}
 use Rattle.findings.specs.FaultLaws as faults
 use Rattle.findings.specs.OctetLaws as octets
 use Rattle.findings.specs.WithinLaws as within
@@ -42,7 +50,8 @@ pub joined-fault : (b : List ℕ) → joinedTrouble b .fault ≡ blockFault (joi
 unfolding joinedTrouble joinedYield
 joined-fault b = go (eqb (length b) 0)
   where
-    go : (t : Bool) → cond t (plain fault.field 0) (instancesTrouble 0 0 b) .fault ≡ blockFault (cond t (discarded fault.field) (instancesFrom 0 b))
+    go : (t : Bool) → cond t (plain fault.field 0) (instancesTrouble 0 0 b) .fault
+        ≡ blockFault (cond t (discarded (judged fault.field 0)) (instancesFrom 0 0 b))
     go true = refl
     go false = faults.instances-fault 0 0 b
 
@@ -103,8 +112,19 @@ fields-stand = stand.fields-stand
 
 -- fault 22: the place is that of the first bad octet of the name (RULES N5)
 pub name-place : (c : Carrier) (b : List ℕ) (f : Fields) → parse c b ≡ fields f → troubleOf c b .fault ≡ fault.name
-    → (place : ℕ) × (troubleOf c b .at ≡ nameAt c (length (f .addresses)) + place) × BadAt (asText c) (f .name) place
+    → (place : ℕ) × (troubleOf c b .at ≡ nameAt c (length (f .addresses)) + place) × FirstBad (NameAllowed Reading c) (f .name) place
 name-place = name.name-place
+
+-- and the place that reading gives back with the fault (RULES W11)
+pub trouble-place : (c : Carrier) (b : List ℕ) (j : Judged) → outcomeOf c b ≡ faulty j → j .fault ≡ fault.name → troubleOf c b .at ≡ j .place
+trouble-place = name.trouble-place
+
+pub joined-place : (b : List ℕ) (j : Judged) → joinedYield b ≡ discarded j → j .fault ≡ fault.name → joinedTrouble b .at ≡ j .place
+joined-place = name.joined-place
+
+-- and in a sheet that is refused for a name, what is told is why that name is bad at its first bad octet (RULES T8)
+pub sheet-why : (s : List ℕ) (p : ℕ) (w : WrongName s p) → sheetReason s p ≡ nameReason false (w .wrong .name) (p - w .start)
+sheet-why = sheet.sheet-why
 
 -- carrier 3, fault 29: what follows the fields begins with so much padding, and the place is after it
 pub padding-place : (b : List ℕ) → Bytes b → parse Router b ≡ bad fault.padding

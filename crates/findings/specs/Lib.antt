@@ -15,4 +15,6 @@ pub mod OctetLaws
 pub mod StandLaws
 pub mod NameLaws
 pub mod PaddingLaws
+pub mod Sheet
+pub mod SheetLaws
 pub mod Exactly

@@ -17,20 +17,17 @@ use Rattle.carriers.specs.Carriers.{addressWidth, asText}
 use Rattle.carriers.specs.CarriersLaws.{by-address}
 use Rattle.names.specs.declared.Name.{Name}
 use Rattle.names.specs.declared.Name.the-variants.{Good, Bad}
-use Rattle.names.specs.Wire.{nameCheck}
-use Rattle.names.specs.Exact as names
-use Rattle.texts.specs.TextCheck.{textCheck}
-use Rattle.texts.specs.Exact as texts
 use Rattle.addresses.specs.Addresses.{listOf}
 use Rattle.svcparams.specs.Params.{sizeOf, paramsFault}
 use Rattle.svcparams.specs.Entries.{keysIn}
 use Rattle.svcparams.specs.Key as key
 use Rattle.svcparams.specs.Exactly as params
-use Rattle.blocks.specs.Block.{Fields}
-use Rattle.blocks.specs.Places.{nameAt}
+use Rattle.blocks.specs.Block.{Fields, nameAt}
 use Rattle.judge.specs.declared.Side.the-variants.{Reading}
 use Rattle.judge.specs.declared.Judged.{Judged}
-use Rattle.judge.specs.Judge.{nameOf, refusedOf, tailFault, nameOnlyFault, judged, onName, judgedOf}
+use Rattle.judge.specs.Place.{judged}
+use Rattle.judge.specs.Judge.{nameOf, refusedOf, tailFault, nameOnlyFault, onName, judgedOf}
+use Rattle.judge.specs.PlaceLaws.{bad-exactly}
 use Rattle.reasons.specs.declared.Param.{Param}
 use Rattle.reasons.specs.Params.{on, unorderedFrom, wrongOf, wrongFrom, paramFor}
 use Rattle.findings.specs.Troubles.{addressLengthAt, addressesAt, parametersAt, limitAt, fieldPlace}
@@ -74,13 +71,6 @@ param-within k p =
 
 -- ---- the judge's answer
 
--- a bad place of a name that is read is within the name
-name-within : (c : Carrier) (name : List ℕ) (place : ℕ) → nameOf Reading c name ≡ Bad place → place ≤ length name
-name-within c name place =
-    by-test (asText c) (λ t. cond t (textCheck name) (nameCheck name) ≡ Bad place → place ≤ length name)
-    (λ _ e. texts.bad name place .0 e .within)
-    (λ _ e. names.bad name place .0 e .within)
-
 too-many : (n : ℕ) (c : Carrier) → limit.addresses < n / addressWidth c → limit.addresses * addressWidth c < n
 too-many n = by-address (λ w. limit.addresses < n / w → limit.addresses * w < n) (λ h. omega arith) (λ h. omega arith)
 
@@ -123,7 +113,7 @@ judged-placed c f = go (eqb (f .priority) 0) (nameOf Reading c (f .name)) (f .fu
         (onName n (λ place. judged fault.name place) (judged (cond full tail (nameOnlyFault c)) 0)))
     go true n full m u = record { inside = omega arith; full-form = λ h _. absurd (omega arith); too-much = λ h. absurd (omega arith) }
     go false (Bad place) full m u =
-        record { inside = name-within c (f .name) place m; full-form = λ h _. absurd (omega arith); too-much = λ h. absurd (omega arith) }
+        record { inside = bad-exactly Reading c (f .name) place .0 m .within; full-form = λ h _. absurd (omega arith); too-much = λ h. absurd (omega arith) }
     go false Good true m u = record { inside = omega arith; full-form = λ _ _. u; too-much = tail-limit c (f .addresses) (f .parameters) }
     go false Good false m u =
         by-test (asText c) (λ t. Placed c f (judged (cond t fault.addresses 0) 0))

@@ -17,7 +17,7 @@ use Rattle.numbers.specs.Limit as limit
 use Rattle.carriers.specs.declared.Carrier.{Carrier}
 use Rattle.carriers.specs.Carriers.{lengthWidth, lifetimeIn, lifetimeWidth, addressWidth, asText}
 use Rattle.carriers.specs.CarriersLaws.{by-length, address-width}
-use Rattle.blocks.specs.Places.{nameAt}
+use Rattle.blocks.specs.Block.{nameAt}
 use Rattle.findings.specs.Troubles.{near16, paddingAt, pastPadding, laidPlace, addressLengthAt, addressesAt, parametersAt, limitAt, fieldPlace}
 
 -- ---- 20 and 29

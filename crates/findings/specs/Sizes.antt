@@ -9,8 +9,7 @@ use Rattle.numbers.specs.Fault as fault
 use Rattle.numbers.specs.Limit as limit
 use Rattle.carriers.specs.declared.Carrier.{Carrier}
 use Rattle.carriers.specs.Carriers.{addressWidth, asText}
-use Rattle.blocks.specs.Block.{Fields}
-use Rattle.blocks.specs.Places.{nameAt}
+use Rattle.blocks.specs.Block.{Fields, nameAt}
 use Rattle.judge.specs.declared.Judged.{Judged}
 use Rattle.findings.specs.Troubles.{parametersAt}
 

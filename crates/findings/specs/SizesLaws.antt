@@ -16,9 +16,8 @@ use Rattle.carriers.specs.declared.Form.{Form}
 use Rattle.carriers.specs.declared.Form.the-variants.{Wire, Padded, Text}
 use Rattle.carriers.specs.Carriers.{formOf, lengthWidth, lifetimeWidth, textIn, asText}
 use Rattle.carriers.specs.CarriersLaws.{padded-router}
-use Rattle.blocks.specs.Block.{Fields, sizeBy}
+use Rattle.blocks.specs.Block.{Fields, sizeBy, nameAt}
 use Rattle.blocks.specs.Sizes.{length-layout}
-use Rattle.blocks.specs.Places.{nameAt}
 use Rattle.blocks.specs.Parse.{bad, fields, isPadding, padded, parse}
 use Rattle.blocks.specs.Holding.{Laid, putTail, HoldsPadded, HoldsBy, Holds}
 use Rattle.blocks.specs.HoldingLaws.{holds-read, holds-or-short, fields-bad}

@@ -5,7 +5,9 @@ use mathlib.Core.List.{List, [], _++_, append-nil}
 use Prim.Native.Nat.{ℕ, _+_, _*_, _/_, _%_, _^_, _<_}
 use native.Mathlib.Omega.{arith}
 use lib.ListN.{length, getD, take, drop}
-use lib.Seq.{drop-drop, take-at, drop-at}
+use lib.Seq.{take-at}
+use Rattle.octets.specs.Lists.{Stands}
+use Rattle.octets.specs.ListsLaws.{stands-begins, drop-onward, stands-at}
 use Rattle.octets.specs.Numbers.{be, val, numberAt, Bytes}
 use Rattle.octets.specs.NumbersLaws.{length-be, val-be}
 use Rattle.octets.specs.Fields.{putCounted}
@@ -14,26 +16,15 @@ use Rattle.carriers.specs.declared.Carrier.the-variants.{Router}
 use Rattle.carriers.specs.declared.Form.{Form}
 use Rattle.carriers.specs.declared.Form.the-variants.{Wire, Padded, Text}
 use Rattle.carriers.specs.Carriers.{formOf, lengthWidth, lifetimeIn, lifetimeWidth, addressWidth, textIn, asText}
-use Rattle.carriers.specs.CarriersLaws.{padded-router, text-width, by-address}
+use Rattle.carriers.specs.CarriersLaws.{padded-router, by-address}
 use Rattle.blocks.specs.Block.{Fields, layoutBy, layout, putOpening, putAfterName, putAttribute, FitsNamed, FitsAttribute, FitsBy, Fits}
-use Rattle.blocks.specs.Places.{nameAt}
 use Rattle.blocks.specs.Parse.{fields, parse}
 use Rattle.blocks.specs.Holding.{Laid, putTail, HoldsPadded, HoldsBy}
+use Rattle.blocks.specs.NameLaws.{opening-name, attribute-addresses, attribute-name, opening-there, attribute-there, there-stands}
 use Rattle.findings.specs.Troubles.{addressLengthAt, addressesAt}
-use Rattle.findings.specs.Told.{Stands, addressesSaid, FieldsStand}
-use Rattle.findings.specs.PlacesLaws.{name-text, name-wire, length-text, length-wire, addresses-text, addresses-wire, parameters-text, parameters-wire, parameters-padded}
+use Rattle.findings.specs.Told.{addressesSaid, FieldsStand}
+use Rattle.findings.specs.PlacesLaws.{name-wire, length-text, length-wire, addresses-text, addresses-wire, parameters-text, parameters-wire, parameters-padded}
 use Rattle.findings.specs.SizesLaws.{parse-holds}
-
--- x stands where what is left begins with it, and what follows it stands further on by its octets
-module _ (x l b : List ℕ) (i : ℕ) (e : drop i b ≡ x ++ l) where
-  begins : Stands x i b
-  begins = ap (take (length x)) e ∙ take-at x l (length x) refl
-
-  onward : (n : ℕ) → length x ≡ n → drop (i + n) b ≡ l
-  onward n h = sym (drop-drop n i b) ∙ ap (drop n) e ∙ drop-at x l n h
-
-stands-at : (x b : List ℕ) {i j : ℕ} → i ≡ j → Stands x i b → Stands x j b
-stands-at x b e h = subst (λ (k : ℕ). Stands x k b) e h
 
 -- what is said at a place, by the carrier
 module _ (c : Carrier) (b : List ℕ) {i j v : ℕ} (e : i ≡ j) where
@@ -58,22 +49,11 @@ module _ (c : Carrier) (b : List ℕ) (f : Fields) (t : asText c ≡ false) wher
   abbrev m : ℕ
   m = length (f .addresses)
 
-  at-name : (l : List ℕ) → b ≡ putOpening c f l → drop (2 + v + w) b ≡ f .name ++ l
-  at-name l h =
-      let counted : List ℕ = be w n ++ (f .name ++ l) in
-      let first : drop 2 b ≡ be v (f .lifetime) ++ counted =
-      onward (be 2 (f .priority)) (be v (f .lifetime) ++ counted) b 0 h 2 (length-be 2 (f .priority)) in
-      let second : drop (2 + v) b ≡ counted = onward (be v (f .lifetime)) counted b 2 first v (length-be v (f .lifetime)) in
-      onward (be w n) (f .name ++ l) b (2 + v) second w (length-be w n)
-
   at-length : (l : List ℕ) → b ≡ putOpening c f (putCounted w (f .addresses) l) → drop (2 + v + w + n) b ≡ putCounted w (f .addresses) l
-  at-length l h = let counted : List ℕ = putCounted w (f .addresses) l in onward (f .name) counted b (2 + v + w) (at-name counted h) n refl
+  at-length l h = let counted : List ℕ = putCounted w (f .addresses) l in drop-onward (f .name) counted b (2 + v + w) (opening-name c b f counted h) n refl
 
   at-addresses : (l : List ℕ) → b ≡ putOpening c f (putCounted w (f .addresses) l) → drop (2 + v + w + n + w) b ≡ f .addresses ++ l
-  at-addresses l h = onward (be w m) (f .addresses ++ l) b (2 + v + w + n) (at-length l h) w (length-be w m)
-
-  name-stands : (l : List ℕ) → b ≡ putOpening c f l → Stands (f .name) (nameAt c m) b
-  name-stands l h = stands-at (f .name) b (name-wire c refl m t refl refl) (begins (f .name) l b (2 + v + w) (at-name l h))
+  at-addresses l h = drop-onward (be w m) (f .addresses ++ l) b (2 + v + w + n) (at-length l h) w (length-be w m)
 
   length-is : 2 + v + w + n ≡ addressLengthAt c n
   length-is = length-wire c refl n t (name-wire c refl 0 t refl refl)
@@ -89,12 +69,12 @@ module _ (c : Carrier) (b : List ℕ) (f : Fields) (t : asText c ≡ false) wher
   addresses-is = addresses-wire c refl n t length-is refl
 
   addresses-stand : (l : List ℕ) → b ≡ putOpening c f (putCounted w (f .addresses) l) → Stands (f .addresses) (addressesAt c n) b
-  addresses-stand l h = stands-at (f .addresses) b addresses-is (begins (f .addresses) l b (2 + v + w + n + w) (at-addresses l h))
+  addresses-stand l h = stands-at (f .addresses) b addresses-is (stands-begins (f .addresses) l b (2 + v + w + n + w) (at-addresses l h))
 
   -- what follows them: the parameters, or in carrier 3 their length
   after-addresses : (l : List ℕ) → b ≡ putOpening c f (putCounted w (f .addresses) l) → drop (addressesAt c n + m) b ≡ l
   after-addresses l h =
-      ap (λ (i : ℕ). drop (i + m) b) (sym addresses-is) ∙ onward (f .addresses) l b (2 + v + w + n + w) (at-addresses l h) m refl
+      ap (λ (i : ℕ). drop (i + m) b) (sym addresses-is) ∙ drop-onward (f .addresses) l b (2 + v + w + n + w) (at-addresses l h) m refl
 
 wire-stand : (c : Carrier) (b : List ℕ) (f : Fields) → formOf c ≡ Wire → b ≡ putOpening c f (putAfterName c f) → FitsNamed c f → FieldsStand c b f
 wire-stand c b f e h fits =
@@ -102,12 +82,12 @@ wire-stand c b f e h fits =
     let full : f .full ≡ true → b ≡ putOpening c f (putCounted (lengthWidth c) (f .addresses) (f .parameters)) = λ u.
     h ∙ ap (putOpening c f) (simp u) in
     record {
-      name = name-stands c b f t (putAfterName c f) h;
+      name = there-stands c b f (opening-there c b f t (putAfterName c f) h);
       address-length = λ u. length-said c b f t (f .parameters) (full u) (rw u at fits);
       addresses = λ u. addresses-stand c b f t (f .parameters) (full u);
       parameters = λ u.
           stands-at (f .parameters) b (parameters-wire c refl (length (f .name)) (length (f .addresses)) t refl refl (ap lifetimeIn e))
-          (begins (f .parameters) [] b (addressesAt c (length (f .name)) + length (f .addresses))
+          (stands-begins (f .parameters) [] b (addressesAt c (length (f .name)) + length (f .addresses))
           (after-addresses c b f t (f .parameters) (full u) ∙ sym (append-nil (f .parameters))));
     }
 
@@ -117,7 +97,7 @@ padded-stand b f rest h =
     let at : ℕ = addressesAt Router (length (f .name)) + length (f .addresses) in
     let full : f .full ≡ true → b ≡ putOpening Router f (putCounted 2 (f .addresses) q) = λ u. h .laid ∙ ap (putOpening Router f) (simp u) in
     record {
-      name = name-stands Router b f refl (putTail f rest) (h .laid);
+      name = there-stands Router b f (opening-there Router b f refl (putTail f rest) (h .laid));
       address-length = λ u.
           let room : (length (f .addresses) < 256 ^ 2) × (length (f .parameters) < 256 ^ 2) = rw u at (h .tail) in
           length-said Router b f refl q (full u) (room .0);
@@ -125,9 +105,9 @@ padded-stand b f rest h =
       parameters = λ u.
           let after : drop at b ≡ q = after-addresses Router b f refl q (full u) in
           let next : drop (at + 2) b ≡ f .parameters ++ rest =
-          onward (be 2 (length (f .parameters))) (f .parameters ++ rest) b at after 2 (length-be 2 (length (f .parameters))) in
+          drop-onward (be 2 (length (f .parameters))) (f .parameters ++ rest) b at after 2 (length-be 2 (length (f .parameters))) in
           stands-at (f .parameters) b (parameters-padded Router refl (length (f .name)) (length (f .addresses)) refl refl refl (λ z. omega arith))
-          (begins (f .parameters) rest b (at + 2) next);
+          (stands-begins (f .parameters) rest b (at + 2) next);
     }
 
 -- ---- carriers 4 and 5
@@ -139,22 +119,17 @@ whole-said m = by-address (λ w. m % w ≡ 0 → m / w < 256 → m / w % 256 * w
 text-stand : (c : Carrier) (b : List ℕ) (f : Fields) → formOf c ≡ Text → b ≡ putAttribute c f → FitsAttribute c f → FieldsStand c b f
 text-stand c b f e h fits =
     let t : asText c ≡ true = ap textIn e in
-    let one = text-width c t in
-    let named : List ℕ = f .name ++ f .parameters in
     let m : ℕ = length (f .addresses) in
     let n : ℕ = length (f .name) in
     let said : getD b 2 0 * addressWidth c ≡ m =
     ap (λ (l : List ℕ). getD l 2 0 * addressWidth c) h ∙ whole-said m c (fits .1) (fits .2) in
-    let front : drop 3 b ≡ be (lengthWidth c) n ++ (f .addresses ++ named) = ap (drop 3) h in
-    let at4 : drop 4 b ≡ f .addresses ++ named = onward (be (lengthWidth c) n) (f .addresses ++ named) b 3 front 1 (length-be (lengthWidth c) n ∙ one) in
-    let at-name : drop (4 + m) b ≡ named = onward (f .addresses) named b 4 at4 m refl in
-    let after : drop (4 + m + n) b ≡ f .parameters = onward (f .name) (f .parameters) b (4 + m) at-name n refl in
+    let after : drop (4 + m + n) b ≡ f .parameters = drop-onward (f .name) (f .parameters) b (4 + m) (attribute-name c b f t h) n refl in
     record {
-      name = stands-at (f .name) b (name-text c refl m t) (begins (f .name) (f .parameters) b (4 + m) at-name);
+      name = there-stands c b f (attribute-there c b f t h);
       address-length = λ _. said-text c b (length-text c refl n t) t said;
-      addresses = λ _. stands-at (f .addresses) b (addresses-text c refl n t) (begins (f .addresses) named b 4 at4);
+      addresses = λ _. stands-at (f .addresses) b (addresses-text c refl n t) (stands-begins (f .addresses) (f .name ++ f .parameters) b 4 (attribute-addresses c b f t h));
       parameters = λ _.
-          stands-at (f .parameters) b (parameters-text c refl n m t) (begins (f .parameters) [] b (4 + m + n) (after ∙ sym (append-nil (f .parameters))));
+          stands-at (f .parameters) b (parameters-text c refl n m t) (stands-begins (f .parameters) [] b (4 + m + n) (after ∙ sym (append-nil (f .parameters))));
     }
 
 -- ---- every carrier

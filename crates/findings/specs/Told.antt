@@ -1,16 +1,14 @@
 -- Words for the theorems: the number by which reading discards, the octets at a spot, and fields at their places. Assumes nothing: these are definitions.
-use mathlib.Core.Bool.{Bool, true, false, cond}
+use mathlib.Core.Bool.{true, false, cond}
 use mathlib.Core.Path.{_≡_}
 use mathlib.Core.List.{List}
 use Prim.Native.Nat.{ℕ, _+_, _*_, _≤_, _<_}
-use lib.ListN.{length, getD, take, drop}
+use lib.ListN.{length, getD, take}
+use Rattle.octets.specs.Lists.{Stands}
 use Rattle.octets.specs.Numbers.{numberAt}
 use Rattle.carriers.specs.declared.Carrier.{Carrier}
 use Rattle.carriers.specs.Carriers.{lengthWidth, addressWidth, asText}
-use Rattle.names.specs.Names.{IsName, FirstBad}
-use Rattle.texts.specs.Texts.{IsText}
-use Rattle.blocks.specs.Block.{Fields}
-use Rattle.blocks.specs.Places.{nameAt}
+use Rattle.blocks.specs.Block.{Fields, nameAt}
 use Rattle.blocks.specs.Parse.{isPadding}
 use Rattle.frames.specs.Step.{part}
 use Rattle.records.specs.Records.{Outcome, faulty, kept}
@@ -20,11 +18,11 @@ use Rattle.findings.specs.Spots.{Spot}
 
 -- the number of a body's fault, and of a block's (RULES T2): 0 where it brings records
 abbrev pub faultIn : Outcome → ℕ
-faultIn (faulty k) = k
+faultIn (faulty j) = j .fault
 faultIn (kept r) = 0
 
 abbrev pub blockFault : Yield → ℕ
-blockFault (discarded k) = k
+blockFault (discarded j) = j .fault
 blockFault (yields rs) = 0
 
 -- the octets at a spot, and a spot that lies in the area
@@ -40,10 +38,6 @@ pub record FirstUnpadded (rest : List ℕ) (k : ℕ) : Type 0 where
   pub padding : isPadding (take k rest) ≡ true
   pub ends : isPadding (take (k + 1) rest) ≡ false
 
--- octets that stand at a place of a body
-abbrev pub Stands : List ℕ → ℕ → List ℕ → Type 0
-Stands x at body = take (length x) (drop at body) ≡ x
-
 -- the octets of addresses that a number at a place says: an address length; in carriers 4 and 5 one octet, the number of addresses (RULES B1)
 abbrev pub addressesSaid : Carrier → ℕ → List ℕ → ℕ
 addressesSaid c at body = cond (asText c) (getD body at 0 * addressWidth c) (numberAt (lengthWidth c) at body)
@@ -54,8 +48,3 @@ pub record FieldsStand (c : Carrier) (body : List ℕ) (f : Fields) : Type 0 whe
   pub address-length : f .full ≡ true → addressesSaid c (addressLengthAt c (length (f .name))) body ≡ length (f .addresses)
   pub addresses : f .full ≡ true → Stands (f .addresses) (addressesAt c (length (f .name))) body
   pub parameters : f .full ≡ true → Stands (f .parameters) (parametersAt c (length (f .name)) (length (f .addresses))) body
-
--- the first bad place of a name, as text or in wire form (RULES N5)
-abbrev pub BadAt : Bool → List ℕ → ℕ → Type 0
-BadAt true name place = FirstBad IsText name place
-BadAt false name place = FirstBad IsName name place

@@ -11,9 +11,8 @@ use Rattle.numbers.specs.Limit as limit
 use Rattle.carriers.specs.declared.Carrier.{Carrier}
 use Rattle.carriers.specs.declared.Carrier.the-variants.{Dhcp4}
 use Rattle.carriers.specs.Carriers.{lengthWidth, lifetimeWidth, addressWidth, asText}
-use Rattle.blocks.specs.Block.{Fields}
+use Rattle.blocks.specs.Block.{Fields, nameAt}
 use Rattle.blocks.specs.Parse.{parse}
-use Rattle.blocks.specs.Places.{nameAt}
 use Rattle.judge.specs.declared.Side.the-variants.{Reading}
 use Rattle.judge.specs.declared.Judged.{Judged}
 use Rattle.judge.specs.Judge.{judgedOf}

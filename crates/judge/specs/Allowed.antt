@@ -4,14 +4,14 @@ use mathlib.Core.Path.{_≡_}
 use mathlib.Core.Logic.{_⊎_}
 use mathlib.Core.Bool.{Bool, true, false}
 use mathlib.Core.List.{List}
-use Prim.Native.Nat.{ℕ, _/_, _%_, _≤_, _<_}
+use Prim.Native.Nat.{ℕ, _+_, _/_, _%_, _≤_, _<_}
 use lib.ListN.{length}
 use Rattle.octets.specs.Lists.{All}
 use Rattle.numbers.specs.Fault as fault
 use Rattle.numbers.specs.Limit as limit
 use Rattle.carriers.specs.declared.Carrier.{Carrier}
 use Rattle.carriers.specs.Carriers.{addressWidth, asText}
-use Rattle.names.specs.Names.{IsName}
+use Rattle.names.specs.Names.{IsName, FirstBad}
 use Rattle.texts.specs.Texts.{IsText}
 use Rattle.addresses.specs.Addresses.{listOf}
 use Rattle.addresses.specs.Ranges.{Unusable}
@@ -100,3 +100,11 @@ FirstBroken side c f =
     Rule fault.priority (f .priority ≡ 0 → ⊥)
     (Rule fault.name (NameAllowed side c (f .name))
     (FormBroken (f .full) side c f))
+
+-- ---- where a name is wrong
+
+-- p is the place of fault k, where the name stands from `at` on: of 22 that of the name's first bad octet (RULES N5), and 0 of any other
+-- fault (RULES W11, T8)
+pub data PlaceOf (Acceptable : List ℕ → Type 0) (name : List ℕ) (at : ℕ) : (k p : ℕ) → Type 0 where
+  in-name : {i : ℕ} → FirstBad Acceptable name i → PlaceOf Acceptable name at fault.name (at + i)
+  nowhere : {k : ℕ} → (k ≡ fault.name → ⊥) → PlaceOf Acceptable name at k 0

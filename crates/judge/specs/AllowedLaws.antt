@@ -34,7 +34,8 @@ use Rattle.svcparams.specs.Exactly.{params-exactly, field-once}
 use Rattle.blocks.specs.Block.{Fields}
 use Rattle.judge.specs.declared.Side.{Side}
 use Rattle.judge.specs.declared.Side.the-variants.{Reading, Writing}
-use Rattle.judge.specs.Judge.{nameOf, refusedOf, tailFault, nameOnlyFault, judged, onName, judgedOf, faultOf}
+use Rattle.judge.specs.Place.{judged}
+use Rattle.judge.specs.Judge.{nameOf, refusedOf, tailFault, nameOnlyFault, onName, judgedOf, faultOf}
 use Rattle.judge.specs.Passed.{PassedTail, Passed}
 use Rattle.judge.specs.JudgeLaws.{carrier-width, fault-passed, passed-fault}
 use Rattle.judge.specs.Allowed.{NameBy, NameAllowed, Usable, TailAllowed, Allowed, Rule, Unbroken, ParametersBroken, TailBroken, FormBroken, FirstBroken}

@@ -1,5 +1,5 @@
 -- The first fault of a record's fields, 21 to 28 in that order (RULES T2); a name only skips 24 to 28, and in carriers 1 to 3 also 23
--- (RULES T4). Assumes nothing: these are definitions.
+-- (RULES T4). Of 22 also the place of the name's first bad octet (RULES N5). Assumes nothing: these are definitions.
 use mathlib.Core.Bool.{Bool, cond, not}
 use mathlib.Core.List.{List}
 use Prim.Native.Nat.{ℕ, _/_, _%_}
@@ -19,6 +19,7 @@ use Rattle.blocks.specs.Block.{Fields}
 use Rattle.judge.specs.declared.Side.{Side}
 use Rattle.judge.specs.declared.Side.the-variants.{Reading, Writing}
 use Rattle.judge.specs.declared.Judged.{Judged}
+use Rattle.judge.specs.Place.{judged}
 
 -- 22: the name, as the side has it: a sheet holds the wire form in every carrier
 abbrev pub nameOf : Side → Carrier → List ℕ → Name
@@ -44,20 +45,21 @@ tailFault side w addresses parameters =
 abbrev pub nameOnlyFault : Carrier → ℕ
 nameOnlyFault c = cond (asText c) fault.addresses 0
 
-abbrev pub judged : ℕ → ℕ → Judged
-judged fault place = record { fault = fault; place = place }
-
 abbrev pub onName : {A : Type 0} → Name → (ℕ → A) → A → A
 onName Good bad good = good
 onName (Bad place) bad good = bad place
 
--- 21, 22, and what follows by the form
+-- 21, 22 with its place in the name, and what follows by the form
 unfoldable pub judgedOf : Side → Carrier → ℕ → List ℕ → Bool → List ℕ → List ℕ → Judged
 judgedOf side c priority name full addresses parameters =
     cond (eqb priority 0) (judged fault.priority 0)
     (onName (nameOf side c name) (λ place. judged fault.name place)
     (judged (cond full (tailFault side (addressWidth c) addresses parameters) (nameOnlyFault c)) 0))
 
+-- the same of fields
+abbrev pub judgedBy : Side → Carrier → Fields → Judged
+judgedBy side c f = judgedOf side c (f .priority) (f .name) (f .full) (f .addresses) (f .parameters)
+
 -- the fault of fields, or 0
 abbrev pub faultOf : Side → Carrier → Fields → ℕ
-faultOf side c f = judgedOf side c (f .priority) (f .name) (f .full) (f .addresses) (f .parameters) .fault
+faultOf side c f = judgedBy side c f .fault

@@ -25,7 +25,8 @@ use Rattle.svcparams.specs.Params.{paramsFault}
 use Rattle.blocks.specs.Block.{Fields}
 use Rattle.judge.specs.declared.Side.{Side}
 use Rattle.judge.specs.declared.Side.the-variants.{Reading, Writing}
-use Rattle.judge.specs.Judge.{nameOf, refusedOf, tailFault, nameOnlyFault, judged, onName, judgedOf, faultOf}
+use Rattle.judge.specs.Place.{judged}
+use Rattle.judge.specs.Judge.{nameOf, refusedOf, tailFault, nameOnlyFault, onName, judgedOf, faultOf}
 use Rattle.judge.specs.Passed.{PassedTail, Passed}
 use Rattle.judge.specs.Outcomes.{tail-parameters, judged-full, judged-name-only}
 

@@ -1,3 +1,4 @@
+pub mod Place
 pub mod Judge
 pub mod Passed
 pub mod JudgeLaws
@@ -5,3 +6,4 @@ pub mod Outcomes
 pub mod Numbered
 pub mod Allowed
 pub mod AllowedLaws
+pub mod PlaceLaws

@@ -18,7 +18,8 @@ use Rattle.svcparams.specs.Params.{paramsFault}
 use Rattle.svcparams.specs.Exactly as params
 use Rattle.blocks.specs.Block.{Fields}
 use Rattle.judge.specs.declared.Side.{Side}
-use Rattle.judge.specs.Judge.{nameOf, refusedOf, tailFault, nameOnlyFault, judged, onName, judgedOf, faultOf}
+use Rattle.judge.specs.Place.{judged}
+use Rattle.judge.specs.Judge.{nameOf, refusedOf, tailFault, nameOnlyFault, onName, judgedOf, faultOf}
 use Rattle.judge.specs.Passed.{FaultNumber}
 
 within : (k : ℕ) → fault.priority ≤ k → k ≤ fault.value → FaultNumber k

@@ -17,7 +17,8 @@ use Rattle.addresses.specs.Addresses.{listOf, anyOf, noneOf}
 use Rattle.svcparams.specs.Params.{paramsFault}
 use Rattle.judge.specs.declared.Side.{Side}
 use Rattle.judge.specs.declared.Side.the-variants.{Reading, Writing}
-use Rattle.judge.specs.Judge.{nameOf, refusedOf, tailFault, nameOnlyFault, judged, judgedOf}
+use Rattle.judge.specs.Place.{judged}
+use Rattle.judge.specs.Judge.{nameOf, refusedOf, tailFault, nameOnlyFault, judgedOf}
 
 module _ (side : Side) (c : Carrier) (name : List ℕ) (r : Name) where
   pub name-written : side ≡ Writing → r ≡ nameCheck name → r ≡ nameOf side c name

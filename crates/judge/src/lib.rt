@@ -3,6 +3,8 @@
 // writing asks there whether one is to be dropped. Nothing here drops an address.
 ghost use mathlib.Core.Path.{_≡_};
 ghost use Rattle.addresses.specs.Addresses.{Width, listOf};
+ghost use Prim.Native.Nat.{_+_, _<_, _^_};
+ghost use Rattle.judge.specs.Place.{placeFrom};
 ghost use Rattle.judge.specs.Judge.{nameOf, refusedOf, tailFault, nameOnlyFault, judgedOf};
 use carriers::Carrier;
 use names::Name;
@@ -14,7 +16,8 @@ pub enum Side {
     Writing,
 }
 
-// The first fault, or 0; with fault 22 the place in the name of the first octet at which no acceptable name can continue, else 0.
+// The first fault, or 0; with fault 22 the place of the first octet of the name at which no acceptable name can continue, else 0. The judge counts
+// it from the name's first octet; what is told of a body, a block or a sheet, from where that begins (`place_from`).
 pub struct Judged {
     pub fault: usize,
     pub place: usize,
@@ -118,4 +121,15 @@ pub fn judge_fields(
             }
         }
     }
+}
+
+// The place of a fault, counted from `n` octets further back; only fault 22 has one.
+pub fn place_from(n: usize, fault: usize, place: usize) -> usize
+    requires { ⌜ n + place < 2 ^ 63 ⌝ }
+    ensures { λ r. ⌜ r ≡ placeFrom n fault place ⌝ }
+{
+    if fault == Fault::NAME {
+        return n + place;
+    }
+    0
 }

@@ -20,7 +20,7 @@ reasonPart r = cond (eqb r 0) [] (ascii "; " ++ wordsIn reasons r)
 abbrev pub keyPart : ℕ → List ℕ
 keyPart k = cond (ltb k none) (ascii "; parameter " ++ keyOf k) []
 
--- why a block is discarded, to the end of the line
+-- why a block is discarded or a sheet refused, to the end of the line
 unfoldable pub causeOf : ℕ → ℕ → ℕ → List ℕ
 causeOf fault reason key = wordedOf fault ++ (reasonPart reason ++ (keyPart key ++ ascii "\n"))
 

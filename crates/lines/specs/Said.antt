@@ -5,7 +5,10 @@ use Prim.Native.Nat.{ℕ}
 use Rattle.chars.specs.Ascii.{ascii, decimalOf}
 use Rattle.words.specs.Words.{Worded, worded, wordsIn}
 use Rattle.inputs.specs.Why as why
+use Rattle.numbers.specs.Fault as fault
+use Rattle.reasons.specs.Params.{none}
 use Rattle.lines.specs.Messages.{countOf, wordedOf, aboutOf}
+use Rattle.lines.specs.Listed.{causeOf}
 
 -- ---- no octets
 
@@ -44,6 +47,11 @@ hints =
 -- the input is refused by a number
 unfoldable pub refusedOf : List ℕ → ℕ → ℕ → List ℕ
 refusedOf name number hint = aboutOf name ++ (ascii ": refused, " ++ (wordedOf number ++ (wordsIn hints hint ++ ascii "\n")))
+
+-- a sheet is refused for a name, at an octet of it, and why the name is bad (RULES T8)
+unfoldable pub refusedAtOf : List ℕ → ℕ → ℕ → List ℕ
+refusedAtOf name octet reason =
+    aboutOf name ++ (countOf (ascii ": octet ") octet ++ (ascii ": refused, " ++ causeOf fault.name reason none))
 
 -- what was looked for, by the carrier
 unfoldable pub missing : List Worded

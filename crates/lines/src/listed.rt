@@ -46,8 +46,8 @@ fn put_key_part(out: &mut [u8], at: usize, key: usize) -> usize
     values::put_key(out, from, key)
 }
 
-// Writes why a block is discarded, to the end of the line.
-fn put_cause(out: &mut [u8], at: usize, fault: usize, reason: usize, key: usize) -> usize
+// Writes why a block is discarded or a sheet refused, to the end of the line.
+pub fn put_cause(out: &mut [u8], at: usize, fault: usize, reason: usize, key: usize) -> usize
     ensures { λ r. ⌜ Counts r (now (out .exit)) ⌝ }
     ensures { λ r. ⌜ Puts at (causeOf fault reason key) (now (out .entry)) r (now (out .exit)) ⌝ }
 {

@@ -2,12 +2,15 @@
 ghost use Rattle.io.specs.Counts.{Counts};
 ghost use Rattle.chars.specs.Puts.{Puts};
 ghost use Rattle.words.specs.Words.{wordsIn};
-ghost use Rattle.lines.specs.Said.{whys, unreadOf, longOf, hints, refusedOf, missing, nothingOf, lessOf, keptOf};
+ghost use Rattle.lines.specs.Said.{whys, unreadOf, longOf, hints, refusedOf, refusedAtOf, missing, nothingOf, lessOf, keptOf};
+use crate::listed::put_cause;
 use crate::put_about;
 use crate::put_count;
 use crate::put_worded;
 use chars::put_all;
 use chars::put_number;
+use numbers::Fault;
+use reasons::Param;
 use words::put_found;
 
 // ---- no octets
@@ -80,6 +83,17 @@ pub fn put_refused(out: &mut [u8], name: &[u8], number: usize, hint: usize) -> u
     let worded = put_worded(out, from, number);
     let end = put_hint(out, worded, hint);
     put_all(out, end, b"\n")
+}
+
+// Writes that a sheet is refused for a name: at which octet, and why the name is bad, where that is known.
+pub fn put_refused_at(out: &mut [u8], name: &[u8], octet: usize, reason: usize) -> usize
+    ensures { λ r. ⌜ Counts r (now (out .exit)) ⌝ }
+    ensures { λ r. ⌜ Puts 0 (refusedAtOf (now (name .entry)) octet reason) (now (out .entry)) r (now (out .exit)) ⌝ }
+{
+    let next = put_about(out, name);
+    let placed = put_count(out, next, b": octet ", octet);
+    let from = put_all(out, placed, b": refused, ");
+    put_cause(out, from, Fault::NAME, reason, Param::NONE)
 }
 
 // Writes what was looked for, by the carrier.

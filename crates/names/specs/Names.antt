@@ -1,5 +1,5 @@
 -- What an acceptable name is, said of the whole list: the label rule (RULES N2), the wire form and its limits (RULES N1); and the place of
--- the first octet at which no acceptable name can continue (RULES N5, Qg). Assumes nothing: these are definitions.
+-- the first octet at which no acceptable name can continue (RULES N5). Assumes nothing: these are definitions.
 use mathlib.Core.Path.{_≡_}
 use mathlib.Core.Logic.{_⊎_}
 use mathlib.Core.Bool.{Bool, true, _||_}

@@ -1,15 +1,15 @@
 -- The laws of `All` and `flat`, of parts of a list, and of walks that first skip some elements. Assumes nothing.
-use mathlib.Core.Path.{_≡_, refl, sym, ap, _∙_}
+use mathlib.Core.Path.{_≡_, refl, sym, ap, _∙_, subst}
 use mathlib.Core.List.{List, [], _∷_, _++_, map, map-append, append-assoc}
-use Prim.Native.Nat.{ℕ, zero, suc, _*_, _-_, _≤_, _<_}
+use Prim.Native.Nat.{ℕ, zero, suc, _+_, _*_, _-_, _≤_, _<_}
 use native.Mathlib.Numerals.{unary-clauses}
 use native.Mathlib.Omega.{arith}
 use borrow.Author.Tests.{ltb-true, ltb-false}
 use lib.Dec.{ltb}
 use lib.ListN.{length, getD, take, drop, length-append, length-drop, drop-of-length-le}
-use lib.Seq.{take-all, take-nil, take-at, drop-at}
+use lib.Seq.{take-all, take-nil, take-append-le, drop-append-le, drop-append-add, drop-drop, take-at, drop-at}
 use Rattle.octets.specs.Cases.{by-test}
-use Rattle.octets.specs.Lists.{All, flat}
+use Rattle.octets.specs.Lists.{All, flat, Stands}
 
 module _ {A : Type 0} where
   -- a part that goes to the end
@@ -99,3 +99,25 @@ module _ {A R : Type 0} (F : ℕ → List A → R) (step : (k : ℕ) (x : A) (xs
       by-test (ltb (length l) k) (λ _. F k l ≡ F 0 (drop k l))
       (λ t. let h : length l < k = ltb-true _ _ t in skip-past end k l h ∙ ap (F 0) (sym (drop-of-length-le l {i = k} (omega arith))))
       (λ t. skip-within k l (ltb-false _ _ t))
+
+-- ---- what stands in a list
+
+-- x stands where what is left begins with it, and what follows it stands further on by its octets
+module _ (x l b : List ℕ) (i : ℕ) (e : drop i b ≡ x ++ l) where
+  pub stands-begins : Stands x i b
+  stands-begins = ap (take (length x)) e ∙ take-at x l (length x) refl
+
+  pub drop-onward : (n : ℕ) → length x ≡ n → drop (i + n) b ≡ l
+  drop-onward n h = sym (drop-drop n i b) ∙ ap (drop n) e ∙ drop-at x l n h
+
+pub stands-at : (x b : List ℕ) {i j : ℕ} → i ≡ j → Stands x i b → Stands x j b
+stands-at x b e h = subst (λ (k : ℕ). Stands x k b) e h
+
+-- what stands in a part stands in the whole, further on by what is before the part
+pub stands-within : (front x part rest : List ℕ) (i : ℕ) → i + length x ≤ length part → Stands x i part → Stands x (length front + i) (front ++ (part ++ rest))
+stands-within front x part rest i h s =
+    let less : i ≤ length part = omega arith in
+    let past : drop (length front + i) (front ++ (part ++ rest)) ≡ drop i part ++ rest =
+    drop-append-add front (part ++ rest) i ∙ drop-append-le i part rest less in
+    let room : length x ≤ length (drop i part) = rw (length-drop i part) (omega arith) in
+    ap (take (length x)) past ∙ take-append-le (length x) (drop i part) rest room ∙ s

@@ -10,12 +10,11 @@ use Rattle.carriers.specs.declared.Carrier.{Carrier}
 use Rattle.blocks.specs.Block.{Fields}
 use Rattle.taking.specs.Sheet.{IsSheet}
 use Rattle.written.specs.Writing.{writeOf}
-use Rattle.written.specs.Octets.{written, numberIn}
 use Rattle.written.specs.Accepted.{Accepting}
 use Rattle.written.specs.Defined.{Defined}
 use Rattle.written.specs.DefinedLaws.{written-defined, defined-sheet}
-use Rattle.writing.specs.declared.Writing.{Writing}
-use Rattle.writing.specs.Writes.{Writes}
+use Rattle.answers.specs.declared.Result.{Result}
+use Rattle.answers.specs.Answers.{written, numberIn, Writes}
 use Rattle.roundtrip.specs.RoundTripLaws.{call-wrote}
 use Rattle.prefixes.specs.Prefix.{Leading, JoinedOctets}
 use Rattle.prefixes.specs.PrefixLaws.{prefix-exactly}
@@ -36,7 +35,7 @@ module _ (c : Carrier) (s t a b x y : List ℕ) (rs qs : List Fields) (m n : ℕ
       leading-defined (inl (ap numberIn u)) (inl (ap numberIn v)) (written-defined s octets m u) (written-defined t octets′ n v)
 
 -- two calls of `write` that returned 0, each with a buffer of its own
-pub calls-leading : (c : Carrier) (s t x y : List ℕ) (rs qs : List Fields) (out out₁ other other₁ : List ℕ) (w v : Writing)
+pub calls-leading : (c : Carrier) (s t x y : List ℕ) (rs qs : List Fields) (out out₁ other other₁ : List ℕ) (w v : Result)
     → Bytes s → Bytes t → IsSheet s c rs → IsSheet t c qs
     → Writes (writeOf s (length out)) out w out₁ → w .number ≡ 0
     → Writes (writeOf t (length other)) other v other₁ → v .number ≡ 0

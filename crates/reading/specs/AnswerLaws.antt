@@ -30,12 +30,11 @@ use Rattle.frames.specs.Step.{stepAt}
 use Rattle.frames.specs.WalkLaws.{walked-end, walked-fault}
 use Rattle.blocks.specs.Block.{Fields}
 use Rattle.records.specs.Records.{recordOf}
-use Rattle.records.specs.Yielded.{outcomeOf}
 use Rattle.sheets.specs.Sheets.{frontSize, sheetOf}
 use Rattle.sheets.specs.SheetsLaws.{length-sheet}
 use Rattle.reading.specs.declared.Reading.{Reading}
-use Rattle.reading.specs.Reading.{joinedYield, yieldOf, inOrder, readYields, readBlocks, readFramed, readArea, readChosen, readOf}
-use Rattle.reading.specs.Result.{Yield, single, arrivals, Done, Answer, refuse, done, told, left, Reads}
+use Rattle.reading.specs.Reading.{joinedYield, alone, yieldOf, inOrder, readYields, readBlocks, readFramed, readArea, readChosen, readOf}
+use Rattle.reading.specs.Result.{Yield, arrivals, Done, Answer, refuse, done, told, left, Reads}
 use Rattle.reading.specs.Tally.{recordsAt, Tally, Shows, answerOf}
 use Rattle.reading.specs.ListLaws.{sort-laid}
 use Rattle.reading.specs.Walks.{Tallying}
@@ -61,7 +60,7 @@ module _ (c : Carrier) (source : List ℕ) (room : ℕ) where
           ∙ length-sheet c rs
           ∙ ap (λ (n : ℕ). frontSize + n) (sym (sort-laid (recordOf c) (λ (f : Fields). f .priority) rs))
           ∙ sym (length-sheet c (inOrder rs)) in
-          rw (more, e, l .records, size, s .found, s .discarded, s .fault)
+          rw (more, e, l .records, size, s .found, s .discarded, s .first)
 
 -- ---- carriers 2 to 5
 
@@ -75,7 +74,7 @@ module _ (c : Carrier) (area : List ℕ) (room : ℕ) {at : ℕ} {t : Tally} (g 
       ∙ sym (answer-yields c area room (shown j))
     where
       shown : isJoined c ≡ false → Shows c area (map (yieldOf c) (g .bodies)) t
-      shown j = subst⁻¹ (λ (b : Bool). Shows c area (map (λ l. cond b (joinedYield l) (single (outcomeOf c l))) (g .bodies)) t) j (g .shows)
+      shown j = subst⁻¹ (λ (b : Bool). Shows c area (map (λ l. cond b (joinedYield l) (alone c l)) (g .bodies)) t) j (g .shows)
 
   -- where the walk cannot go on, the area cannot be framed
   pub answer-fault : stepAt c area at ≡ Step.Fault → readFramed c (frame c area) room ≡ refuse refusal.framing
@@ -131,7 +130,8 @@ module _ (c : Carrier) (source : List ℕ) (t : Tally) (room : ℕ) where
         sheet = sheetOf c (inOrder (recordsAt c source (t .held .slots)));
         found = t .found;
         discarded = t .discarded;
-        fault = t .fault;
+        fault = t .first .fault;
+        place = t .first .place;
       })
   unfolding answerOf
   answer-done m h = rw (m, le-ltb room (t .held .size) h)
@@ -170,11 +170,11 @@ reads-refused out e n = reads-as e (record { numbers = n; leaves = refl })
 
 -- a sheet at the front of the buffer
 pub reads-done : {a : Answer} {d : Done} {n : ℕ} {out out′ : List ℕ} → a ≡ done d → Wrote 0 (d .sheet) out n out′
-    → Reads a out (record { number = 0; length = n; found = d .found; discarded = d .discarded; fault = d .fault }) out′
+    → Reads a out (record { number = 0; length = n; found = d .found; discarded = d .discarded; fault = d .fault; place = d .place }) out′
 reads-done {a} {d} e w =
     reads-as e
     (record {
-      numbers = ap (λ (n : ℕ). record { number = 0; length = n; found = d .found; discarded = d .discarded; fault = d .fault }) (w .next ∙ zero-add (length (d .sheet)));
+      numbers = ap (λ (n : ℕ). record { number = 0; length = n; found = d .found; discarded = d .discarded; fault = d .fault; place = d .place }) (w .next ∙ zero-add (length (d .sheet)));
       leaves = w .laid;
     })
 

@@ -1,4 +1,4 @@
--- Reading (RULES W9, W10, T1): what an area yields under a carrier, the answer of the call, and the sheet it writes.
+-- Reading (RULES W9 to W11, T1): what an area yields under a carrier, the answer of the call, and the sheet it writes.
 -- Assumes nothing: these are definitions.
 use mathlib.Core.Bool.{cond}
 use mathlib.Core.List.{List, [], _∷_, map}
@@ -13,14 +13,15 @@ use Rattle.carriers.specs.declared.Carrier.{Carrier}
 use Rattle.carriers.specs.declared.Carrier.the-variants.{Dhcp4}
 use Rattle.carriers.specs.declared.Chosen.{Chosen}
 use Rattle.carriers.specs.declared.Chosen.the-variants.{Known, Unknown}
-use Rattle.carriers.specs.Carriers.{chosenOf, isJoined}
+use Rattle.carriers.specs.Carriers.{chosenOf, isJoined, headerOf}
 use Rattle.carriers.specs.Told.{readNumber}
 use Rattle.frames.specs.Frame.{Framed, framed, framedNumber, frame}
 use Rattle.frames.specs.Area.{blocksOf}
 use Rattle.frames.specs.Frame as area
 use Rattle.blocks.specs.Block.{Fields}
 use Rattle.order.specs.Order.{stableSort}
-use Rattle.records.specs.Records.{Outcome, faulty, kept}
+use Rattle.judge.specs.Place.{judged}
+use Rattle.records.specs.Records.{Outcome, faulty, kept, further}
 use Rattle.records.specs.Yielded.{outcomeOf}
 use Rattle.sheets.specs.Sheets.{sheetOf}
 use Rattle.reading.specs.Result.{Answer, Done, Yield, arrivals, discarded, discardedIn, done, firstFault, refuse, single, yields}
@@ -29,30 +30,35 @@ use Rattle.reading.specs.Result.{Answer, Done, Yield, arrivals, discarde
 
 -- an instance's outcome in front of what the later instances yield: the first instance with a fault gives the block's
 abbrev pub ahead : Outcome → Yield → Yield
-ahead (faulty k) y = discarded k
-ahead (kept r) (discarded k) = discarded k
+ahead (faulty j) y = discarded j
+ahead (kept r) (discarded j) = discarded j
 ahead (kept r) (yields rs) = yields (r ∷ rs)
 
--- `l` begins with an instance: a 16-bit length, and as many octets; `go k` is what the octets yield that follow the first of `l` and k more
-abbrev pub instance : List ℕ → (ℕ → Yield) → Yield
-instance l go =
-    cond (ltb (length l) 2) (discarded fault.field)
-    (cond (ltb (length l - 2) (at16 l 0)) (discarded fault.field)
-    (ahead (outcomeOf Dhcp4 (take (at16 l 0) (drop 2 l))) (go (1 + at16 l 0))))
+-- `l`, from index `at` of the joined data on, begins with an instance: a 16-bit length, and as many octets; `go k` is what the octets yield that
+-- follow the first of `l` and k more
+abbrev pub instance : ℕ → List ℕ → (ℕ → Yield) → Yield
+instance at l go =
+    cond (ltb (length l) 2) (discarded (judged fault.field 0))
+    (cond (ltb (length l - 2) (at16 l 0)) (discarded (judged fault.field 0))
+    (ahead (further (at + 2) (outcomeOf Dhcp4 (take (at16 l 0) (drop 2 l)))) (go (1 + at16 l 0))))
 
--- the instances of joined data, with the first k octets still to be skipped; where the octets end k is 0, since `instance` has seen that
--- those of the instance before are there
-unfoldable pub instancesFrom : ℕ → List ℕ → Yield
-instancesFrom k [] = yields []
-instancesFrom zero (x ∷ xs) = instance (x ∷ xs) (λ k. instancesFrom k xs)
-instancesFrom (suc k) (x ∷ xs) = instancesFrom k xs
+-- the instances of joined data from index `at` on, with the first k octets still to be skipped; where the octets end k is 0, since `instance`
+-- has seen that those of the instance before are there
+unfoldable pub instancesFrom : ℕ → ℕ → List ℕ → Yield
+instancesFrom k at [] = yields []
+instancesFrom zero at (x ∷ xs) = instance at (x ∷ xs) (λ k. instancesFrom k (at + 1) xs)
+instancesFrom (suc k) at (x ∷ xs) = instancesFrom k (at + 1) xs
 
--- in carrier 1 a block is one or more instances, else one body
+-- in carrier 1 a block is one or more instances, and places are counted in the joined data (RULES W11)
 unfoldable pub joinedYield : List ℕ → Yield
-joinedYield b = cond (eqb (length b) 0) (discarded fault.field) (instancesFrom 0 b)
+joinedYield b = cond (eqb (length b) 0) (discarded (judged fault.field 0)) (instancesFrom 0 0 b)
+
+-- else it is one body, and places are counted from the first octet of its header (RULES W11)
+abbrev pub alone : Carrier → List ℕ → Yield
+alone c b = single (further (headerOf c) (outcomeOf c b))
 
 abbrev pub yieldOf : Carrier → List ℕ → Yield
-yieldOf c b = cond (isJoined c) (joinedYield b) (single (outcomeOf c b))
+yieldOf c b = cond (isJoined c) (joinedYield b) (alone c b)
 
 -- ---- what blocks yield together
 
@@ -77,7 +83,8 @@ readYields c ys room =
       sheet = sheetOf c (inOrder (arrivals ys));
       found = length ys;
       discarded = discardedIn ys;
-      fault = firstFault ys;
+      fault = firstFault ys .fault;
+      place = firstFault ys .place;
     })
 
 abbrev pub readBlocks : Carrier → List (List ℕ) → ℕ → Answer
@@ -100,5 +107,3 @@ readChosen (Known c) s room = readArea c s room
 -- reading under carrier number n, with an output buffer of `room` octets
 unfoldable pub readOf : ℕ → List ℕ → ℕ → Answer
 readOf n s room = readChosen (chosenOf n) s room
-
--- ---- what the call gives back, by the answer

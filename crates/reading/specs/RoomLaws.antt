@@ -41,7 +41,8 @@ module _ {d : Done} where
         sheet = sheetOf c (inOrder (arrivals ys));
         found = length ys;
         discarded = discardedIn ys;
-        fault = firstFault ys;
+        fault = firstFault ys .fault;
+        place = firstFault ys .place;
       }) e
 
   framed-so : (c : Carrier) (f : Framed) (a b : ℕ) → readFramed c f a ≡ done d → readFramed c f b ≡ inRoom d b

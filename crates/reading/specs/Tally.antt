@@ -13,6 +13,8 @@ use Rattle.numbers.specs.Limit as limit
 use Rattle.carriers.specs.declared.Carrier.{Carrier}
 use Rattle.frames.specs.Step.{part}
 use Rattle.blocks.specs.Block.{Fields}
+use Rattle.judge.specs.declared.Judged.{Judged}
+use Rattle.judge.specs.Place.{judged}
 use Rattle.order.specs.declared.Slot.{Slot}
 use Rattle.order.specs.declared.Slots.{Slots}
 use Rattle.octets.specs.Lists.{All}
@@ -24,7 +26,7 @@ use Rattle.records.specs.Examined.{examinedOf, Clean, Kept}
 use Rattle.sheets.specs.Sheets.{frontSize, sheetOf}
 use Rattle.reading.specs.declared.Counts.{Counts}
 use Rattle.reading.specs.Reading.{inOrder}
-use Rattle.reading.specs.Result.{Yield, single, arrivals, discardedIn, firstFault, Answer, refuse, done}
+use Rattle.reading.specs.Result.{Yield, arrivals, discardedIn, firstFault, Answer, refuse, done}
 
 -- ---- buffers
 
@@ -43,7 +45,7 @@ bodyAt source s = take (s .length) (drop (s .place) source)
 
 -- the record of an outcome; a fault has none, and is read as fields of nothing
 abbrev pub recordIn : Outcome → Fields
-recordIn (faulty k) = record { priority = 0; lifetime = 0; full = false; name = []; addresses = []; parameters = [] }
+recordIn (faulty j) = record { priority = 0; lifetime = 0; full = false; name = []; addresses = []; parameters = [] }
 recordIn (kept r) = r
 
 abbrev pub recordAt : Carrier → List ℕ → Slot → Fields
@@ -87,6 +89,7 @@ pub record Seen (c : Carrier) (source : List ℕ) (start end : ℕ) (e : Examine
   pub high : end ≤ length source
   pub tells : e ≡ examinedOf c (outcomeOf c (part start end source)) (e .clean)
   pub small : e .size ≤ limit.recordSize
+  pub near : e .place ≤ end - start
   pub clean : e .clean ≡ true → Clean c (part start end source)
 
 -- there was room in h, the slots s are those of h and one more, of the body that e tells of, and `clean` claims no more of them than is known
@@ -111,30 +114,26 @@ pub record Holds (c : Carrier) (source : List ℕ) (rs : List Fields) (h : Held)
 
 -- ---- tallies
 
--- what is held of the records, the blocks found, the blocks discarded and the first discarded block's fault
+-- what is held of the records, the blocks found, the blocks discarded and the first discarded block's fault with its place
 pub record Tally : Type 0 where
   pub held : Held
   pub found : ℕ
   pub discarded : ℕ
-  pub fault : ℕ
+  pub first : Judged
 
-abbrev pub tallyOf : Held → ℕ → ℕ → ℕ → Tally
-tallyOf held found discarded fault = record { held = held; found = found; discarded = discarded; fault = fault }
+abbrev pub tallyOf : Held → ℕ → ℕ → Judged → Tally
+tallyOf held found discarded first = record { held = held; found = found; discarded = discarded; first = first }
 
 -- the tally that the code hands on
 abbrev pub tallyIn : Slots → Counts → Tally
-tallyIn slots k = tallyOf (heldOf slots (k .size) (k .clean) (k .more)) (k .found) (k .discarded) (k .fault)
+tallyIn slots k = tallyOf (heldOf slots (k .size) (k .clean) (k .more)) (k .found) (k .discarded) (judged (k .fault) (k .place))
 
 -- t tells of blocks that yield ys
 pub record Shows (c : Carrier) (source : List ℕ) (ys : List Yield) (t : Tally) : Type 0 where
   pub holds : Holds c source (arrivals ys) (t .held)
   pub found : t .found ≡ length ys
   pub discarded : t .discarded ≡ discardedIn ys
-  pub fault : t .fault ≡ firstFault ys
-
--- what a block of one body yields (carriers 2 to 5)
-abbrev pub alone : Carrier → List ℕ → Yield
-alone c b = single (outcomeOf c b)
+  pub first : t .first ≡ firstFault ys
 
 -- one more block can be tallied
 pub record Open (t : Tally) : Type 0 where
@@ -165,5 +164,6 @@ answerOf c source t room =
       sheet = sheetOf c (inOrder (recordsAt c source (t .held .slots)));
       found = t .found;
       discarded = t .discarded;
-      fault = t .fault;
+      fault = t .first .fault;
+      place = t .first .place;
     })))

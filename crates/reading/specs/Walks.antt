@@ -13,9 +13,9 @@ use Rattle.blocks.specs.Block.{Fields}
 use Rattle.order.specs.declared.Slot.{Slot}
 use Rattle.records.specs.Yielded.{outcomeOf}
 use Rattle.records.specs.Examined.{octetsIn}
-use Rattle.reading.specs.Reading.{instancesFrom, joinedYield}
+use Rattle.reading.specs.Reading.{instancesFrom, joinedYield, alone}
 use Rattle.reading.specs.Result.{Yield, discarded, yields}
-use Rattle.reading.specs.Tally.{bodyAt, Held, Holds, Tally, Shows, alone}
+use Rattle.reading.specs.Tally.{bodyAt, Held, Holds, Tally, Shows}
 
 -- ---- the blocks of an area
 
@@ -30,14 +30,14 @@ pub record Tallying (c : Carrier) (area : List ℕ) (at : ℕ) (t : Tally) : Typ
 
 -- records in front of what later instances yield
 abbrev pub before : List Fields → Yield → Yield
-before rs (discarded k) = discarded k
+before rs (discarded j) = discarded j
 before rs (yields qs) = yields (rs ++ qs)
 
 -- the records of the instances before an index
 pub record Passed (joined : List ℕ) (at : ℕ) (h : Held) : Type 0 where
   pub records : List Fields
   pub within : at ≤ length joined
-  pub yields-on : joinedYield joined ≡ before records (instancesFrom 0 (drop at joined))
+  pub yields-on : joinedYield joined ≡ before records (instancesFrom 0 at (drop at joined))
   pub holds : Holds Dhcp4 joined records h
 
 -- ---- the slots of a sheet

@@ -1,10 +1,11 @@
 -- What one block more adds to what blocks yield together. Assumes nothing.
 use mathlib.Core.Path.{_≡_, refl, sym, ap, _∙_}
 use mathlib.Core.List.{List, [], _∷_, _++_, append-assoc, append-nil}
-use Prim.Native.Nat.{ℕ, _+_, _≤_}
+use Prim.Native.Nat.{_+_, _≤_}
 use native.Mathlib.Omega.{arith}
 use lib.ListN.{length}
 use Rattle.blocks.specs.Block.{Fields}
+use Rattle.judge.specs.declared.Judged.{Judged}
 use Rattle.reading.specs.Result.{Yield, discarded, yields, recordsIn, arrivals, discards, discardedIn, orFault, firstFault}
 
 pub arrivals-more : (ys : List Yield) (y : Yield) → arrivals (ys ++ (y ∷ [])) ≡ arrivals ys ++ recordsIn y
@@ -16,7 +17,7 @@ discarded-more [] y = omega arith
 discarded-more (x ∷ ys) y = omega (arith, discarded-more ys y)
 
 discards-one : (y : Yield) → discards y ≤ 1
-discards-one (discarded k) = omega arith
+discards-one (discarded j) = omega arith
 discards-one (yields rs) = omega arith
 
 -- no more blocks are discarded than found
@@ -30,10 +31,10 @@ first-yields [] rs = refl
 first-yields (y ∷ ys) rs = ap (orFault y) (first-yields ys rs)
 
 -- the first discarded block gives it
-pub first-discarded : (ys : List Yield) (k : ℕ) → discardedIn ys ≡ 0 → firstFault (ys ++ (discarded k ∷ [])) ≡ k
-first-discarded [] k h = refl
-first-discarded (discarded j ∷ ys) k h = absurd (omega arith)
-first-discarded (yields rs ∷ ys) k h = first-discarded ys k (omega arith)
+pub first-discarded : (ys : List Yield) (j : Judged) → discardedIn ys ≡ 0 → firstFault (ys ++ (discarded j ∷ [])) ≡ j
+first-discarded [] j h = refl
+first-discarded (discarded i ∷ ys) j h = absurd (omega arith)
+first-discarded (yields rs ∷ ys) j h = first-discarded ys j (omega arith)
 
 -- and no later one changes it
 pub first-stays : (ys : List Yield) (y : Yield) → (discardedIn ys ≡ 0 → ⊥) → firstFault (ys ++ (y ∷ [])) ≡ firstFault ys

@@ -12,6 +12,7 @@ ghost use Rattle.numbers.specs.Limit as limit;
 ghost use Rattle.carriers.specs.declared.Carrier.the-variants.{Dhcp4};
 ghost use Rattle.frames.specs.Frame.{frame};
 ghost use Rattle.frames.specs.Gather.{Several};
+ghost use Rattle.judge.specs.Place.{judged};
 ghost use Rattle.sheets.specs.Sheets.{sheetOf};
 ghost use Rattle.reading.specs.Reading.{joinedYield, inOrder, readBlocks, readFramed, readOf};
 ghost use Rattle.reading.specs.Result.{discarded, refuse, told, Reads};
@@ -34,8 +35,8 @@ const USUAL: usize = 4096;
 
 const HALF: usize = 20480;
 
-// What a reading gives back: 0 and the sheet's length, the blocks found, the blocks discarded and the first discarded block's
-// fault; or a refusal's number and zeros.
+// What a reading gives back: 0 and the sheet's length, the blocks found, the blocks discarded, the first discarded block's fault and, of
+// 22, the place in that block at which its name is wrong, else 0; or a refusal's number and zeros.
 #[repr(C)]
 pub struct Reading {
     pub number: usize,
@@ -43,12 +44,15 @@ pub struct Reading {
     pub found: usize,
     pub discarded: usize,
     pub fault: usize,
+    pub place: usize,
 }
 
-// What is counted of the blocks met: the octets of a sheet of the kept records; how many blocks were found; whether every address of the
-// records is known to stay; how many blocks were discarded; whether more than 16 records were kept; the first discarded block's fault.
-// (Fields that are neighbours in `Reading` are kept apart here: LLVM would load two by one instruction, which waits for their separate stores.)
+// What is counted of the blocks met: the place of the first discarded block's fault; the octets of a sheet of the kept records; how many
+// blocks were found; whether every address of the records is known to stay; how many blocks were discarded; whether more than 16 records were
+// kept; the first discarded block's fault. (Fields that are neighbours in `Reading` are kept apart here: LLVM would load two by one
+// instruction, which waits for their separate stores.)
 struct Counts {
+    place: usize,
     size: usize,
     found: usize,
     clean: bool,
@@ -66,6 +70,7 @@ fn refused(number: usize) -> Reading
         found: 0,
         discarded: 0,
         fault: 0,
+        place: 0,
     }
 }
 
@@ -91,12 +96,12 @@ fn both(all: bool, one: bool) -> bool
     false
 }
 
-// The first discarded block's fault, with one more block discarded: `first` is that of those before it.
-fn first_fault(discarded: usize, first: usize, fault: usize) -> usize
-    ensures { λ r. ⌜ (discarded ≡ 0 → r ≡ fault) × ((discarded ≡ 0 → ⊥) → r ≡ first) ⌝ }
+// The first discarded block's fault, or its place, with one more block discarded: `first` is that of those before it, `this` the block's own.
+fn first_of(discarded: usize, first: usize, this: usize) -> usize
+    ensures { λ r. ⌜ (discarded ≡ 0 → r ≡ this) × ((discarded ≡ 0 → ⊥) → r ≡ first) ⌝ }
 {
     if discarded == 0 {
-        return fault;
+        return this;
     }
     first
 }
@@ -140,6 +145,7 @@ fn settle(out: &mut [u8], c: Carrier, source: &[u8], slots: Slots, counts: Count
         found: counts.found,
         discarded: counts.discarded,
         fault: counts.fault,
+        place: counts.place,
     }
 }
 
@@ -155,6 +161,7 @@ fn read_blocks(c: Carrier, area: &[u8], out: &mut [u8]) -> Reading
     let mut found: usize = 0;
     let mut bad: usize = 0;
     let mut fault: usize = 0;
+    let mut place: usize = 0;
     let mut at: usize = 0;
     loop {
         match frames::next_block(c, area, at) {
@@ -163,7 +170,9 @@ fn read_blocks(c: Carrier, area: &[u8], out: &mut [u8]) -> Reading
                 found += 1;
                 at = end;
                 if e.fault != 0 {
-                    fault = first_fault(bad, fault, e.fault);
+                    let there = judge::place_from(c.header_size(), e.fault, e.place);
+                    fault = first_of(bad, fault, e.fault);
+                    place = first_of(bad, place, there);
                     bad += 1;
                 } else if slots.count < Limit::RECORDS {
                     let n = slots.count;
@@ -178,6 +187,7 @@ fn read_blocks(c: Carrier, area: &[u8], out: &mut [u8]) -> Reading
             Step::Skipped { end: past } => at = frames::skip_foreign(c, area, past),
             Step::End => {
                 let counts = Counts {
+                    place,
                     size,
                     clean,
                     more,
@@ -193,12 +203,13 @@ fn read_blocks(c: Carrier, area: &[u8], out: &mut [u8]) -> Reading
 }
 
 // Carrier 1, where the one block is discarded.
-fn discard_joined(joined: &[u8], out: &mut [u8], fault: usize) -> Reading
-    requires { ⌜ joinedYield (now joined) ≡ discarded fault ⌝ }
+fn discard_joined(joined: &[u8], out: &mut [u8], fault: usize, place: usize) -> Reading
+    requires { ⌜ joinedYield (now joined) ≡ discarded (judged fault place) ⌝ }
     ensures { λ r. ⌜ Reads (readBlocks Dhcp4 (now (joined .entry) ∷ []) (length (now (out .entry)))) (now (out .entry)) r (now (out .exit)) ⌝ }
 {
     let none = order::empty();
     let counts = Counts {
+        place,
         size: sheets::FRONT,
         clean: true,
         more: false,
@@ -215,7 +226,7 @@ fn read_instances(joined: &[u8], out: &mut [u8]) -> Reading
     ensures { λ r. ⌜ Reads (readBlocks Dhcp4 (now (joined .entry) ∷ []) (length (now (out .entry)))) (now (out .entry)) r (now (out .exit)) ⌝ }
 {
     if joined.len() == 0 {
-        return discard_joined(&joined[..], out, Fault::FIELD);
+        return discard_joined(&joined[..], out, Fault::FIELD, 0);
     }
     let c = Carrier::Dhcp4;
     let mut slots = order::empty();
@@ -225,17 +236,18 @@ fn read_instances(joined: &[u8], out: &mut [u8]) -> Reading
     let mut at: usize = 0;
     while at < joined.len() {
         if joined.len() - at < 2 {
-            return discard_joined(&joined[..], out, Fault::FIELD);
+            return discard_joined(&joined[..], out, Fault::FIELD, 0);
         }
         let long = octets::get16(&joined[..], at);
         let start = at + 2;
         if joined.len() - start < long {
-            return discard_joined(&joined[..], out, Fault::FIELD);
+            return discard_joined(&joined[..], out, Fault::FIELD, 0);
         }
         let end = start + long;
         let e = records::examine(c, &joined[start..end]);
         if e.fault != 0 {
-            return discard_joined(&joined[..], out, e.fault);
+            let place = judge::place_from(start, e.fault, e.place);
+            return discard_joined(&joined[..], out, e.fault, place);
         }
         at = end;
         if slots.count < Limit::RECORDS {
@@ -249,6 +261,7 @@ fn read_instances(joined: &[u8], out: &mut [u8]) -> Reading
         }
     }
     let counts = Counts {
+        place: 0,
         size,
         clean,
         more,
@@ -308,6 +321,7 @@ fn read_joined(area: &[u8], out: &mut [u8]) -> Reading
         Gathered::Absent => {
             let none = order::empty();
             let counts = Counts {
+                place: 0,
                 size: sheets::FRONT,
                 clean: true,
                 more: false,

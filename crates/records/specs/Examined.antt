@@ -11,10 +11,10 @@ use Rattle.blocks.specs.Parse.{fields, parse}
 use Rattle.records.specs.declared.Examined.{Examined}
 use Rattle.records.specs.Records.{Outcome, faulty, kept, recordOf, staying}
 
--- a fault; or 0 with the record's priority and its octets in a sheet; and a flag beside them
+-- a fault and its place; or 0 with the record's priority and its octets in a sheet; and a flag beside them
 abbrev pub examinedOf : Carrier → Outcome → Bool → Examined
-examinedOf c (faulty k) clean = record { fault = k; priority = 0; size = 0; clean = clean }
-examinedOf c (kept r) clean = record { fault = 0; priority = r .priority; size = length (recordOf c r); clean = clean }
+examinedOf c (faulty j) clean = record { fault = j .fault; place = j .place; priority = 0; size = 0; clean = clean }
+examinedOf c (kept r) clean = record { fault = 0; place = 0; priority = r .priority; size = length (recordOf c r); clean = clean }
 
 -- every address of the body stays: none is dropped when it is read
 abbrev pub Clean : Carrier → List ℕ → Type 0
@@ -22,10 +22,10 @@ Clean c body = (f : Fields) → parse c body ≡ fields f → staying (addressWi
 
 -- the body yields a record
 abbrev pub Kept : Outcome → Type 0
-Kept (faulty k) = ⊥
+Kept (faulty j) = ⊥
 Kept (kept r) = Unit {0}
 
 -- the octets of the record that a body yields, and none of a body with a fault
 abbrev pub octetsIn : Carrier → Outcome → List ℕ
-octetsIn c (faulty k) = []
+octetsIn c (faulty j) = []
 octetsIn c (kept r) = recordOf c r

@@ -8,12 +8,13 @@ use Rattle.carriers.specs.declared.Carrier.{Carrier}
 use Rattle.carriers.specs.Carriers.{asText}
 use Rattle.addresses.specs.Addresses.{listOf, keptOf}
 use Rattle.blocks.specs.declared.Head.{Head}
+use Rattle.judge.specs.declared.Judged.{Judged}
 use Rattle.records.specs.declared.Examined.{Examined}
 use Rattle.records.specs.Records.{nameAs, staying, modeOf}
 
 -- what is answered of a body with a fault
-abbrev pub discarded : ℕ → Examined
-discarded k = record { fault = k; priority = 0; size = 0; clean = false }
+abbrev pub discarded : Judged → Examined
+discarded j = record { fault = j .fault; place = j .place; priority = 0; size = 0; clean = false }
 
 -- a name of a carrier as a sheet holds it
 abbrev pub nameIn : Carrier → List ℕ → List ℕ

@@ -11,6 +11,8 @@ use Rattle.carriers.specs.Carriers.{addressWidth, asText}
 use Rattle.texts.specs.Texts.{wireOf}
 use Rattle.addresses.specs.Addresses.{listOf, keptOf}
 use Rattle.blocks.specs.Block.{Fields}
+use Rattle.judge.specs.declared.Judged.{Judged}
+use Rattle.judge.specs.Place.{from}
 
 -- the addresses that stay, of w octets each (RULES A1, A2)
 abbrev pub staying : ℕ → List ℕ → List ℕ
@@ -35,10 +37,15 @@ keepAs text w f = record {
 abbrev pub keepOf : Carrier → Fields → Fields
 keepOf c f = keepAs (asText c) (addressWidth c) f
 
--- a body's fault, or its record (RULES T2)
+-- a body's fault with its place in the body, or its record (RULES T2, W11)
 pub data Outcome : Type 0 where
-  faulty : ℕ → Outcome
+  faulty : Judged → Outcome
   kept : Fields → Outcome
+
+-- the same, with n octets before the body: the place of fault 22 is counted from there (RULES W11)
+abbrev pub further : ℕ → Outcome → Outcome
+further n (faulty j) = faulty (from n j)
+further n (kept r) = kept r
 
 -- ---- a record's octets (RULES S2)
 

@@ -23,11 +23,13 @@ use Rattle.texts.specs.Texts.{wireOf}
 use Rattle.texts.specs.Convert.{wire-length, wire-of-text}
 use Rattle.addresses.specs.Addresses.{Width, listOf, keptOf}
 use Rattle.addresses.specs.AddressesLaws.{wide-some, list-length, list-wide, list-flat, flat-length, kept-wide, kept-few, kept-usable}
-use Rattle.blocks.specs.Block.{Fields}
+use Rattle.blocks.specs.Block.{Fields, nameAt}
 use Rattle.blocks.specs.Parse.{Parsed, bad, fields, parse}
 use Rattle.blocks.specs.Faults.{parse-fault}
 use Rattle.judge.specs.declared.Side.the-variants.{Reading, Writing}
-use Rattle.judge.specs.Judge.{nameOf, faultOf}
+use Rattle.judge.specs.declared.Judged.{Judged}
+use Rattle.judge.specs.Place.{judged, from}
+use Rattle.judge.specs.Judge.{nameOf, judgedBy, faultOf}
 use Rattle.judge.specs.Passed.{PassedTail, Passed}
 use Rattle.judge.specs.JudgeLaws.{carrier-width, fault-passed, read-text, read-name}
 use Rattle.records.specs.Records.{faulty, kept, staying, keepOf, headSize, tailSize, modeOf, tailOf, recordBy, recordOf}
@@ -36,24 +38,27 @@ use Rattle.records.specs.Parts.{nameIn}
 
 -- ---- what fields yield
 
-module _ (c : Carrier) (f : Fields) where
-  pub yield-kept : faultOf Reading c f ≡ 0 → yieldOf c f ≡ kept (keepOf c f)
+module _ (c : Carrier) (at : ℕ) (f : Fields) where
+  abbrev told : Judged
+  told = from at (judgedBy Reading c f)
+
+  pub yield-kept : faultOf Reading c f ≡ 0 → yieldOf c at f ≡ kept (keepOf c f)
   yield-kept e = simp (eq-eqb _ _ e)
 
-  pub yield-faulty : (faultOf Reading c f ≡ 0 → ⊥) → yieldOf c f ≡ faulty (faultOf Reading c f)
+  pub yield-faulty : (faultOf Reading c f ≡ 0 → ⊥) → yieldOf c at f ≡ faulty told
   yield-faulty n = simp (ne-eqb _ _ n)
 
-  yield-some : (k : ℕ) → yieldOf c f ≡ faulty k → k ≡ 0 → ⊥
-  yield-some k = go (eqb (faultOf Reading c f) 0) refl
+  yield-some : (j : Judged) → yieldOf c at f ≡ faulty j → j .fault ≡ 0 → ⊥
+  yield-some j = go (eqb (faultOf Reading c f) 0) refl
     where
-      go : (b : Bool) → eqb (faultOf Reading c f) 0 ≡ b → cond b (kept (keepOf c f)) (faulty (faultOf Reading c f)) ≡ faulty k → k ≡ 0 → ⊥
+      go : (b : Bool) → eqb (faultOf Reading c f) 0 ≡ b → cond b (kept (keepOf c f)) (faulty told) ≡ faulty j → j .fault ≡ 0 → ⊥
       go true t e z = let o : _≡_ {A = ℕ} 0 1 = cc in omega arith
-      go false t e z = let q : faultOf Reading c f ≡ k = cc in eqb-false _ _ t (q ∙ z)
+      go false t e z = let q : told ≡ j = cc in eqb-false _ _ t (ap (λ (j : Judged). j .fault) q ∙ z)
 
-  yield-says : (r : Fields) → yieldOf c f ≡ kept r → (faultOf Reading c f ≡ 0) × (r ≡ keepOf c f)
+  yield-says : (r : Fields) → yieldOf c at f ≡ kept r → (faultOf Reading c f ≡ 0) × (r ≡ keepOf c f)
   yield-says r = go (eqb (faultOf Reading c f) 0) refl
     where
-      go : (b : Bool) → eqb (faultOf Reading c f) 0 ≡ b → cond b (kept (keepOf c f)) (faulty (faultOf Reading c f)) ≡ kept r
+      go : (b : Bool) → eqb (faultOf Reading c f) 0 ≡ b → cond b (kept (keepOf c f)) (faulty told) ≡ kept r
           → (faultOf Reading c f ≡ 0) × (r ≡ keepOf c f)
       go true t e = (eqb-true _ _ t, (cc))
       go false t e = let o : _≡_ {A = ℕ} 0 1 = cc in absurd (omega arith)
@@ -61,25 +66,28 @@ module _ (c : Carrier) (f : Fields) where
 -- ---- what a body yields
 
 module _ (c : Carrier) (b : List ℕ) where
-  pub outcome-bad : (k : ℕ) → parse c b ≡ bad k → outcomeOf c b ≡ faulty k
+  pub outcome-bad : (k : ℕ) → parse c b ≡ bad k → outcomeOf c b ≡ faulty (judged k 0)
   unfolding outcomeOf
   outcome-bad k e = simp e
 
-  pub outcome-fields : (f : Fields) → parse c b ≡ fields f → outcomeOf c b ≡ yieldOf c f
+  pub outcome-fields : (f : Fields) → parse c b ≡ fields f → outcomeOf c b ≡ yieldOf c (nameAt c (length (f .addresses))) f
   unfolding outcomeOf
   outcome-fields f e = simp e
 
   -- a fault has a number
-  pub fault-some : (k : ℕ) → outcomeOf c b ≡ faulty k → k ≡ 0 → ⊥
-  fault-some k e z = go (parse c b) refl
+  pub fault-some : (j : Judged) → outcomeOf c b ≡ faulty j → j .fault ≡ 0 → ⊥
+  fault-some j e z = go (parse c b) refl
     where
-      layout : (k ≡ fault.field) ⊎ ((c ≡ Router) × (k ≡ fault.padding)) → ⊥
-      layout (inl h) = omega arith
-      layout (inr h) = omega (arith, h .1)
+      layout : (k : ℕ) → k ≡ 0 → (k ≡ fault.field) ⊎ ((c ≡ Router) × (k ≡ fault.padding)) → ⊥
+      layout k z (inl h) = omega arith
+      layout k z (inr h) = omega (arith, h .1)
 
       go : (p : Parsed) → parse c b ≡ p → ⊥
-      go (bad j) t = let o = outcome-bad j t in let q : j ≡ k = cc in layout (parse-fault c b k (t ∙ ap bad q))
-      go (fields f) t = yield-some c f k (sym (outcome-fields f t) ∙ e) z
+      go (bad k) t =
+          let o = outcome-bad k t in
+          let q : judged k 0 ≡ j = cc in
+          layout k (ap (λ (j : Judged). j .fault) q ∙ z) (parse-fault c b k t)
+      go (fields f) t = yield-some c (nameAt c (length (f .addresses))) f j (sym (outcome-fields f t) ∙ e) z
 
   -- a body yields a record exactly if it splits into fields that pass the judge
   pub outcome-kept : (r : Fields) → outcomeOf c b ≡ kept r → (f : Fields) × (parse c b ≡ fields f) × (faultOf Reading c f ≡ 0) × (r ≡ keepOf c f)
@@ -87,10 +95,10 @@ module _ (c : Carrier) (b : List ℕ) where
     where
       go : (p : Parsed) → parse c b ≡ p → (f : Fields) × (parse c b ≡ fields f) × (faultOf Reading c f ≡ 0) × (r ≡ keepOf c f)
       go (bad j) t = let q = outcome-bad j t in let o : _≡_ {A = ℕ} 0 1 = cc in absurd (omega arith)
-      go (fields f) t = let s = yield-says c f r (sym (outcome-fields f t) ∙ e) in (f, t, s .0, s .1)
+      go (fields f) t = let s = yield-says c (nameAt c (length (f .addresses))) f r (sym (outcome-fields f t) ∙ e) in (f, t, s .0, s .1)
 
   pub kept-outcome : (r f : Fields) → parse c b ≡ fields f → faultOf Reading c f ≡ 0 → r ≡ keepOf c f → outcomeOf c b ≡ kept r
-  kept-outcome r f p e q = outcome-fields f p ∙ yield-kept c f e ∙ ap kept (sym q)
+  kept-outcome r f p e q = outcome-fields f p ∙ yield-kept c (nameAt c (length (f .addresses))) f e ∙ ap kept (sym q)
 
 -- ---- how many octets a record has
 

@@ -3,13 +3,14 @@
 // half, `put_head`.
 ghost use mathlib.Core.Path.{_≡_};
 ghost use mathlib.Core.Bool.{true};
-ghost use Prim.Native.Nat.{ℕ, _+_, _≤_, _<_};
+ghost use Prim.Native.Nat.{ℕ, _+_, _≤_, _<_, _^_};
 ghost use lib.ListN.{length};
 ghost use Rattle.octets.specs.Over.{Wrote};
 ghost use Rattle.numbers.specs.Limit as limit;
 ghost use Rattle.addresses.specs.Addresses.{Width, listOf, keptOf};
 ghost use Rattle.carriers.specs.Carriers.{addressWidth};
 ghost use Rattle.blocks.specs.Block.{headWith, fieldsOf, nameOnly, whole};
+ghost use Rattle.judge.specs.Place.{judged};
 ghost use Rattle.records.specs.Records.{nameAs, staying, headSize, tailSize, modeOf};
 ghost use Rattle.records.specs.Yielded.{outcomeOf, yieldOf};
 ghost use Rattle.records.specs.Examined.{examinedOf, Clean, Kept, octetsIn};
@@ -20,10 +21,11 @@ use blocks::Places;
 use carriers::Carrier;
 use judge::Side;
 
-// A body's fault, or 0 with its record's priority and size in a sheet, and whether every address is known to stay, so that the
-// list can be copied as it stands. Of a body with a fault priority and size are 0, and `clean` means nothing.
+// A body's fault and, of 22, its place in the body; or 0 with its record's priority and size in a sheet, and whether every address is known
+// to stay, so that the list can be copied as it stands. Of a body with a fault priority and size are 0, and `clean` means nothing.
 pub struct Examined {
     pub fault: usize,
+    pub place: usize,
     pub priority: usize,
     pub size: usize,
     pub clean: bool,
@@ -50,11 +52,12 @@ pub const NAME_LENGTH_AT: usize = 7;
 pub const TAIL: usize = 3;
 
 // What is answered of a body with a fault.
-fn faulty(fault: usize) -> Examined
-    ensures { λ r. ⌜ r ≡ discarded fault ⌝ }
+fn faulty(fault: usize, place: usize) -> Examined
+    ensures { λ r. ⌜ r ≡ discarded (judged fault place) ⌝ }
 {
     Examined {
         fault,
+        place,
         priority: 0,
         size: 0,
         clean: false,
@@ -78,34 +81,38 @@ fn name_size(c: Carrier, name: &[u8]) -> usize
     wire_size(c.as_text(), name)
 }
 
-// A name-only body, whatever its lifetime.
-fn examine_name_only(c: Carrier, priority: usize, name: &[u8]) -> Examined
-    ensures { λ r. ⌜ ((lifetime : ℕ) → r ≡ examinedOf c (yieldOf c (nameOnly priority lifetime (now (name .entry)))) (r .clean)) ⌝ }
+// A name-only body, whatever its lifetime; its name stands at `at`.
+fn examine_name_only(c: Carrier, priority: usize, at: usize, name: &[u8]) -> Examined
+    requires { ⌜ at + length (now name) < 2 ^ 63 ⌝ }
+    ensures { λ r. ⌜ ((lifetime : ℕ) → r ≡ examinedOf c (yieldOf c at (nameOnly priority lifetime (now (name .entry)))) (r .clean)) ⌝ }
 {
     let none = &name[..0];
     let judged = judge::judge_fields(Side::Reading, c, priority, name, false, none, none);
     let fault = judged.fault;
     if fault != 0 {
-        return faulty(fault);
+        return faulty(fault, judge::place_from(at, fault, judged.place));
     }
     let size = HEAD + name_size(c, name);
     Examined {
         fault: 0,
+        place: 0,
         priority,
         size,
         clean: true,
     }
 }
 
-// A body in full form, whatever its lifetime.
+// A body in full form, whatever its lifetime; its name stands at `at`.
 fn examine_full(
     c: Carrier,
     priority: usize,
+    at: usize,
     name: &[u8],
     addresses: &[u8],
     parameters: &[u8],
 ) -> Examined
-    ensures { λ r. ⌜ ((lifetime : ℕ) → r ≡ examinedOf c (yieldOf c (whole priority lifetime (now (name .entry)) (now (addresses .entry)) (now (parameters .entry)))) (r .clean)) ⌝ }
+    requires { ⌜ at + length (now name) < 2 ^ 63 ⌝ }
+    ensures { λ r. ⌜ ((lifetime : ℕ) → r ≡ examinedOf c (yieldOf c at (whole priority lifetime (now (name .entry)) (now (addresses .entry)) (now (parameters .entry)))) (r .clean)) ⌝ }
     ensures { λ r. ⌜ (r .clean ≡ true → staying (addressWidth c) (now (addresses .entry)) ≡ now (addresses .entry)) ⌝ }
 {
     let judged = judge::judge_fields(
@@ -119,7 +126,7 @@ fn examine_full(
     );
     let fault = judged.fault;
     if fault != 0 {
-        return faulty(fault);
+        return faulty(fault, judge::place_from(at, fault, judged.place));
     }
     let w = c.address_width();
     let count = addresses::kept_count(w, addresses);
@@ -128,6 +135,7 @@ fn examine_full(
     let size = head + TAIL + staying + parameters.len();
     Examined {
         fault: 0,
+        place: 0,
         priority,
         size,
         clean: staying == addresses.len(),
@@ -246,11 +254,11 @@ pub fn put_fields(
 // Whether a body yields a record. (`&body[..]`: docs/DESIGN.md, Speed.)
 pub fn examine(c: Carrier, body: &[u8]) -> Examined
     ensures { λ r. ⌜ r ≡ examinedOf c (outcomeOf c (now (body .entry))) (r .clean) ⌝ }
-    ensures { λ r. ⌜ (r .priority < 65536) × (r .size ≤ limit.recordSize) ⌝ }
+    ensures { λ r. ⌜ (r .priority < 65536) × (r .size ≤ limit.recordSize) × (r .place ≤ length (now (body .entry))) ⌝ }
     ensures { λ r. ⌜ (r .clean ≡ true → Clean c (now (body .entry))) ⌝ }
 {
     match blocks::split(c, &body[..]) {
-        Places::Bad { fault } => faulty(fault),
+        Places::Bad { fault } => faulty(fault, 0),
         Places::NameOnly {
             priority,
             lifetime: _,
@@ -258,7 +266,7 @@ pub fn examine(c: Carrier, body: &[u8]) -> Examined
             nlen,
         } => {
             let end = name + nlen;
-            examine_name_only(c, priority, &body[name..end])
+            examine_name_only(c, priority, name, &body[name..end])
         }
         Places::Full {
             priority,
@@ -276,6 +284,7 @@ pub fn examine(c: Carrier, body: &[u8]) -> Examined
             examine_full(
                 c,
                 priority,
+                name,
                 &body[name..name_end],
                 &body[addresses..addresses_end],
                 &body[parameters..parameters_end],

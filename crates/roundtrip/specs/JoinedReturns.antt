@@ -1,7 +1,7 @@
 -- Carrier 1: accepted records come back from their joined instances, cut into options. Assumes nothing.
 use mathlib.Core.Path.{_≡_, refl, ap, ap₂, _∙_}
 use mathlib.Core.List.{List, [], _∷_, map, append-nil}
-use Prim.Native.Nat.{ℕ, _-_, _≤_, _<_}
+use Prim.Native.Nat.{ℕ, _+_, _-_, _≤_, _<_}
 use native.Mathlib.Omega.{arith}
 use lib.ListN.{length}
 use Rattle.octets.specs.Lists.{All, flat}
@@ -10,6 +10,7 @@ use Rattle.carriers.specs.declared.Carrier.the-variants.{Dhcp4}
 use Rattle.frames.specs.Frame.{Framed, frame}
 use Rattle.frames.specs.Area.{joined}
 use Rattle.blocks.specs.Block.{Fields}
+use Rattle.records.specs.Records.{Outcome, further}
 use Rattle.reading.specs.Reading.{ahead, instancesFrom, yieldOf, readFramed, readBlocks}
 use Rattle.reading.specs.Result.{yields}
 use Rattle.reading.specs.InstanceLaws.{instance-ahead, counted-ahead, joined-some}
@@ -28,15 +29,15 @@ use Rattle.roundtrip.specs.RoundTrip.{blocksIn}
 -- ---- instances
 
 -- accepted records come back from their instances, one after another
-pub instances-return : (rs : List Fields) → All (Sound Dhcp4) rs → instancesFrom 0 (joinedOf rs) ≡ yields rs
+pub instances-return : (at : ℕ) (rs : List Fields) → All (Sound Dhcp4) rs → instancesFrom 0 at (joinedOf rs) ≡ yields rs
 unfolding instancesFrom
-instances-return [] s = refl
-instances-return (r ∷ rs) s =
+instances-return at [] s = refl
+instances-return at (r ∷ rs) s =
     let x : List ℕ = bodyOf Dhcp4 r in
     let small : length x < 65536 = omega (arith, writable-body Dhcp4 r (writable Dhcp4 r (s .0))) in
-    ap (instancesFrom 0) (counted-ahead x (joinedOf rs))
-    ∙ instance-ahead x (joinedOf rs) small
-    ∙ ap₂ ahead (record-returns Dhcp4 r (s .0)) (instances-return rs (s .1))
+    ap (instancesFrom 0 at) (counted-ahead x (joinedOf rs))
+    ∙ instance-ahead at x (joinedOf rs) small
+    ∙ ap₂ (λ (o : Outcome). ahead (further (at + 2) o)) (record-returns Dhcp4 r (s .0)) (instances-return (at + 2 + length x) rs (s .1))
 
 -- ---- the one block
 
@@ -58,7 +59,7 @@ joined-none = refl
 -- one block brings the records, where there are some
 joined-brings : (rs : List Fields) → All (Sound Dhcp4) rs → 0 < length (joinedOf rs) → Brings (map (yieldOf Dhcp4) (joinedOf rs ∷ [])) rs
 joined-brings rs sound some =
-    let all : yieldOf Dhcp4 (joinedOf rs) ≡ yields rs = joined-some (joinedOf rs) (λ z. omega arith) ∙ instances-return rs sound in
+    let all : yieldOf Dhcp4 (joinedOf rs) ≡ yields rs = joined-some (joinedOf rs) (λ z. omega arith) ∙ instances-return 0 rs sound in
     rw all (record { arrive = append-nil rs; none-discarded = refl; faultless = refl })
 
 joined-answer : (rs : List Fields) (room : ℕ) → All (Sound Dhcp4) rs → NoneFalls 0 rs → length rs ≤ limit.records

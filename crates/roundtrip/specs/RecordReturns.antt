@@ -12,7 +12,7 @@ use Rattle.octets.specs.Lists.{All}
 use Rattle.numbers.specs.Refusal as refusal
 use Rattle.numbers.specs.Limit as limit
 use Rattle.carriers.specs.declared.Carrier.{Carrier}
-use Rattle.carriers.specs.Carriers.{addressWidth, asText, isJoined, Plain}
+use Rattle.carriers.specs.Carriers.{headerOf, addressWidth, asText, isJoined, Plain}
 use Rattle.names.specs.Names.{IsName}
 use Rattle.texts.specs.Texts.{textOf, wireOf}
 use Rattle.texts.specs.Convert.{wire-text, text-of-wire}
@@ -30,11 +30,11 @@ use Rattle.judge.specs.declared.Side.the-variants.{Reading, Writing}
 use Rattle.judge.specs.Allowed.{NameBy, Whole, TailAllowed, Allowed}
 use Rattle.judge.specs.JudgeLaws.{carrier-width}
 use Rattle.judge.specs.AllowedLaws.{usable-exactly, allowed-faultless}
-use Rattle.records.specs.Records.{kept, staying, keepOf}
+use Rattle.records.specs.Records.{Outcome, kept, further, staying, keepOf}
 use Rattle.records.specs.Yielded.{outcomeOf}
 use Rattle.records.specs.RecordsLaws.{kept-outcome}
 use Rattle.sheets.specs.Sheets.{sheetOf}
-use Rattle.reading.specs.Reading.{yieldOf, inOrder, readYields, readBlocks, readFramed}
+use Rattle.reading.specs.Reading.{alone, yieldOf, inOrder, readYields, readBlocks, readFramed}
 use Rattle.reading.specs.Result.{Yield, yields, single, faultless, refuse, done}
 use Rattle.taking.specs.Sheet.{NoneFalls}
 use Rattle.layouts.specs.Layouts.{carriedOf}
@@ -151,12 +151,12 @@ brings-answer c ys rs room b rising few =
 
 -- ---- carriers 2 to 5
 
-plain-yield : (c : Carrier) → Plain c → (b : List ℕ) → yieldOf c b ≡ single (outcomeOf c b)
+plain-yield : (c : Carrier) → Plain c → (b : List ℕ) → yieldOf c b ≡ alone c b
 plain-yield c p b = rw (apart-false (isJoined c) p)
 
 module _ (c : Carrier) (plain : Plain c) where
   body-yields : (r : Fields) → Sound c r → yieldOf c (bodyOf c r) ≡ yields (r ∷ [])
-  body-yields r s = plain-yield c plain (bodyOf c r) ∙ ap single (record-returns c r s)
+  body-yields r s = plain-yield c plain (bodyOf c r) ∙ ap (λ (o : Outcome). single (further (headerOf c) o)) (record-returns c r s)
 
   -- the blocks of accepted records bring them
   pub bodies-bring : (rs : List Fields) → All (Sound c) rs → Brings (map (yieldOf c) (bodiesOf c rs)) rs

@@ -4,6 +4,7 @@ use mathlib.Core.List.{List, map}
 use Prim.Native.Nat.{ℕ}
 use Rattle.carriers.specs.declared.Carrier.{Carrier}
 use Rattle.blocks.specs.Block.{Fields, layout}
+use Rattle.judge.specs.Place.{judged}
 use Rattle.layouts.specs.Layouts.{carriedOf}
 use Rattle.sheets.specs.Sheets.{sheetOf}
 use Rattle.reading.specs.Reading.{inRoom}
@@ -20,7 +21,7 @@ bodiesOf c rs = map (bodyOf c) rs
 pub record Brings (ys : List Yield) (rs : List Fields) : Type 0 where
   pub arrive : arrivals ys ≡ rs
   pub none-discarded : discardedIn ys ≡ 0
-  pub faultless : firstFault ys ≡ 0
+  pub faultless : firstFault ys ≡ judged 0 0
 
 -- the answer of a reading that found so many blocks, with the records rs, and discarded none, by the room
 abbrev pub answerKept : Carrier → List Fields → ℕ → ℕ → Answer

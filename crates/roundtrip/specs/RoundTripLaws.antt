@@ -26,14 +26,14 @@ use Rattle.reading.specs.Result.{Done, Answer, refuse, done, Reads}
 use Rattle.reading.specs.AnswerLaws.{read-known}
 use Rattle.taking.specs.Sheet.{NoneFalls}
 use Rattle.written.specs.Writing.{writeOf}
-use Rattle.written.specs.Octets.{octetsOf, numberIn}
-use Rattle.written.specs.Octets as writing
+use Rattle.written.specs.Octets.{octetsOf}
 use Rattle.written.specs.Accepted.{Sound, Accepted}
 use Rattle.written.specs.AcceptedLaws.{accepted-exactly}
 use Rattle.written.specs.DefinedLaws.{zero-defined, written-defined, defined-sheet}
-use Rattle.writing.specs.declared.Writing.{Writing}
-use Rattle.writing.specs.Writes.{Writes}
-use Rattle.writing.specs.WritesLaws.{told-number}
+use Rattle.answers.specs.declared.Result.{Result}
+use Rattle.answers.specs.Answers.{numberIn, Writes}
+use Rattle.answers.specs.Answers as answers
+use Rattle.answers.specs.AnswersLaws.{told-number}
 use Rattle.roundtrip.specs.Returns.{answerKept}
 use Rattle.roundtrip.specs.RecordReturns.{kept-room, kept-no-room, blocks-answer}
 use Rattle.roundtrip.specs.OctetsLaws.{octets-few, plain-framed}
@@ -95,18 +95,18 @@ front-of : (bs out : List ℕ) {out′ : List ℕ} {size : ℕ} → size ≡ len
 front-of bs out n l = ap₂ (λ (n : ℕ) (l : List ℕ). take n l) n l ∙ over-front bs out
 
 -- a call of `write` that returned 0 left what writing answers: the front of the buffer, of the length returned
-module _ (s out out₁ : List ℕ) (w : Writing) (octets : Bytes s) (v : Writes (writeOf s (length out)) out w out₁) (o : w .number ≡ 0) where
-  wrote-front : (writeOf s (length out) ≡ writing.written (take (w .length) out₁)) × (length (take (w .length) out₁) ≡ w .length)
+module _ (s out out₁ : List ℕ) (w : Result) (octets : Bytes s) (v : Writes (writeOf s (length out)) out w out₁) (o : w .number ≡ 0) where
+  wrote-front : (writeOf s (length out) ≡ answers.written (take (w .length) out₁)) × (length (take (w .length) out₁) ≡ w .length)
   wrote-front =
       let z : numberIn (writeOf s (length out)) ≡ 0 =
-      sym (told-number (writeOf s (length out))) ∙ ap (λ (w : Writing). w .number) (sym (v .numbers)) ∙ o in
+      sym (told-number (writeOf s (length out))) ∙ ap (λ (w : Result). w .number) (sym (v .numbers)) ∙ o in
       let d = zero-defined s octets (length out) z in
-      let gave : Writes (writing.written (d .0)) out w out₁ = subst (λ (x : writing.Answer). Writes x out w out₁) (d .2) v in
-      let size : w .length ≡ length (d .0) = ap (λ (w : Writing). w .length) (gave .numbers) in
+      let gave : Writes (answers.written (d .0)) out w out₁ = subst (λ (x : answers.Answer). Writes x out w out₁) (d .2) v in
+      let size : w .length ≡ length (d .0) = ap (λ (w : Result). w .length) (gave .numbers) in
       let front : take (w .length) out₁ ≡ d .0 = front-of (d .0) out size (gave .leaves) in
-      (d .2 ∙ ap writing.written (sym front), ap length front ∙ sym size)
+      (d .2 ∙ ap answers.written (sym front), ap length front ∙ sym size)
 
-  pub call-wrote : writeOf s (length out) ≡ writing.written (take (w .length) out₁)
+  pub call-wrote : writeOf s (length out) ≡ answers.written (take (w .length) out₁)
   call-wrote = wrote-front .0
 
   pub call-fits : length (take (w .length) out₁) ≡ w .length
@@ -118,7 +118,7 @@ unfolding sheetOf frontOf
 sheet-number s c rs e = ap (λ (l : List ℕ). getD l carrierAt 0) e ∙ number-octet c
 
 -- what `write` leaves in the buffer, `read` turns back
-pub calls-return : (s out out₁ sheet sheet₁ : List ℕ) (w : Writing) (r : Reading) → Bytes s
+pub calls-return : (s out out₁ sheet sheet₁ : List ℕ) (w : Result) (r : Reading) → Bytes s
     → Writes (writeOf s (length out)) out w out₁ → w .number ≡ 0
     → Reads (readOf (getD s carrierAt 0) (take (w .length) out₁) (length sheet)) sheet r sheet₁
     → length s ≤ length sheet

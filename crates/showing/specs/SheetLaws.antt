@@ -14,8 +14,8 @@ use Rattle.taking.specs.declared.Took.the-variants.{Refused, Sheet}
 use Rattle.taking.specs.Taking.{takeOf}
 use Rattle.taking.specs.Took.{tookOf}
 use Rattle.taking.specs.Spot.{spotOf, fieldsAt}
-use Rattle.taking.specs.Standing.{Standing, Stands, Step}
-use Rattle.taking.specs.StandingLaws.{standing-step, standing-none, took-refused, took-sheet}
+use Rattle.taking.specs.Standing.{Standing, Step}
+use Rattle.taking.specs.StandingLaws.{stands-is, standing-step, standing-none, took-refused, took-sheet}
 use Rattle.chars.specs.Ascii.{ascii}
 use Rattle.chars.specs.Puts.{Puts}
 use Rattle.chars.specs.PutsLaws.{puts-none, puts-then, puts-as}
@@ -24,9 +24,6 @@ use Rattle.values.specs.ListLaws.{Listed, listed-start, listed-past, listed-end
 use Rattle.showing.specs.Showing.{headOf, recordOf, sheetOf, shownAs, shownOf}
 
 -- ---- records
-
-stands-is : {s : List ℕ} {at : ℕ} {r : Fields} {p : Spot} → Stands s at r p → fieldsAt s p ≡ r
-stands-is h = simp (h .priority, h .lifetime, h .full, h .name, h .addresses, h .parameters)
 
 -- of the records rs those before index i are written from `at` on, and the others stand from i on
 pub record Lined (json : Bool) (c : Carrier) (s : List ℕ) (i : ℕ) (rs : List Fields) (at : ℕ) (l : List ℕ) (r : ℕ) (l′ : List ℕ) : Type 0 where

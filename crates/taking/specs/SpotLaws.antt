@@ -1,29 +1,31 @@
--- Where a record's fields stand: they lie within the sheet, and each way out of the code that finds them agrees with `spotOf`.
+-- Where a record's fields stand: they lie within the sheet one after another, and each way out of the code that finds them agrees with `spotOf`.
 -- Assumes nothing.
-use mathlib.Core.Path.{_≡_, refl}
-use mathlib.Core.Bool.{cond, false≢true}
+use mathlib.Core.Path.{_≡_, refl, sym, ap, _∙_, subst⁻¹}
+use mathlib.Core.Bool.{true, cond, false≢true}
 use mathlib.Core.List.{List}
 use Prim.Native.Nat.{ℕ, _+_, _-_, _*_, _≤_, _<_}
 use native.Mathlib.Nat.{mul-le-mul}
 use native.Mathlib.Omega.{arith}
 use borrow.Author.Tests.{lt-ltb, le-ltb, eq-eqb, ne-eqb}
 use lib.Dec.{ltb, eqb}
-use lib.ListN.{length, getD}
+use lib.ListN.{length, getD, take, drop, length-drop}
+use lib.Seq.{length-take-le}
 use Rattle.octets.specs.Cases.{by-less, by-equal}
 use Rattle.octets.specs.Numbers.{at16, at32, Bytes}
 use Rattle.octets.specs.NumbersLaws.{bytes-at, bytes-getD}
 use Rattle.carriers.specs.declared.Carrier.{Carrier}
 use Rattle.carriers.specs.Carriers.{addressWidth}
 use Rattle.carriers.specs.CarriersLaws.{address-width}
-use Rattle.records.specs.Records.{headSize, lifetimeAt, modeAt, nameLengthAt}
+use Rattle.records.specs.Records.{headSize, lifetimeAt, modeAt, nameLengthAt, tailSize, recordOf}
+use Rattle.records.specs.RecordsLaws.{length-record}
 use Rattle.taking.specs.declared.Spot.{Spot}
-use Rattle.taking.specs.Spot.{nowhere, namedAt, withParts, parametersAt, addressesAt, fullAt, byMode, spotOf, Inside, Sized}
+use Rattle.taking.specs.Spot.{nowhere, namedAt, withParts, parametersAt, addressesAt, fullAt, byMode, spotOf, fieldsAt, Inside, Sized}
 
 -- ---- what holds of every spot: of none, of a name, of a name with parts, and so of `spotOf`
 
 module _ (P : Spot → Type 0) (none : P nowhere) (c : Carrier) (s : List ℕ) where
   pub by-full : (p : Spot)
-      → ((a n q m : ℕ) → p .next < a → n ≡ getD s (p .next) 0 * addressWidth c → a + n + 2 ≡ q → m ≡ at16 s (a + n) → q + m ≤ length s
+      → ((a n q m : ℕ) → a ≡ p .next + 1 → n ≡ getD s (p .next) 0 * addressWidth c → a + n + 2 ≡ q → m ≡ at16 s (a + n) → q + m ≤ length s
       → P (withParts p a n q m))
       → p .next ≤ length s → P (fullAt c s p)
   unfolding fullAt
@@ -36,7 +38,7 @@ module _ (P : Spot → Type 0) (none : P nowhere) (c : Carrier) (s : List ℕ) w
       by-less P (length s - a) n nowhere (cond (ltb (length s - (a + n)) 2) nowhere (parametersAt s p a n q m)) (λ _. none) (λ j.
       by-less P (length s - (a + n)) 2 nowhere (parametersAt s p a n q m) (λ _. none) (λ i.
       by-less P (length s - q) m nowhere (withParts p a n q m) (λ _. none) (λ l.
-      whole a n q m (omega arith) refl refl refl (omega arith)))))
+      whole a n q m refl refl refl refl (omega arith)))))
 
   pub by-spot : (at : ℕ)
       → ((n : ℕ) → n ≡ getD s (at + nameLengthAt) 0 → at + headSize + n ≤ length s → P (namedAt s at n))
@@ -67,6 +69,53 @@ spot-inside c s at h =
     (λ n e k. by-full P none c s (namedAt s at n)
     (λ a b q m i j f g l. record { name = k; addresses = omega arith; parameters = l; next = l; further = λ _. omega arith }) k)
     h
+
+-- the fields are as long as they are said to be
+part-length : (s : List ℕ) (a n : ℕ) → a + n ≤ length s → length (take n (drop a s)) ≡ n
+part-length s a n h = length-take-le n (drop a s) (rw (length-drop a s) (omega arith))
+
+module _ (s : List ℕ) (p : Spot) {at : ℕ} (i : Inside (length s) at p) where
+  pub name-length : length (fieldsAt s p .name) ≡ p .nlen
+  name-length = part-length s (p .name) (p .nlen) (i .name)
+
+  pub addresses-length : length (fieldsAt s p .addresses) ≡ p .alen
+  addresses-length = part-length s (p .addresses) (p .alen) (i .addresses)
+
+  pub parameters-length : length (fieldsAt s p .parameters) ≡ p .plen
+  parameters-length = part-length s (p .parameters) (p .plen) (i .parameters)
+
+-- ---- a record's name stands after its head, and what follows the record after its octets
+
+-- octets of the record, by the lengths of its fields
+abbrev sizeAt : Spot → ℕ
+sizeAt p = headSize + p .nlen + cond (p .full) (tailSize + p .alen + p .plen) 0
+
+record Placed (at : ℕ) (p : Spot) : Type 0 where
+  name : p .name ≡ at + headSize
+  next : p .next ≡ at + sizeAt p
+
+spot-placed : (c : Carrier) (s : List ℕ) (at : ℕ) → at ≤ length s → spotOf c s at .good ≡ true → Placed at (spotOf c s at)
+spot-placed c s at h =
+    let P : Spot → Type 0 = λ p. p .good ≡ true → Placed at p in
+    let none : P nowhere = λ g. absurd (false≢true g) in
+    by-spot P none c s at
+    (λ n e k _. record { name = refl; next = omega arith })
+    (λ n e k. by-full P none c s (namedAt s at n) (λ a b q m i j f g l _. record { name = refl; next = omega arith }) k)
+    h
+
+module _ (c : Carrier) (s : List ℕ) (at : ℕ) {p : Spot} (e : p ≡ spotOf c s at) (h : at ≤ length s) (good : p .good ≡ true) where
+  placed : Placed at p
+  placed = subst⁻¹ (Placed at) e (spot-placed c s at h (ap (λ (p : Spot). p .good) (sym e) ∙ good))
+
+  pub spot-name : p .name ≡ at + headSize
+  spot-name = placed .name
+
+  pub spot-next : p .next ≡ at + length (recordOf c (fieldsAt s p))
+  spot-next =
+      let i : Inside (length s) at p = subst⁻¹ (Inside (length s) at) e (spot-inside c s at h) in
+      let size : length (recordOf c (fieldsAt s p)) ≡ sizeAt p =
+      length-record c (fieldsAt s p) ∙ rw (name-length s p i, addresses-length s p i, parameters-length s p i) in
+      placed .next ∙ ap (λ (n : ℕ). at + n) (sym size)
 
 -- ---- the numbers are of their widths
 

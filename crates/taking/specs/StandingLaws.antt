@@ -35,6 +35,10 @@ past c s at h =
     let k : length s - at < headSize = omega arith in
     rw (lt-ltb (length s - at) headSize k)
 
+-- what stands at a spot is the record
+pub stands-is : {s : List ℕ} {at : ℕ} {r : Fields} {p : Spot} → Stands s at r p → fieldsAt s p ≡ r
+stands-is h = rw (h .priority, h .lifetime, h .full, h .name, h .addresses, h .parameters)
+
 module _ {c : Carrier} {s : List ℕ} {at : ℕ} where
   module _ {r : Fields} {rs : List Fields} where
     -- a record has octets

@@ -6,13 +6,12 @@ use lib.ListN.{length}
 use Rattle.carriers.specs.declared.Carrier.{Carrier}
 use Rattle.frames.specs.Frame.{Framed, fault, framed, framedNumber, bodiesIn}
 use Rattle.frames.specs.Area.{blocksOf}
-use Rattle.records.specs.Yielded.{outcomeOf}
-use Rattle.reading.specs.Result.{single, discards, discardedIn}
-use Rattle.reading.specs.Reading.{joinedYield, yieldOf}
+use Rattle.reading.specs.Result.{discards, discardedIn}
+use Rattle.reading.specs.Reading.{joinedYield, alone, yieldOf}
 
 -- 1 for a body that is discarded, and for joined data
 abbrev pub discardsBody : Carrier → List ℕ → ℕ
-discardsBody c b = discards (single (outcomeOf c b))
+discardsBody c b = discards (alone c b)
 
 abbrev pub discardsJoined : List ℕ → ℕ
 discardsJoined b = discards (joinedYield b)

@@ -12,7 +12,7 @@ use Rattle.octets.specs.Numbers.{at16}
 use Rattle.octets.specs.Over.{over, Wrote}
 use Rattle.carriers.specs.declared.Carrier.{Carrier}
 use Rattle.carriers.specs.declared.Carrier.the-variants.{Dhcp4}
-use Rattle.carriers.specs.Carriers.{isJoined}
+use Rattle.carriers.specs.Carriers.{isJoined, headerOf}
 use Rattle.carriers.specs.CarriersLaws.{by-joined}
 use Rattle.numbers.specs.Fault as number
 use Rattle.frames.specs.declared.Step.{Step}
@@ -27,11 +27,12 @@ use Rattle.frames.specs.Gather.{Tells, Joins}
 use Rattle.frames.specs.Laws.{step-block, step-skipped}
 use Rattle.frames.specs.WalkLaws.{walked-start, walked-block, walked-skipped, walked-end, walked-fault}
 use Rattle.frames.specs.GatherLaws.{joins-broken, joins-whole}
-use Rattle.records.specs.Records.{Outcome, faulty, kept}
+use Rattle.judge.specs.Place.{judged}
+use Rattle.records.specs.Records.{Outcome, faulty, kept, further}
 use Rattle.records.specs.Yielded.{outcomeOf}
 use Rattle.records.specs.RecordsLaws.{fault-some}
 use Rattle.reading.specs.Result.{Yield, discarded, yields, single, discards, discardedIn}
-use Rattle.reading.specs.Reading.{ahead, instancesFrom, joinedYield, yieldOf}
+use Rattle.reading.specs.Reading.{ahead, instancesFrom, joinedYield, alone, yieldOf}
 use Rattle.reading.specs.YieldLaws.{discarded-more, discarded-few}
 use Rattle.findings.specs.declared.Trouble.{Trouble}
 use Rattle.findings.specs.Troubles.{troubleOf, joinedTrouble}
@@ -42,25 +43,26 @@ use Rattle.telling.specs.Discarded.{discardsBody, discardsJoined, Counte
 -- ---- a fault has a number
 
 abbrev Numbered : Yield → Type 0
-Numbered (discarded k) = k ≡ 0 → ⊥
+Numbered (discarded j) = j .fault ≡ 0 → ⊥
 Numbered (yields rs) = Unit {0}
 
-single-numbered : (c : Carrier) (b : List ℕ) → Numbered (single (outcomeOf c b))
-single-numbered c b = go (outcomeOf c b) refl
+-- wherever the body stands
+single-numbered : (n : ℕ) (c : Carrier) (b : List ℕ) → Numbered (single (further n (outcomeOf c b)))
+single-numbered n c b = go (outcomeOf c b) refl
   where
-    go : (o : Outcome) → outcomeOf c b ≡ o → Numbered (single o)
-    go (faulty k) e = fault-some c b k e
+    go : (o : Outcome) → outcomeOf c b ≡ o → Numbered (single (further n o))
+    go (faulty j) e = fault-some c b j e
     go (kept r) e = tt
 
 ahead-numbered : (o : Outcome) (y : Yield) → Numbered (single o) → Numbered y → Numbered (ahead o y)
-ahead-numbered (faulty k) y h g = h
-ahead-numbered (kept r) (discarded k) h g = g
+ahead-numbered (faulty j) y h g = h
+ahead-numbered (kept r) (discarded j) h g = g
 ahead-numbered (kept r) (yields rs) h g = tt
 
-instances-numbered : (k : ℕ) (l : List ℕ) → Numbered (instancesFrom k l)
+instances-numbered : (k at : ℕ) (l : List ℕ) → Numbered (instancesFrom k at l)
 unfolding instancesFrom
-instances-numbered k [] = tt
-instances-numbered zero (x ∷ xs) = go (ltb (length l) 2) (ltb (length l - 2) n) (instances-numbered (1 + n) xs)
+instances-numbered k at [] = tt
+instances-numbered zero at (x ∷ xs) = go (ltb (length l) 2) (ltb (length l - 2) n) (instances-numbered (1 + n) (at + 1) xs)
   where
     l : List ℕ
     l = x ∷ xs
@@ -71,20 +73,26 @@ instances-numbered zero (x ∷ xs) = go (ltb (length l) 2) (ltb (length l - 2) n
     body : List ℕ
     body = take n (drop 2 l)
 
-    go : (short past : Bool) → Numbered (instancesFrom (1 + n) xs)
-        → Numbered (cond short (discarded number.field) (cond past (discarded number.field) (ahead (outcomeOf Dhcp4 body) (instancesFrom (1 + n) xs))))
+    first : Outcome
+    first = further (at + 2) (outcomeOf Dhcp4 body)
+
+    later : Yield
+    later = instancesFrom (1 + n) (at + 1) xs
+
+    go : (short past : Bool) → Numbered later
+        → Numbered (cond short (discarded (judged number.field 0)) (cond past (discarded (judged number.field 0)) (ahead first later)))
     go true past h = λ z. omega arith
     go false true h = λ z. omega arith
-    go false false h = ahead-numbered (outcomeOf Dhcp4 body) (instancesFrom (1 + n) xs) (single-numbered Dhcp4 body) h
-instances-numbered (suc k) (x ∷ xs) = instances-numbered k xs
+    go false false h = ahead-numbered first later (single-numbered (at + 2) Dhcp4 body) h
+instances-numbered (suc k) at (x ∷ xs) = instances-numbered k (at + 1) xs
 
 joined-numbered : (b : List ℕ) → Numbered (joinedYield b)
 unfolding joinedYield
 joined-numbered b = go (eqb (length b) 0)
   where
-    go : (t : Bool) → Numbered (cond t (discarded number.field) (instancesFrom 0 b))
+    go : (t : Bool) → Numbered (cond t (discarded (judged number.field 0)) (instancesFrom 0 0 b))
     go true = λ z. omega arith
-    go false = instances-numbered 0 b
+    go false = instances-numbered 0 0 b
 
 -- ---- one block
 
@@ -96,19 +104,19 @@ none-discards : (y : Yield) {k : ℕ} → Numbered y → k ≡ blockFault y → 
 none-discards (discarded j) h e z = absurd (h (sym e ∙ z))
 none-discards (yields rs) h e z = refl
 
-single-fault : (o : Outcome) → faultIn o ≡ blockFault (single o)
-single-fault (faulty k) = refl
-single-fault (kept r) = refl
+single-fault : (n : ℕ) (o : Outcome) → faultIn o ≡ blockFault (single (further n o))
+single-fault n (faulty j) = refl
+single-fault n (kept r) = refl
 
 module _ (c : Carrier) (b : List ℕ) {t : Trouble} (e : t ≡ troubleOf c b) where
-  body-fault : t .fault ≡ blockFault (single (outcomeOf c b))
-  body-fault = ap (λ (t : Trouble). t .fault) e ∙ trouble-fault c b ∙ single-fault (outcomeOf c b)
+  body-fault : t .fault ≡ blockFault (alone c b)
+  body-fault = ap (λ (t : Trouble). t .fault) e ∙ trouble-fault c b ∙ single-fault (headerOf c) (outcomeOf c b)
 
   pub body-discarded : (t .fault ≡ 0 → ⊥) → 1 ≡ discardsBody c b
-  body-discarded = some-discards (single (outcomeOf c b)) body-fault
+  body-discarded = some-discards (alone c b) body-fault
 
   pub body-kept : t .fault ≡ 0 → 0 ≡ discardsBody c b
-  body-kept = none-discards (single (outcomeOf c b)) (single-numbered c b) body-fault
+  body-kept = none-discards (alone c b) (single-numbered (headerOf c) c b) body-fault
 
 module _ (b : List ℕ) {t : Trouble} (e : t ≡ joinedTrouble b) where
   data-fault : t .fault ≡ blockFault (joinedYield b)
@@ -126,7 +134,7 @@ module _ (b : List ℕ) {t : Trouble} (e : t ≡ joinedTrouble b) where
 pub record Counting (c : Carrier) (area : List ℕ) (at n : ℕ) : Type 0 where
   pub bodies : List (List ℕ)
   pub walked : Walked c area at bodies
-  pub counted : n ≡ discardedIn (map (λ (b : List ℕ). single (outcomeOf c b)) bodies)
+  pub counted : n ≡ discardedIn (map (alone c) bodies)
   pub few : n ≤ at
 
 module _ (c : Carrier) (area : List ℕ) where
@@ -137,7 +145,7 @@ module _ (c : Carrier) (area : List ℕ) where
     pub counting-block : {start end k : ℕ} → stepAt c area at ≡ Step.Block start end → k ≡ discardsBody c (part start end area)
         → Counting c area end (n + k)
     counting-block {start} {end} {k} e q =
-        let f : List ℕ → Yield = λ b. single (outcomeOf c b) in
+        let f : List ℕ → Yield = alone c in
         let b : List ℕ = part start end area in
         record {
           bodies = g .bodies ++ (b ∷ []);
@@ -158,7 +166,7 @@ module _ (c : Carrier) (area : List ℕ) where
 
     pub counting-end : isJoined c ≡ false → stepAt c area at ≡ Step.End → Counted c (frame c area) n
     counting-end j e =
-        let of : Bool → List ℕ → Yield = λ t b. cond t (joinedYield b) (single (outcomeOf c b)) in
+        let of : Bool → List ℕ → Yield = λ t b. cond t (joinedYield b) (alone c b) in
         subst⁻¹ (λ (f : Framed). Counted c f n) (walked-end c area (g .walked) e)
         (subst⁻¹ (λ (t : Bool). n ≡ discardedIn (map (of t) (cond t (joined (g .bodies)) (g .bodies)))) j (g .counted))
 

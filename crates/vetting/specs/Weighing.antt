@@ -12,13 +12,15 @@ use Rattle.carriers.specs.Carriers.{isJoined}
 use Rattle.blocks.specs.Block.{Fields, headWith, fieldsOf}
 use Rattle.judge.specs.declared.Side.the-variants.{Writing}
 use Rattle.judge.specs.declared.Judged.{Judged}
-use Rattle.judge.specs.Judge.{judgedOf, faultOf}
+use Rattle.judge.specs.Place.{judged, from}
+use Rattle.judge.specs.Judge.{judgedBy}
 use Rattle.layouts.specs.Layouts.{ownOption, instanceOf, streamOf}
 use Rattle.layouts.specs.Writable.{optionOctets, instanceOctets, mostAddresses, mostBody}
 use Rattle.taking.specs.declared.Spot.{Spot}
 use Rattle.taking.specs.Taking.{Taken, refuse, sheet, takeOf}
 use Rattle.taking.specs.Sheet.{FitsRecord}
 use Rattle.taking.specs.Standing.{Standing}
+use Rattle.sheets.specs.Sheets.{frontSize}
 use Rattle.vetting.specs.declared.Weighed.{Weighed}
 use Rattle.vetting.specs.Vetting.{firstFault, large, anyLarge}
 
@@ -46,10 +48,6 @@ cutAt lifetime s p =
     (take (p .addresses + p .alen - p .addresses) (drop (p .addresses) s))
     (take (p .parameters + p .plen - p .parameters) (drop (p .parameters) s))
 
--- the judge's answer
-abbrev pub judgedBy : Carrier → Fields → Judged
-judgedBy c r = judgedOf Writing c (r .priority) (r .name) (r .full) (r .addresses) (r .parameters)
-
 -- a record's share of the octets: in carrier 1 its instance, else its option or attribute
 abbrev pub shareOf : Carrier → Fields → List ℕ
 shareOf c r = cond (isJoined c) (instanceOf r) (ownOption c r)
@@ -74,31 +72,33 @@ pub record Light (n a p : ℕ) : Type 0 where
 abbrev pub most : ℕ
 most = 4 + mostBody
 
--- with a fault nothing else is found
-abbrev pub faultAlone : ℕ → Weighed
-faultAlone k = record { fault = k; large = false; size = 0 }
+-- with a fault nothing but its place is found
+abbrev pub faultAlone : Judged → Weighed
+faultAlone j = record { fault = j .fault; place = j .place; large = false; size = 0 }
 
--- of one record: its fault; or 0, whether it is large, and its octets
-pub record WeighsOne (c : Carrier) (r : Fields) (w : Weighed) : Type 0 where
-  pub first : w .fault ≡ faultOf Writing c r
+-- the fault that is found, and its place
+abbrev pub foundBy : Weighed → Judged
+foundBy w = judged (w .fault) (w .place)
+
+-- of one record, whose name stands at an index of the sheet: its fault; or 0, whether it is large, and its octets
+pub record WeighsOne (c : Carrier) (at : ℕ) (r : Fields) (w : Weighed) : Type 0 where
+  pub first : foundBy w ≡ from at (judgedBy Writing c r)
   pub large-is : w .fault ≡ 0 → w .large ≡ large c r
   pub size-is : w .fault ≡ 0 → w .size ≡ length (shareOf c r)
-  pub alone : (w .fault ≡ 0 → ⊥) → w ≡ faultAlone (w .fault)
   pub small : w .size ≤ most
 
--- of all records
+-- of all records, the first of which stands after the sheet's head
 pub record Weighs (c : Carrier) (rs : List Fields) (w : Weighed) : Type 0 where
-  pub first : w .fault ≡ firstFault c rs
+  pub first : foundBy w ≡ firstFault c frontSize rs
   pub large-is : w .fault ≡ 0 → w .large ≡ anyLarge c rs
   pub size-is : w .fault ≡ 0 → w .size ≡ length (streamOf c rs)
-  pub alone : (w .fault ≡ 0 → ⊥) → w ≡ faultAlone (w .fault)
 
 -- of the records rs those before an index have no fault; `large` and `size` are what is found of them
 pub record Weighing (c : Carrier) (s : List ℕ) (rs : List Fields) (at : ℕ) (large : Bool) (size : ℕ) : Type 0 where
   pub rest : List Fields
   pub standing : Standing c s at rest
   pub fits : All (FitsRecord c) rest
-  pub faults : firstFault c rs ≡ firstFault c rest
+  pub faults : firstFault c frontSize rs ≡ firstFault c at rest
   pub larges : anyLarge c rs ≡ (large || anyLarge c rest)
   pub sizes : length (streamOf c rs) ≡ size + length (streamOf c rest)
   pub small : size + most * length rest ≤ most * limit.records

@@ -4,11 +4,11 @@ use mathlib.Core.Bool.{Bool, true, false, cond, _||_, or-assoc, or-false}
 use mathlib.Core.List.{List, [], _∷_, _++_, map}
 use Prim.Native.Nat.{ℕ, suc, _+_, _-_, _*_, _≤_, _<_}
 use native.Mathlib.Omega.{arith}
-use borrow.Author.Tests.{eq-eqb, ne-eqb, eqb-true, eqb-false}
-use lib.ListN.{length, take, drop, length-append, length-drop}
-use lib.Seq.{length-take-le}
-use lib.Dec.{ltb, eqb}
+use borrow.Author.Tests.{eq-eqb, ne-eqb}
+use lib.ListN.{length, take, drop, length-append}
+use lib.Dec.{ltb}
 use Rattle.numbers.specs.Limit as limit
+use Rattle.octets.specs.Cases.{by-equal}
 use Rattle.octets.specs.Lists.{All, flat}
 use Rattle.octets.specs.Numbers.{Bytes}
 use Rattle.carriers.specs.declared.Carrier.{Carrier}
@@ -20,23 +20,26 @@ use Rattle.names.specs.Right.{three}
 use Rattle.blocks.specs.Block.{Fields, optionSize}
 use Rattle.judge.specs.declared.Side.the-variants.{Writing}
 use Rattle.judge.specs.declared.Judged.{Judged}
-use Rattle.judge.specs.Judge.{faultOf}
+use Rattle.judge.specs.Place.{judged, placeFrom, from}
+use Rattle.judge.specs.Judge.{judgedBy, faultOf}
 use Rattle.judge.specs.Passed.{Passed}
 use Rattle.judge.specs.JudgeLaws.{fault-passed, written-name}
+use Rattle.judge.specs.PlaceLaws.{place-within}
 use Rattle.layouts.specs.Writable.{overhead, optionOctets, instanceOctets}
 use Rattle.layouts.specs.Layouts.{ownOption, instanceOf, joinedOf, streamOf}
 use Rattle.layouts.specs.LayoutsLaws.{header-small, own-length, instance-length, body-small}
-use Rattle.records.specs.Records.{headSize}
+use Rattle.records.specs.Records.{headSize, recordOf}
 use Rattle.sheets.specs.Sheets.{frontSize}
 use Rattle.taking.specs.declared.Spot.{Spot}
 use Rattle.taking.specs.Sheet.{FitsTail, FitsRecord, IsSheet}
 use Rattle.taking.specs.Spot.{spotOf, fieldsAt, Inside}
+use Rattle.taking.specs.SpotLaws.{name-length, addresses-length, parameters-length, spot-name, spot-next}
 use Rattle.taking.specs.Standing.{Step}
-use Rattle.taking.specs.StandingLaws.{standing-none, standing-step, taken-standing}
+use Rattle.taking.specs.StandingLaws.{stands-is, standing-none, standing-step, taken-standing}
 use Rattle.taking.specs.Exactly.{taken-sheet}
 use Rattle.vetting.specs.declared.Weighed.{Weighed}
 use Rattle.vetting.specs.Vetting.{firstFault, large, anyLarge, largeBy}
-use Rattle.vetting.specs.Weighing.{recordsOf, TakenAs, cutAt, judgedBy, shareOf, shareOctets, weightOf, Light, most, faultAlone, WeighsOne, Weighs, Weighing}
+use Rattle.vetting.specs.Weighing.{recordsOf, TakenAs, cutAt, shareOf, shareOctets, weightOf, Light, most, faultAlone, foundBy, WeighsOne, Weighs, Weighing}
 
 -- ---- octets
 
@@ -114,18 +117,12 @@ passed-light c r f e =
     go h k false u t p = record { some = h; name = k; addresses = rw (t .0) (omega arith); parameters = rw (t .1) (omega arith) }
 
 -- so are records that have a place in a sheet and no fault, one after another
-pub stream-small : (c : Carrier) (rs : List Fields) → All (FitsRecord c) rs → firstFault c rs ≡ 0 → length (streamOf c rs) ≤ most * length rs
-unfolding firstFault
+pub stream-small : (c : Carrier) (rs : List Fields) → All (FitsRecord c) rs → All (λ r. faultOf Writing c r ≡ 0) rs → length (streamOf c rs) ≤ most * length rs
 stream-small c [] f e = omega (arith, ap length (stream-none c))
-stream-small c (r ∷ rs) f e = go (eqb (faultOf Writing c r) 0) refl (stream-small c rs (f .1)) e
-  where
-    go : (none : Bool) → eqb (faultOf Writing c r) 0 ≡ none → (firstFault c rs ≡ 0 → length (streamOf c rs) ≤ most * length rs)
-        → cond none (firstFault c rs) (faultOf Writing c r) ≡ 0 → length (streamOf c (r ∷ rs)) ≤ most * suc (length rs)
-    go true t ih e =
-        let l = passed-light c r (f .0) (eqb-true _ _ t) in
-        let k = share-small c (r .full) (length (r .name)) (length (r .addresses)) (length (r .parameters)) in
-        omega (arith, stream-length c r rs, share-length c r, k, l, ih e)
-    go false t ih e = absurd (eqb-false _ _ t e)
+stream-small c (r ∷ rs) f e =
+    let l = passed-light c r (f .0) (e .0) in
+    let k = share-small c (r .full) (length (r .name)) (length (r .addresses)) (length (r .parameters)) in
+    omega (arith, stream-length c r rs, share-length c r, k, l, stream-small c rs (f .1) (e .1))
 
 -- ---- the fields that stand at a spot, as the code cuts them out
 
@@ -133,9 +130,6 @@ cut-out : (s : List ℕ) (a n : ℕ) → take (a + n - a) (drop a s) ≡ take n 
 cut-out s a n =
     let e : a + n - a ≡ n = omega arith in
     ap (λ (m : ℕ). take m (drop a s)) e
-
-part-length : (s : List ℕ) (a n : ℕ) → a + n ≤ length s → length (take n (drop a s)) ≡ n
-part-length s a n h = length-take-le n (drop a s) (rw (length-drop a s) (omega arith))
 
 -- whatever the index of the record is
 pub inside-any : {n at : ℕ} {p : Spot} → Inside n at p → Inside n 0 p
@@ -151,82 +145,89 @@ module _ (s : List ℕ) (p : Spot) where
   pub fields-cut : cutAt (p .lifetime) s p ≡ fieldsAt s p
   fields-cut = rw (cut-out s (p .name) (p .nlen), cut-out s (p .addresses) (p .alen), cut-out s (p .parameters) (p .plen))
 
-  module _ (i : Inside (length s) 0 p) where
-    name-length : length (fieldsAt s p .name) ≡ p .nlen
-    name-length = part-length s (p .name) (p .nlen) (i .name)
+  module _ (i : Inside (length s) 0 p) (c : Carrier) where
+    pub light-at : FitsRecord c (fieldsAt s p) → faultOf Writing c (fieldsAt s p) ≡ 0 → Light (p .nlen) (p .alen) (p .plen)
+    light-at f e = rw (name-length s p i, addresses-length s p i, parameters-length s p i) at (passed-light c (fieldsAt s p) f e)
 
-    addresses-length : length (fieldsAt s p .addresses) ≡ p .alen
-    addresses-length = part-length s (p .addresses) (p .alen) (i .addresses)
-
-    parameters-length : length (fieldsAt s p .parameters) ≡ p .plen
-    parameters-length = part-length s (p .parameters) (p .plen) (i .parameters)
-
-    module _ (c : Carrier) where
-      pub light-at : FitsRecord c (fieldsAt s p) → faultOf Writing c (fieldsAt s p) ≡ 0 → Light (p .nlen) (p .alen) (p .plen)
-      light-at f e = rw (name-length, addresses-length, parameters-length) at (passed-light c (fieldsAt s p) f e)
-
-      weight-at : weightOf c (fieldsAt s p) ≡ shareOctets c (p .full) (p .nlen) (p .alen) (p .plen)
-      weight-at = rw (name-length, addresses-length, parameters-length)
+    weight-at : weightOf c (fieldsAt s p) ≡ shareOctets c (p .full) (p .nlen) (p .alen) (p .plen)
+    weight-at = rw (name-length s p i, addresses-length s p i, parameters-length s p i)
 
 -- ---- one record
 
-module _ (c : Carrier) (s : List ℕ) (p : Spot) {j : Judged} (judged : j ≡ judgedBy c (cutAt (p .lifetime) s p)) where
-  pub judged-at : j .fault ≡ faultOf Writing c (fieldsAt s p)
-  judged-at = ap (λ (j : Judged). j .fault) judged ∙ ap (faultOf Writing c) (fields-cut s p)
+-- where there is no fault there is no place
+none-from : (n : ℕ) (j : Judged) → j .fault ≡ 0 → from n j ≡ judged 0 0
+none-from n j z = rw z
 
-  pub weighs-faulty : {w : Weighed} → (j .fault ≡ 0 → ⊥) → w ≡ faultAlone (j .fault) → WeighsOne c (fieldsAt s p) w
-  weighs-faulty n e =
+module _ (c : Carrier) (s : List ℕ) (p : Spot) {j : Judged} (is : j ≡ judgedBy Writing c (cutAt (p .lifetime) s p)) where
+  same-judged : j ≡ judgedBy Writing c (fieldsAt s p)
+  same-judged = is ∙ ap (judgedBy Writing c) (fields-cut s p)
+
+  pub judged-at : j .fault ≡ faultOf Writing c (fieldsAt s p)
+  judged-at = ap (λ (j : Judged). j .fault) same-judged
+
+  -- the place is in the sheet
+  pub place-inside : Inside (length s) 0 p → p .name + j .place ≤ length s
+  place-inside i =
+      let h : j .place ≤ length (fieldsAt s p .name) = rw same-judged (place-within Writing c (fieldsAt s p)) in
+      omega (arith, h, name-length s p i, i .name)
+
+  pub weighs-faulty : {place : ℕ} {w : Weighed} → (j .fault ≡ 0 → ⊥) → place ≡ placeFrom (p .name) (j .fault) (j .place)
+      → w ≡ faultAlone (judged (j .fault) place) → WeighsOne c (p .name) (fieldsAt s p) w
+  weighs-faulty n q e =
       let k = ap (λ (x : Weighed). x .fault) e in
       record {
-        first = k ∙ judged-at;
+        first = ap foundBy e ∙ ap (judged (j .fault)) q ∙ ap (from (p .name)) same-judged;
         large-is = λ o. absurd (n (sym k ∙ o));
         size-is = λ o. absurd (n (sym k ∙ o));
-        alone = λ _. e ∙ ap faultAlone (sym k);
         small = omega (arith, ap (λ (x : Weighed). x .size) e);
       }
 
-  pub weighs-passed : {w : Weighed} → Inside (length s) 0 p → FitsRecord c (fieldsAt s p) → j .fault ≡ 0 → w .fault ≡ 0
-      → w .large ≡ largeBy c (w .size) → w .size ≡ shareOctets c (p .full) (p .nlen) (p .alen) (p .plen) → WeighsOne c (fieldsAt s p) w
+  pub weighs-passed : {w : Weighed} → Inside (length s) 0 p → FitsRecord c (fieldsAt s p) → j .fault ≡ 0 → foundBy w ≡ judged 0 0
+      → w .large ≡ largeBy c (w .size) → w .size ≡ shareOctets c (p .full) (p .nlen) (p .alen) (p .plen) → WeighsOne c (p .name) (fieldsAt s p) w
   weighs-passed {w} i f z e l k =
       let n : faultOf Writing c (fieldsAt s p) ≡ 0 = sym judged-at ∙ z in
       let m : w .size ≡ weightOf c (fieldsAt s p) = k ∙ sym (weight-at s p i c) in
       let h : Light (p .nlen) (p .alen) (p .plen) = light-at s p i c f n in
       record {
-        first = e ∙ sym n;
+        first = e ∙ sym (none-from (p .name) (judgedBy Writing c (fieldsAt s p)) n);
         large-is = λ _. l ∙ ap (largeBy c) m ∙ large-by c (fieldsAt s p);
         size-is = λ _. m ∙ sym (share-length c (fieldsAt s p));
-        alone = λ o. absurd (o e);
         small = omega (arith, k, share-small c (p .full) (p .nlen) (p .alen) (p .plen), h);
       }
 
 -- ---- the pass
 
-module _ (c : Carrier) (r : Fields) (rs : List Fields) where
-  first-passed : faultOf Writing c r ≡ 0 → firstFault c (r ∷ rs) ≡ firstFault c rs
+module _ (c : Carrier) (at : ℕ) (r : Fields) (rs : List Fields) where
+  pub first-passed : faultOf Writing c r ≡ 0 → firstFault c at (r ∷ rs) ≡ firstFault c (at + length (recordOf c r)) rs
   unfolding firstFault
   first-passed e = rw (eq-eqb (faultOf Writing c r) 0 e)
 
-  first-faulty : (faultOf Writing c r ≡ 0 → ⊥) → firstFault c (r ∷ rs) ≡ faultOf Writing c r
+  pub first-faulty : (faultOf Writing c r ≡ 0 → ⊥) → firstFault c at (r ∷ rs) ≡ from (at + headSize) (judgedBy Writing c r)
   unfolding firstFault
   first-faulty n = rw (ne-eqb (faultOf Writing c r) 0 n)
 
-  large-one : anyLarge c (r ∷ rs) ≡ (large c r || anyLarge c rs)
-  unfolding anyLarge
-  large-one = refl
-
-first-none : (c : Carrier) → firstFault c [] ≡ 0
+first-none : (c : Carrier) (at : ℕ) → firstFault c at [] ≡ judged 0 0
 unfolding firstFault
-first-none c = refl
+first-none c at = refl
+
+large-one : (c : Carrier) (r : Fields) (rs : List Fields) → anyLarge c (r ∷ rs) ≡ (large c r || anyLarge c rs)
+unfolding anyLarge
+large-one c r rs = refl
+
+-- where none is found, no record has one
+pub first-faultless : (c : Carrier) (at : ℕ) (rs : List Fields) → firstFault c at rs .fault ≡ 0 → All (λ r. faultOf Writing c r ≡ 0) rs
+unfolding firstFault
+first-faultless c at [] = λ _. tt
+first-faultless c at (r ∷ rs) =
+    let next : ℕ = at + length (recordOf c r) in
+    by-equal (λ j. j .fault ≡ 0 → All (λ r. faultOf Writing c r ≡ 0) (r ∷ rs)) (faultOf Writing c r) 0 (firstFault c next rs)
+    (from (at + headSize) (judgedBy Writing c r))
+    (λ z e. (z, first-faultless c next rs e))
+    (λ n e. absurd (n e))
 
 large-none : (c : Carrier) → anyLarge c [] ≡ false
 unfolding anyLarge
 large-none c = refl
-
--- what stands at a step is its first record
-pub step-fields : {c : Carrier} {s : List ℕ} {at : ℕ} {rs : List Fields} {p : Spot} (t : Step c s at rs p) → fieldsAt s p ≡ t .first
-step-fields t =
-    let h = t .stands in
-    rw (h .priority, h .lifetime, h .full, h .name, h .addresses, h .parameters)
 
 pub weighing-start : (c : Carrier) (s : List ℕ) → Bytes s → TakenAs c s → Weighing c s (recordsOf s) frontSize false 0
 weighing-start c s octets e =
@@ -251,7 +252,7 @@ module _ {c : Carrier} {s : List ℕ} {rs : List Fields} {at size : ℕ} {big : 
   rest-fits = subst (All (FitsRecord c)) (weighing-step .are) (w .fits)
 
   pub weighing-fits : FitsRecord c (fieldsAt s p)
-  weighing-fits = subst⁻¹ (FitsRecord c) (step-fields weighing-step) (rest-fits .0)
+  weighing-fits = subst⁻¹ (FitsRecord c) (stands-is (weighing-step .stands)) (rest-fits .0)
 
   pub weighing-inside : Inside (length s) at p
   weighing-inside = weighing-step .stands .inside
@@ -259,35 +260,46 @@ module _ {c : Carrier} {s : List ℕ} {rs : List Fields} {at size : ℕ} {big : 
   pub weighing-further : at + headSize ≤ p .next
   weighing-further = weighing-inside .further (weighing-step .stands .good)
 
-  module _ {one : Weighed} (o : WeighsOne c (fieldsAt s p) one) where
-    first-is : one .fault ≡ faultOf Writing c (weighing-step .first)
-    first-is = o .first ∙ ap (faultOf Writing c) (step-fields weighing-step)
+  name-at : p .name ≡ at + headSize
+  name-at = spot-name c s at e (omega arith) (weighing-step .stands .good)
 
-    pub weighing-faulty : {r : Weighed} → (one .fault ≡ 0 → ⊥) → r ≡ faultAlone (one .fault) → Weighs c rs r
+  next-at : p .next ≡ at + length (recordOf c (weighing-step .first))
+  next-at = spot-next c s at e (omega arith) (weighing-step .stands .good) ∙ ap (λ (r : Fields). at + length (recordOf c r)) (stands-is (weighing-step .stands))
+
+  module _ {one : Weighed} (o : WeighsOne c (p .name) (fieldsAt s p) one) where
+    first-is : foundBy one ≡ from (at + headSize) (judgedBy Writing c (weighing-step .first))
+    first-is =
+        o .first
+        ∙ ap (λ (n : ℕ). from n (judgedBy Writing c (fieldsAt s p))) name-at
+        ∙ ap (λ (r : Fields). from (at + headSize) (judgedBy Writing c r)) (stands-is (weighing-step .stands))
+
+    fault-is : one .fault ≡ faultOf Writing c (weighing-step .first)
+    fault-is = ap (λ (j : Judged). j .fault) first-is
+
+    pub weighing-faulty : {r : Weighed} → (one .fault ≡ 0 → ⊥) → r ≡ faultAlone (foundBy one) → Weighs c rs r
     weighing-faulty n e =
         let k = ap (λ (x : Weighed). x .fault) e in
         let t = weighing-step in
-        let f = first-faulty c (t .first) (t .rest) (λ q. n (first-is ∙ q)) in
+        let f = first-faulty c at (t .first) (t .rest) (λ q. n (fault-is ∙ q)) in
         record {
-          first = k ∙ first-is ∙ sym f ∙ ap (firstFault c) (sym (t .are)) ∙ sym (w .faults);
+          first = ap foundBy e ∙ first-is ∙ sym f ∙ ap (firstFault c at) (sym (t .are)) ∙ sym (w .faults);
           large-is = λ q. absurd (n (sym k ∙ q));
           size-is = λ q. absurd (n (sym k ∙ q));
-          alone = λ _. e ∙ ap faultAlone (sym k);
         }
 
     pub weighing-next : {l : Bool} → one .fault ≡ 0 → l ≡ (big || one .large) → Weighing c s rs (p .next) l (size + one .size)
     weighing-next {l} z k =
         let t = weighing-step in
         let r : Fields = t .first in
-        let f = first-passed c r (t .rest) (sym first-is ∙ z) in
-        let lr : one .large ≡ large c r = o .large-is z ∙ ap (large c) (step-fields t) in
-        let sr : one .size ≡ length (shareOf c r) = o .size-is z ∙ ap (λ (x : Fields). length (shareOf c x)) (step-fields t) in
+        let f = first-passed c at r (t .rest) (sym fault-is ∙ z) in
+        let lr : one .large ≡ large c r = o .large-is z ∙ ap (large c) (stands-is (t .stands)) in
+        let sr : one .size ≡ length (shareOf c r) = o .size-is z ∙ ap (λ (x : Fields). length (shareOf c x)) (stands-is (t .stands)) in
         let n : length (w .rest) ≡ suc (length (t .rest)) = ap length (t .are) in
         record {
           rest = t .rest;
           standing = t .standing;
           fits = rest-fits .1;
-          faults = w .faults ∙ ap (firstFault c) (t .are) ∙ f;
+          faults = w .faults ∙ ap (firstFault c at) (t .are) ∙ f ∙ ap (λ (n : ℕ). firstFault c n (t .rest)) (sym next-at);
           larges =
               w .larges
               ∙ ap (λ (x : List Fields). big || anyLarge c x) (t .are)
@@ -301,11 +313,11 @@ module _ {c : Carrier} {s : List ℕ} {rs : List Fields} {at size : ℕ} {big : 
 
 -- at the sheet's end
 pub weighing-end : {c : Carrier} {s : List ℕ} {rs : List Fields} {at size : ℕ} {big : Bool} {r : Weighed} → Weighing c s rs at big size → length s ≤ at
-    → r .fault ≡ 0 → r .large ≡ big → r .size ≡ size → Weighs c rs r
+    → foundBy r ≡ judged 0 0 → r .large ≡ big → r .size ≡ size → Weighs c rs r
 weighing-end {c} {s} {rs} {at} {size} {big} w h e l k =
     let z : w .rest ≡ [] = standing-none (w .standing) h in
     record {
-      first = e ∙ sym (first-none c) ∙ ap (firstFault c) (sym z) ∙ sym (w .faults);
+      first = e ∙ sym (first-none c at) ∙ ap (firstFault c at) (sym z) ∙ sym (w .faults);
       large-is = λ _.
           l
           ∙ sym (or-false big)
@@ -313,5 +325,4 @@ weighing-end {c} {s} {rs} {at} {size} {big} w h e l k =
           ∙ ap (λ (x : List Fields). big || anyLarge c x) (sym z)
           ∙ sym (w .larges);
       size-is = λ _. omega (arith, k, w .sizes, ap (λ (x : List Fields). length (streamOf c x)) z, ap length (stream-none c));
-      alone = λ q. absurd (q e);
     }

@@ -5,6 +5,7 @@ ghost use mathlib.Core.Path.{_≡_};
 ghost use mathlib.Core.Bool.{_||_};
 ghost use Prim.Native.Nat.{_+_, _≤_, _<_};
 ghost use lib.ListN.{length};
+ghost use Rattle.judge.specs.Place.{judged};
 ghost use Rattle.taking.specs.Sheet.{FitsRecord};
 ghost use Rattle.taking.specs.Spot.{fieldsAt, Inside};
 ghost use Rattle.vetting.specs.Vetting.{vetRecords, vetOf, told, largeBy};
@@ -17,8 +18,11 @@ use taking::Took;
 
 // What vetting a sheet answers.
 pub enum Vetted {
-    // The number of the first test that fails.
-    Refused(usize),
+    // The number of the first test that fails; of 22 the place in the sheet at which the name is wrong, else 0.
+    Refused {
+        number: usize,
+        place: usize,
+    },
     // A sheet of `count` records, which take `size` octets one after another; `large`: one of them is too large for its carrier (44).
     Sheet {
         carrier: Carrier,
@@ -28,18 +32,20 @@ pub enum Vetted {
     },
 }
 
-// What weighing finds: the first fault; or 0, whether a record is large, and the octets of the records.
+// What weighing finds: the first fault and, of 22, its place in the sheet; or 0, whether a record is large, and the octets of the records.
 struct Weighed {
     fault: usize,
+    place: usize,
     large: bool,
     size: usize,
 }
 
-fn faulty(fault: usize) -> Weighed
-    ensures { λ r. ⌜ r ≡ faultAlone fault ⌝ }
+fn faulty(fault: usize, place: usize) -> Weighed
+    ensures { λ r. ⌜ r ≡ faultAlone (judged fault place) ⌝ }
 {
     Weighed {
         fault,
+        place,
         large: false,
         size: 0,
     }
@@ -79,7 +85,7 @@ fn either(a: bool, b: bool) -> bool
 fn weigh_record(c: Carrier, s: &[u8], p: Spot) -> Weighed
     requires { ⌜ Inside (length (now s)) 0 p ⌝ }
     requires { ⌜ FitsRecord c (fieldsAt (now s) p) ⌝ }
-    ensures { λ r. ⌜ WeighsOne c (fieldsAt (now (s .entry)) p) r ⌝ }
+    ensures { λ r. ⌜ WeighsOne c (p .name) (fieldsAt (now (s .entry)) p) r ⌝ }
 {
     let name_from = p.name;
     let name_end = name_from + p.nlen;
@@ -98,11 +104,12 @@ fn weigh_record(c: Carrier, s: &[u8], p: Spot) -> Weighed
     );
     let fault = judged.fault;
     if fault != 0 {
-        return faulty(fault);
+        return faulty(fault, judge::place_from(name_from, fault, judged.place));
     }
     let size = share_size(c, p.full, p.nlen, p.alen, p.plen);
     Weighed {
         fault: 0,
+        place: 0,
         large: is_large(c, size),
         size,
     }
@@ -121,7 +128,7 @@ fn weigh(c: Carrier, s: &[u8]) -> Weighed
         let one = weigh_record(c, s, p);
         let fault = one.fault;
         if fault != 0 {
-            return faulty(fault);
+            return faulty(fault, one.place);
         }
         large = either(large, one.large);
         size += one.size;
@@ -129,6 +136,7 @@ fn weigh(c: Carrier, s: &[u8]) -> Weighed
     }
     Weighed {
         fault: 0,
+        place: 0,
         large,
         size,
     }
@@ -143,7 +151,10 @@ fn vet_records(c: Carrier, s: &[u8], count: usize) -> Vetted
     let w = weigh(c, s);
     let fault = w.fault;
     if fault != 0 {
-        return Vetted::Refused(fault);
+        return Vetted::Refused {
+            number: fault,
+            place: w.place,
+        };
     }
     Vetted::Sheet {
         carrier: c,
@@ -158,7 +169,7 @@ pub fn vet(s: &[u8]) -> Vetted
     ensures { λ r. ⌜ r ≡ told (vetOf (now (s .entry))) ⌝ }
 {
     match taking::take(s) {
-        Took::Refused(k) => Vetted::Refused(k),
+        Took::Refused(number) => Vetted::Refused { number, place: 0 },
         Took::Sheet { carrier, count } => vet_records(carrier, s, count),
     }
 }

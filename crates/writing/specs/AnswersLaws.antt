@@ -5,16 +5,15 @@ use mathlib.Core.List.{List}
 use Prim.Native.Nat.{ℕ}
 use lib.ListN.{length}
 use Rattle.octets.specs.Numbers.{Bytes}
-use Rattle.written.specs.Octets.{Answer}
+use Rattle.answers.specs.declared.Result.{Result}
+use Rattle.answers.specs.Answers.{Answer, Writes}
+use Rattle.answers.specs.AnswersLaws.{writes-as}
 use Rattle.written.specs.Writing.{writeOf}
 use Rattle.written.specs.Answers.{Answers}
 use Rattle.written.specs.AnswersLaws.{write-exactly}
-use Rattle.writing.specs.declared.Writing.{Writing}
-use Rattle.writing.specs.Writes.{Writes}
-use Rattle.writing.specs.WritesLaws.{writes-as}
 
 -- whatever a call of `write` returned and left is what one of the answers that stand there says
-pub call-writes : (s out out′ : List ℕ) (w : Writing) → Bytes s
+pub call-writes : (s out out′ : List ℕ) (w : Result) → Bytes s
     → Writes (writeOf s (length out)) out w out′ ↔ ((a : Answer) × Answers s (length out) a × Writes a out w out′)
 call-writes s out out′ w octets = (
   λ g. (writeOf s (length out), write-exactly s (length out) (writeOf s (length out)) octets .0 refl, g),

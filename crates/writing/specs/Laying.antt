@@ -18,7 +18,7 @@ use Rattle.written.specs.Accepted.{Sound, Accepted}
 -- ---- a vetted sheet
 
 abbrev pub recordsIn : Vetted → List Fields
-recordsIn (refuse k) = []
+recordsIn (refuse k p) = []
 recordsIn (sheet c rs) = rs
 
 -- the records of the sheet s

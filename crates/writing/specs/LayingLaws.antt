@@ -26,10 +26,10 @@ use Rattle.sheets.specs.Sheets.{frontSize}
 use Rattle.taking.specs.declared.Spot.{Spot}
 use Rattle.taking.specs.Spot.{spotOf, fieldsAt, Inside}
 use Rattle.taking.specs.Standing.{Step}
-use Rattle.taking.specs.StandingLaws.{standing-none, standing-step, taken-standing}
+use Rattle.taking.specs.StandingLaws.{stands-is, standing-none, standing-step, taken-standing}
 use Rattle.taking.specs.Exactly.{sheet-taken}
 use Rattle.vetting.specs.Weighing.{cutAt, shareOf}
-use Rattle.vetting.specs.WeighingLaws.{stream-none, stream-one, step-fields, fields-cut}
+use Rattle.vetting.specs.WeighingLaws.{stream-none, stream-one, fields-cut}
 use Rattle.written.specs.Octets.{octetsOf}
 use Rattle.written.specs.Accepted.{Sound}
 use Rattle.written.specs.AcceptedLaws.{writable}
@@ -137,7 +137,7 @@ module _ {c : Carrier} {s : List ℕ} {rs : List Fields} {from at o : ℕ} {out 
     rest-sound = subst (All (Sound c)) (laying-step .are) (w .sound)
 
     pub laying-writable : Writable c (fieldsAt s p)
-    laying-writable = subst⁻¹ (Writable c) (step-fields laying-step) (writable c (laying-step .first) (rest-sound .0))
+    laying-writable = subst⁻¹ (Writable c) (stands-is (laying-step .stands)) (writable c (laying-step .first) (rest-sound .0))
 
     -- what is laid, this record and what follows
     laying-parts : streamOf c rs ≡ (w .done ++ shareOf c (fieldsAt s p)) ++ streamOf c (laying-step .rest)
@@ -146,7 +146,7 @@ module _ {c : Carrier} {s : List ℕ} {rs : List Fields} {from at o : ℕ} {out 
         w .are
         ∙ ap (λ (x : List Fields). w .done ++ streamOf c x) (t .are)
         ∙ ap (λ (x : List ℕ). w .done ++ x) (stream-one c (t .first) (t .rest))
-        ∙ ap (λ (x : Fields). w .done ++ (shareOf c x ++ streamOf c (t .rest))) (sym (step-fields t))
+        ∙ ap (λ (x : Fields). w .done ++ (shareOf c x ++ streamOf c (t .rest))) (sym (stands-is (t .stands)))
         ∙ sym (append-assoc (w .done) (shareOf c (fieldsAt s p)) (streamOf c (t .rest)))
 
     pub laying-room : o + length (shareOf c (fieldsAt s p)) ≤ length out′

@@ -1,5 +1,5 @@
--- Each way out of the call agrees with `writeOf`, and what the call wrote fits its buffer. Assumes nothing.
-use mathlib.Core.Path.{_≡_, refl, sym, ap, _∙_, subst⁻¹}
+-- Each way out of the call agrees with `writeOf`. Assumes nothing.
+use mathlib.Core.Path.{_≡_, sym, ap, _∙_}
 use mathlib.Core.Bool.{Bool, true, false}
 use mathlib.Core.List.{List}
 use Prim.Native.Nat.{ℕ, _*_, _≤_, _<_}
@@ -7,8 +7,6 @@ use native.Mathlib.Omega.{arith}
 use borrow.Author.Tests.{lt-ltb, le-ltb}
 use lib.ListN.{length}
 use Rattle.octets.specs.Numbers.{Bytes}
-use Rattle.octets.specs.Over.{Wrote}
-use Rattle.octets.specs.OverLaws.{over-fits}
 use Rattle.numbers.specs.Refusal as refusal
 use Rattle.numbers.specs.Limit as limit
 use Rattle.carriers.specs.declared.Carrier.{Carrier}
@@ -18,40 +16,16 @@ use Rattle.vetting.specs.Vetting as vetting
 use Rattle.vetting.specs.Weighing.{most}
 use Rattle.vetting.specs.VettingLaws.{told-refused, told-sheet, vetted-small}
 use Rattle.written.specs.Writing.{writeRecords, writeVetted, writeOf}
-use Rattle.written.specs.Octets.{octetsOf, Answer, refuse, written, numberIn}
+use Rattle.answers.specs.Answers.{refuse, written}
+use Rattle.written.specs.Octets.{octetsOf}
 use Rattle.written.specs.AcceptedLaws.{vetted-accepted}
-use Rattle.writing.specs.declared.Writing.{Writing}
-use Rattle.writing.specs.Writes.{told, left, Writes}
 use Rattle.writing.specs.Laying.{recordsIn, recordsOf, Found, Ready, totalOf}
 use Rattle.writing.specs.LayingLaws.{total-octets}
-
--- ---- what the call returns and leaves
-
-pub told-number : (a : Answer) → told a .number ≡ numberIn a
-told-number (refuse k) = refl
-told-number (written bs) = refl
-
--- the same answer says the same
-pub writes-as : {a b : Answer} {out out′ : List ℕ} {r : Writing} → a ≡ b → Writes b out r out′ → Writes a out r out′
-writes-as {a} {b} {out} {out′} {r} e w = subst⁻¹ (λ (x : Answer). Writes x out r out′) e w
-
-pub writes-written : {bs out out′ : List ℕ} {n : ℕ} → Wrote 0 bs out n out′ → Writes (written bs) out (record { number = 0; length = n }) out′
-writes-written {bs} {out} {out′} {n} w =
-    let e : n ≡ length bs = omega (arith, w .next) in
-    record { numbers = rw e refl; leaves = w .laid }
-
--- what the call wrote fits its buffer, which keeps its length
-pub writes-fits : (a : Answer) {out out′ : List ℕ} {r : Writing} → Writes a out r out′ → length out′ ≡ length out → r .length ≤ length out′
-writes-fits a {out} {out′} {r} w e = rw (w .numbers, e) (go a (w .leaves))
-  where
-    go : (a : Answer) → out′ ≡ left a out → told a .length ≤ length out
-    go (refuse k) l = omega arith
-    go (written bs) l = over-fits bs out (sym (ap length l) ∙ e)
 
 -- ---- 2, 40, 41, 42, 4, 43, 21 to 28
 
 module _ (s : List ℕ) (room : ℕ) where
-  pub write-refused : {k : ℕ} → Refused k ≡ vetting.told (vetOf s) → writeOf s room ≡ refuse k
+  pub write-refused : {k p : ℕ} → Refused k p ≡ vetting.told (vetOf s) → writeOf s room ≡ refuse k p
   unfolding writeOf
   write-refused e = rw (told-refused s e)
 
@@ -74,7 +48,7 @@ module _ {c : Carrier} {s : List ℕ} {big : Bool} {size : ℕ} (f : Found c s b
   found-ready octets l = vetted-accepted s c (recordsOf s) octets (f .vetted) (sym (f .larges) ∙ l)
 
   module _ (room : ℕ) where
-    pub records-large : big ≡ true → writeRecords c (recordsOf s) room ≡ refuse refusal.large
+    pub records-large : big ≡ true → writeRecords c (recordsOf s) room ≡ refuse refusal.large 0
     records-large l = let e : anyLarge c (recordsOf s) ≡ true = sym (f .larges) ∙ l in rw e
 
     module _ (l : big ≡ false) {total : ℕ} (t : total ≡ totalOf c size) where
@@ -84,7 +58,7 @@ module _ {c : Carrier} {s : List ℕ} {big : Bool} {size : ℕ} (f : Found c s b
       records-total : total ≡ length (octetsOf c (recordsOf s))
       records-total = t ∙ ap (totalOf c) (f .sizes) ∙ total-octets c (recordsOf s)
 
-      pub records-room : room < total → writeRecords c (recordsOf s) room ≡ refuse refusal.room
+      pub records-room : room < total → writeRecords c (recordsOf s) room ≡ refuse refusal.room 0
       records-room h =
           let k : room < length (octetsOf c (recordsOf s)) = rw records-total at h in
           rw (small, lt-ltb room (length (octetsOf c (recordsOf s))) k)

@@ -3,8 +3,7 @@
 // are its records written, in sheet order. Nothing is dropped and nothing is mended here: a record that may not be written refuses the sheet.
 ghost use mathlib.Core.Path.{_≡_};
 ghost use mathlib.Core.Bool.{true};
-ghost use mathlib.Core.List.{List};
-ghost use Prim.Native.Nat.{ℕ, _+_, _*_, _≤_};
+ghost use Prim.Native.Nat.{_+_, _*_, _≤_};
 ghost use lib.ListN.{length};
 ghost use Rattle.octets.specs.Over.{Wrote};
 ghost use Rattle.numbers.specs.Limit as limit;
@@ -14,27 +13,16 @@ ghost use Rattle.taking.specs.Spot.{fieldsAt, Inside};
 ghost use Rattle.layouts.specs.Layouts.{streamOf};
 ghost use Rattle.vetting.specs.Weighing.{shareOf, most};
 ghost use Rattle.written.specs.Writing.{writeRecords, writeOf};
-ghost use Rattle.written.specs.Octets.{octetsOf, refuse};
-ghost use Rattle.writing.specs.Writes.{Writes};
+ghost use Rattle.answers.specs.Answers.{Writes};
+ghost use Rattle.written.specs.Octets.{octetsOf};
 ghost use Rattle.writing.specs.Laying.{recordsOf, Found, Ready, totalOf, Measured};
+use answers::Result;
+use answers::refused;
 use blocks::Head;
 use carriers::Carrier;
 use numbers::Refusal;
 use taking::Spot;
 use vetting::Vetted;
-
-// What a writing gives back: 0 and the length of its octets; or a refusal's number and 0.
-#[repr(C)]
-pub struct Writing {
-    pub number: usize,
-    pub length: usize,
-}
-
-fn refused(number: usize) -> Writing
-    ensures { λ r. ⌜ ((out : List ℕ) → Writes (refuse number) out r out) ⌝ }
-{
-    Writing { number, length: 0 }
-}
 
 // ---- octets
 
@@ -125,27 +113,27 @@ fn put_octets(out: &mut [u8], c: Carrier, s: &[u8], size: usize, total: usize) -
 // ---- the call
 
 // 44, 5, or the octets of a vetted sheet of carrier `c`, whose records have `size` octets; `large`: one of them is large.
-fn write_sheet(c: Carrier, s: &[u8], large: bool, size: usize, out: &mut [u8]) -> Writing
+fn write_sheet(c: Carrier, s: &[u8], large: bool, size: usize, out: &mut [u8]) -> Result
     requires { ⌜ Found c (now s) large size ⌝ }
     ensures { λ r. ⌜ Writes (writeRecords c (recordsOf (now (s .entry))) (length (now (out .entry)))) (now (out .entry)) r (now (out .exit)) ⌝ }
 {
     let total = total_size(c, size);
     if large {
-        return refused(Refusal::LARGE);
+        return refused(Refusal::LARGE, 0);
     }
     if out.len() < total {
-        return refused(Refusal::ROOM);
+        return refused(Refusal::ROOM, 0);
     }
     let length = put_octets(out, c, s, size, total);
-    Writing { number: 0, length }
+    answers::wrote(length)
 }
 
 // Writes the octets of the record sheet `s` to `out`.
-pub fn write(s: &[u8], out: &mut [u8]) -> Writing
+pub fn write(s: &[u8], out: &mut [u8]) -> Result
     ensures { λ r. ⌜ Writes (writeOf (now (s .entry)) (length (now (out .entry)))) (now (out .entry)) r (now (out .exit)) ⌝ }
 {
     match vetting::vet(s) {
-        Vetted::Refused(k) => refused(k),
+        Vetted::Refused { number, place } => refused(number, place),
         Vetted::Sheet {
             carrier,
             large,

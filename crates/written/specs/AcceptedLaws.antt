@@ -25,6 +25,7 @@ use Rattle.judge.specs.declared.Side.the-variants.{Writing}
 use Rattle.judge.specs.Allowed.{Allowed}
 use Rattle.judge.specs.Passed.{FaultNumber}
 use Rattle.layouts.specs.Writable.{Writable, WritableTail}
+use Rattle.sheets.specs.Sheets.{frontSize}
 use Rattle.taking.specs.Sheet.{FitsTail, FitsRecord, IsSheet}
 use Rattle.taking.specs.TakenLaws.{Refusing, refusing-some}
 use Rattle.taking.specs.Exactly.{sheet-taken, sheet-once}
@@ -32,7 +33,8 @@ use Rattle.vetting.specs.Vetting.{Vetted, large, anyLarge, vetOf}
 use Rattle.vetting.specs.Vetting as vetting
 use Rattle.vetting.specs.VettingLaws.{allowed-faultless, taken-vetted, vet-exactly, vetted-by}
 use Rattle.written.specs.Writing.{writeVetted, writeOf}
-use Rattle.written.specs.Octets.{octetsOf, refuse, written, numberIn}
+use Rattle.answers.specs.Answers.{refuse, written, numberIn}
+use Rattle.written.specs.Octets.{octetsOf}
 use Rattle.written.specs.Accepted.{Sized, Sound, Accepted, Accepting}
 
 -- ---- an accepted record has room in its carrier
@@ -106,20 +108,20 @@ module _ (s : List ℕ) (c : Carrier) (rs : List Fields) where
 
   accepted-vetted : Accepted s c rs → vetOf s ≡ vetting.sheet c rs
   accepted-vetted a =
-      taken-vetted s (sheet-taken s c rs (a .is)) (allowed-faultless c rs (all-map (Sound c) (Allowed Writing c) rs (λ r k. k .allowed) (a .sound)))
+      taken-vetted s (sheet-taken s c rs (a .is)) (allowed-faultless c frontSize rs (all-map (Sound c) (Allowed Writing c) rs (λ r k. k .allowed) (a .sound)))
 
 -- ---- the call
 
 -- what writing answers to an accepted sheet: its octets, or 5
 pub accepted-writes : (s : List ℕ) (c : Carrier) (rs : List Fields) (room : ℕ) → Accepted s c rs
-    → writeOf s room ≡ cond (ltb room (length (octetsOf c rs))) (refuse refusal.room) (written (octetsOf c rs))
+    → writeOf s room ≡ cond (ltb room (length (octetsOf c rs))) (refuse refusal.room 0) (written (octetsOf c rs))
 unfolding writeOf
 accepted-writes s c rs room a = rw (accepted-vetted s c rs a, sound-small c rs (a .sound))
 
 module _ (s : List ℕ) (octets : Bytes s) (room : ℕ) where
   -- a refusal of vetting is neither
-  refused-not : (k : ℕ) → vetOf s ≡ vetting.refuse k → Accepting k → ⊥
-  refused-not k e = go (vetted-by s k e)
+  refused-not : (k p : ℕ) → vetOf s ≡ vetting.refuse k p → Accepting k → ⊥
+  refused-not k p e = go (vetted-by s k p e)
     where
       go : Refusing k ⊎ (FaultNumber k × (k ≡ 0 → ⊥)) → Accepting k → ⊥
       go (inl r) (inl z) = refusing-some k r z
@@ -138,8 +140,8 @@ module _ (s : List ℕ) (octets : Bytes s) (room : ℕ) where
   answered-accepted = go (vetOf s) refl
     where
       records : (c : Carrier) (rs : List Fields) → vetOf s ≡ vetting.sheet c rs → (big : Bool) → anyLarge c rs ≡ big
-          → Accepting (numberIn (cond big (refuse refusal.large)
-          (cond (ltb room (length (octetsOf c rs))) (refuse refusal.room)
+          → Accepting (numberIn (cond big (refuse refusal.large 0)
+          (cond (ltb room (length (octetsOf c rs))) (refuse refusal.room 0)
           (written (octetsOf c rs)))))
           → Accepted s c rs
       records c rs e true b (inl a) = absurd (omega arith)
@@ -147,13 +149,13 @@ module _ (s : List ℕ) (octets : Bytes s) (room : ℕ) where
       records c rs e false b a = vetted-accepted s c rs octets e b
 
       go : (v : Vetted) → vetOf s ≡ v → Accepting (numberIn (writeVetted v room)) → (c : Carrier) × (rs : List Fields) × Accepted s c rs
-      go (vetting.refuse k) e a = absurd (refused-not k e a)
+      go (vetting.refuse k p) e a = absurd (refused-not k p e a)
       go (vetting.sheet c rs) e a = (c, rs, records c rs e (anyLarge c rs) refl a)
 
   accepted-answered : (c : Carrier) (rs : List Fields) → Accepted s c rs → Accepting (numberIn (writeOf s room))
   accepted-answered c rs a = rw (accepted-writes s c rs room a) (go (ltb room (length (octetsOf c rs))))
     where
-      go : (b : Bool) → Accepting (numberIn (cond b (refuse refusal.room) (written (octetsOf c rs))))
+      go : (b : Bool) → Accepting (numberIn (cond b (refuse refusal.room 0) (written (octetsOf c rs))))
       go true = inr refl
       go false = inl refl
 

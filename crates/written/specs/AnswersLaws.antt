@@ -1,15 +1,15 @@
 -- What writing answers is what `Answers` says and nothing else (RULES D2). Assumes nothing.
-use mathlib.Core.Path.{_≡_, refl, sym, ap, subst, subst⁻¹, _∙_}
+use mathlib.Core.Path.{_≡_, refl, sym, ap, ap₂, subst, subst⁻¹, _∙_}
 use mathlib.Core.Logic.{_⊎_, inl, inr, _↔_}
 use mathlib.Core.Bool.{Bool, true, false, true≢false}
 use mathlib.Core.List.{List, [], _∷_}
-use Prim.Native.Nat.{ℕ, _≤_, _<_}
+use Prim.Native.Nat.{ℕ, _+_, _≤_, _<_}
 use native.Mathlib.Omega.{arith}
 use borrow.Author.Tests.{lt-ltb, le-ltb, ltb-true, ltb-false, eqb-true, eqb-false, ne-eqb}
 use lib.Dec.{ltb, eqb}
 use lib.ListN.{length, take}
 use Rattle.octets.specs.Numbers.{Bytes}
-use Rattle.octets.specs.Lists.{All}
+use Rattle.octets.specs.Lists.{All, same}
 use Rattle.numbers.specs.Refusal as refusal
 use Rattle.numbers.specs.Limit as limit
 use Rattle.carriers.specs.declared.Carrier.{Carrier}
@@ -19,20 +19,24 @@ use Rattle.carriers.specs.Carriers.{chosenOf, numberOf}
 use Rattle.carriers.specs.CarriersLaws.{chosen-number, number-chosen}
 use Rattle.blocks.specs.Block.{Fields}
 use Rattle.judge.specs.declared.Side.the-variants.{Writing}
-use Rattle.judge.specs.Judge.{faultOf}
-use Rattle.judge.specs.Allowed.{Allowed}
+use Rattle.judge.specs.Place.{judged, from}
+use Rattle.judge.specs.Judge.{judgedBy, faultOf}
+use Rattle.judge.specs.Allowed.{NameAllowed, Allowed, PlaceOf}
 use Rattle.judge.specs.AllowedLaws.{broken-exactly, faultless-allowed}
 use Rattle.judge.specs.AllowedLaws as judge
+use Rattle.judge.specs.PlaceLaws.{placed-exactly}
+use Rattle.records.specs.Records.{headSize, recordOf}
 use Rattle.sheets.specs.Sheets.{letters, frontSize, versionAt}
 use Rattle.taking.specs.Sheet.{IsHead, IsSheet}
-use Rattle.octets.specs.Lists.{same}
 use Rattle.taking.specs.Taking.{Headed, headOf, Taken, takeOf}
 use Rattle.taking.specs.Taking as taking
 use Rattle.taking.specs.Exactly.{head-exactly, letters-first, head-long, head-unlettered, head-other, take-refused, take-carrier, take-many, take-untiled, taken-sheet, sheet-taken}
 use Rattle.vetting.specs.Vetting.{firstFault, anyLarge, vetOf}
 use Rattle.vetting.specs.Vetting as vetting
+use Rattle.vetting.specs.WeighingLaws.{first-passed, first-faulty}
 use Rattle.vetting.specs.VettingLaws.{OfOctets, sheet-octets, vet-exactly}
-use Rattle.written.specs.Octets.{octetsOf, Answer, refuse}
+use Rattle.answers.specs.Answers.{Answer, refuse}
+use Rattle.written.specs.Octets.{octetsOf}
 use Rattle.written.specs.Writing.{writeOf}
 use Rattle.written.specs.Accepted.{Sized, Accepted}
 use Rattle.written.specs.AcceptedLaws.{sized-exactly, sheet-accepted, accepted-writes}
@@ -52,45 +56,54 @@ lettered-or s = go (ltb (length s) frontSize) refl (same (take versionAt s) lett
 -- ---- 21 to 28
 
 module _ (c : Carrier) where
-  fault-some : {rs : List Fields} {k : ℕ} → FirstFault c rs k → k ≡ 0 → ⊥
-  fault-some (here b n) = n
+  fault-some : {at : ℕ} {rs : List Fields} {k p : ℕ} → FirstFault c at rs k p → k ≡ 0 → ⊥
+  fault-some (here b n x) = n
   fault-some (later a f) = fault-some f
 
-  fault-found : {rs : List Fields} {k : ℕ} → All OfOctets rs → FirstFault c rs k → firstFault c rs ≡ k
-  unfolding firstFault
-  fault-found o (here {r} {rs} {k} b n) = rw (broken-exactly Writing c r k (o .0) .1 b, ne-eqb k 0 n)
-  fault-found o (later {r} {rs} {k} a f) = rw (judge.allowed-faultless Writing c r a) (fault-found (o .1) f)
+  fault-found : {at : ℕ} {rs : List Fields} {k p : ℕ} → All OfOctets rs → FirstFault c at rs k p → firstFault c at rs ≡ judged k p
+  fault-found o (here {at} {r} {rs} {k} {p} b n x) =
+      let e : faultOf Writing c r ≡ k = broken-exactly Writing c r k (o .0) .1 b in
+      let place : from (at + headSize) (judgedBy Writing c r) .place ≡ p =
+      placed-exactly Writing c r (at + headSize) p .1 (subst⁻¹ (λ (k : ℕ). PlaceOf (NameAllowed Writing c) (r .name) (at + headSize) k p) e x) in
+      first-faulty c at r rs (λ z. n (sym e ∙ z)) ∙ ap₂ judged e place
+  fault-found o (later {at} {r} {rs} a f) = first-passed c at r rs (judge.allowed-faultless Writing c r a) ∙ fault-found (o .1) f
 
-  -- there is one, or every record is allowed
-  fault-or : (rs : List Fields) → All OfOctets rs → ((k : ℕ) × FirstFault c rs k) ⊎ All (Allowed Writing c) rs
-  fault-or [] o = inr tt
-  fault-or (r ∷ rs) o = go (eqb (faultOf Writing c r) 0) refl (fault-or rs (o .1))
+  -- there is one with its place, or every record is allowed
+  abbrev FaultOr : ℕ → List Fields → Type 0
+  FaultOr at rs = ((k : ℕ) × (p : ℕ) × FirstFault c at rs k p) ⊎ All (Allowed Writing c) rs
+
+  fault-or : (at : ℕ) (rs : List Fields) → All OfOctets rs → FaultOr at rs
+  fault-or at [] o = inr tt
+  fault-or at (r ∷ rs) o = go (eqb (faultOf Writing c r) 0) refl (fault-or (at + length (recordOf c r)) rs (o .1))
     where
       allowed : eqb (faultOf Writing c r) 0 ≡ true → Allowed Writing c r
       allowed e = faultless-allowed Writing c r (o .0) (eqb-true _ _ e)
 
-      go : (none : Bool) → eqb (faultOf Writing c r) 0 ≡ none → ((k : ℕ) × FirstFault c rs k) ⊎ All (Allowed Writing c) rs
-          → ((k : ℕ) × FirstFault c (r ∷ rs) k) ⊎ All (Allowed Writing c) (r ∷ rs)
-      go false e ih = inl (faultOf Writing c r, here (broken-exactly Writing c r (faultOf Writing c r) (o .0) .0 refl) (eqb-false _ _ e))
-      go true e (inl f) = inl (f .0, later (allowed e) (f .1))
+      go : (none : Bool) → eqb (faultOf Writing c r) 0 ≡ none → FaultOr (at + length (recordOf c r)) rs → FaultOr at (r ∷ rs)
+      go false e ih =
+          let j = from (at + headSize) (judgedBy Writing c r) in
+          let broken = broken-exactly Writing c r (j .fault) (o .0) .0 refl in
+          inl (j .fault, j .place, here broken (eqb-false _ _ e) (placed-exactly Writing c r (at + headSize) (j .place) .0 refl))
+      go true e (inl f) = inl (f .0, f .1, later (allowed e) (f .2))
       go true e (inr h) = inr (allowed e, h)
 
 -- ---- the answer
 
 module _ (s : List ℕ) (room : ℕ) where
-  refused-writes : {k : ℕ} → takeOf s ≡ taking.refuse k → writeOf s room ≡ refuse k
+  refused-writes : {k : ℕ} → takeOf s ≡ taking.refuse k → writeOf s room ≡ refuse k 0
   unfolding writeOf vetOf
   refused-writes e = rw e
 
-  faulty-writes : {c : Carrier} {rs : List Fields} {k : ℕ} → takeOf s ≡ taking.sheet c rs → firstFault c rs ≡ k → (k ≡ 0 → ⊥) → writeOf s room ≡ refuse k
+  faulty-writes : {c : Carrier} {rs : List Fields} {k p : ℕ} → takeOf s ≡ taking.sheet c rs → firstFault c frontSize rs ≡ judged k p → (k ≡ 0 → ⊥)
+      → writeOf s room ≡ refuse k p
   unfolding writeOf vetOf
   faulty-writes {c} {rs} {k} e f n = rw (e, f, ne-eqb k 0 n)
 
-  large-writes : {c : Carrier} {rs : List Fields} → vetOf s ≡ vetting.sheet c rs → (All (Sized c) rs → ⊥) → writeOf s room ≡ refuse refusal.large
+  large-writes : {c : Carrier} {rs : List Fields} → vetOf s ≡ vetting.sheet c rs → (All (Sized c) rs → ⊥) → writeOf s room ≡ refuse refusal.large 0
   unfolding writeOf
   large-writes {c} {rs} e n = go (anyLarge c rs) refl
     where
-      go : (big : Bool) → anyLarge c rs ≡ big → writeOf s room ≡ refuse refusal.large
+      go : (big : Bool) → anyLarge c rs ≡ big → writeOf s room ≡ refuse refusal.large 0
       go true l = rw (e, l)
       go false l = absurd (n (sized-exactly c rs .0 l))
 
@@ -135,10 +148,10 @@ module _ (s : List ℕ) (room : ℕ) where
 
     -- 21 to 28
     sheet-so : {c : Carrier} {rs : List Fields} → IsSheet s c rs → Answered
-    sheet-so {c} {rs} i = go (fault-or c rs (sheet-octets s c rs octets i))
+    sheet-so {c} {rs} i = go (fault-or c frontSize rs (sheet-octets s c rs octets i))
       where
-        go : ((k : ℕ) × FirstFault c rs k) ⊎ All (Allowed Writing c) rs → Answered
-        go (inl f) = so (faulty i (f .1))
+        go : FaultOr c frontSize rs → Answered
+        go (inl f) = so (faulty i (f .2))
         go (inr p) = allowed-so i p
 
     -- 4, 43

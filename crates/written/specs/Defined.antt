@@ -6,9 +6,9 @@ use Prim.Native.Nat.{ℕ, _≤_, _<_}
 use lib.ListN.{length}
 use Rattle.numbers.specs.Refusal as refusal
 use Rattle.written.specs.Writing.{writeOf}
-use Rattle.written.specs.Octets.{refuse, written}
+use Rattle.answers.specs.Answers.{refuse, written}
 
 -- the octets defined for a sheet: writing gives them wherever they have room, and answers 5 where they have none
 pub record Defined (s octets : List ℕ) : Type 0 where
   pub enough : (room : ℕ) → length octets ≤ room → writeOf s room ≡ written octets
-  pub little : (room : ℕ) → room < length octets → writeOf s room ≡ refuse refusal.room
+  pub little : (room : ℕ) → room < length octets → writeOf s room ≡ refuse refusal.room 0

@@ -15,7 +15,8 @@ use Rattle.carriers.specs.declared.Carrier.{Carrier}
 use Rattle.blocks.specs.Block.{Fields}
 use Rattle.taking.specs.Sheet.{IsSheet}
 use Rattle.written.specs.Writing.{writeOf}
-use Rattle.written.specs.Octets.{octetsOf, refuse, written, numberIn}
+use Rattle.answers.specs.Answers.{refuse, written, numberIn}
+use Rattle.written.specs.Octets.{octetsOf}
 use Rattle.written.specs.Accepted.{Accepted, Accepting}
 use Rattle.written.specs.Defined.{Defined}
 use Rattle.written.specs.AcceptedLaws.{accepted-writes, accepted-exactly, answered-sheet}
@@ -25,9 +26,9 @@ use Rattle.written.specs.AcceptedLaws.{accepted-writes, accepted-exactly
 pub defined-octets : (s : List ℕ) (c : Carrier) (rs : List Fields) → Accepted s c rs → Defined s (octetsOf c rs)
 defined-octets s c rs a = record {
   enough = λ room h. accepted-writes s c rs room a
-      ∙ ap (λ (b : Bool). cond b (refuse refusal.room) (written (octetsOf c rs))) (le-ltb room (length (octetsOf c rs)) h);
+      ∙ ap (λ (b : Bool). cond b (refuse refusal.room 0) (written (octetsOf c rs))) (le-ltb room (length (octetsOf c rs)) h);
   little = λ room h. accepted-writes s c rs room a
-      ∙ ap (λ (b : Bool). cond b (refuse refusal.room) (written (octetsOf c rs))) (lt-ltb room (length (octetsOf c rs)) h);
+      ∙ ap (λ (b : Bool). cond b (refuse refusal.room 0) (written (octetsOf c rs))) (lt-ltb room (length (octetsOf c rs)) h);
 }
 
 -- octets that are defined are one thing

@@ -7,3 +7,5 @@ pub mod Answers
 pub mod Octets
 pub mod Defined
 pub mod AnswersLaws
+pub mod Wrong
+pub mod WrongLaws

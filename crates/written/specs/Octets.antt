@@ -1,4 +1,4 @@
--- The one set of octets defined for records, and what writing gives: a refusal or octets (RULES E1 to E3). Assumes nothing: these are definitions.
+-- The one set of octets defined for records (RULES E1 to E3). Assumes nothing: these are definitions.
 use mathlib.Core.Bool.{cond}
 use mathlib.Core.List.{List}
 use Prim.Native.Nat.{ℕ}
@@ -11,13 +11,3 @@ use Rattle.layouts.specs.Layouts.{streamOf}
 -- the one set of octets defined: the records one after another, in carrier 1 cut into options (RULES E1 to E3)
 unfoldable pub octetsOf : Carrier → List Fields → List ℕ
 octetsOf c rs = cond (isJoined c) (cutOf (streamOf c rs)) (streamOf c rs)
-
--- a refusal's number, or the octets (RULES T5, T6)
-pub data Answer : Type 0 where
-  refuse : ℕ → Answer
-  written : List ℕ → Answer
-
--- the number in an answer (RULES R0)
-abbrev pub numberIn : Answer → ℕ
-numberIn (refuse k) = k
-numberIn (written bs) = 0

@@ -10,19 +10,20 @@ use Rattle.carriers.specs.declared.Carrier.{Carrier}
 use Rattle.blocks.specs.Block.{Fields}
 use Rattle.vetting.specs.Vetting.{Vetted, anyLarge, vetOf}
 use Rattle.vetting.specs.Vetting as vetting
-use Rattle.written.specs.Octets.{Answer, octetsOf, refuse, written}
+use Rattle.answers.specs.Answers.{Answer, refuse, written}
+use Rattle.written.specs.Octets.{octetsOf}
 
 -- 5, or the octets, by the room for them
 abbrev pub inRoom : List ℕ → ℕ → Answer
-inRoom octets room = cond (ltb room (length octets)) (refuse refusal.room) (written octets)
+inRoom octets room = cond (ltb room (length octets)) (refuse refusal.room 0) (written octets)
 
 -- 44, then 5
 abbrev pub writeRecords : Carrier → List Fields → ℕ → Answer
-writeRecords c rs room = cond (anyLarge c rs) (refuse refusal.large) (inRoom (octetsOf c rs) room)
+writeRecords c rs room = cond (anyLarge c rs) (refuse refusal.large 0) (inRoom (octetsOf c rs) room)
 
 -- 2, 40, 41, 42, 4, 43, 21 to 28
 abbrev pub writeVetted : Vetted → ℕ → Answer
-writeVetted (vetting.refuse k) room = refuse k
+writeVetted (vetting.refuse k p) room = refuse k p
 writeVetted (vetting.sheet c rs) room = writeRecords c rs room
 
 -- writing a sheet to an output buffer of `room` octets

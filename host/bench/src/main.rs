@@ -2,8 +2,9 @@
 //!
 //! The three are timed in turn within each of many short rounds, so that they meet the same machine. A time is the best round's; the ratio of
 //! library and reference is the median of the rounds' ratios, which other work on the machine moves least. The buffers are not cleared
-//! between calls. Growth is the library's time on input of twice the size, divided by its time here. Given words, it times the rows that have one
-//! of them in their name. Given `--before` it leaves out the rows that the library, which then is another version's, answers differently.
+//! between calls, and what a call gives back stays where the call left it: a copy in pieces wider than the stores before it waits for those.
+//! Growth is the library's time on input of twice the size, divided by its time here. Given words, it times the rows that have one of them in
+//! their name. Given `--before` it leaves out the rows that the library, which then is another version's, answers differently.
 
 use std::hint::black_box;
 use std::time::{Duration, Instant};
@@ -60,22 +61,32 @@ fn timed_reading(carrier: u8, area: &[u8]) -> Option<Times> {
     let number = usize::from(carrier);
     let same = alike(compare::read(number, area, &mut one), dnr_reference::read(carrier, area, &mut two));
     same.then(|| times([
-        &mut || { black_box(compare::read(number, black_box(area), black_box(&mut one))); },
-        &mut || { black_box(dnr_reference::read(carrier, black_box(area), black_box(&mut two))); },
+        &mut || { black_box(&compare::read_raw(number, black_box(area), black_box(&mut one))); },
+        &mut || { black_box(&dnr_reference::read(carrier, black_box(area), black_box(&mut two))); },
         &mut || { black_box(&mut three[..area.len()]).copy_from_slice(black_box(area)); },
     ]))
 }
 
-fn timed_writing(sheet: &[u8]) -> Option<Times> {
+/// A sheet that is written, or refused with this number.
+fn timed_sheet(sheet: &[u8], number: usize) -> Option<Times> {
     let (mut one, mut two, mut three) = (vec![0u8; 40_960], vec![0u8; 40_960], vec![0u8; 40_960]);
     let answer = dnr_reference::write(sheet, &mut two);
-    assert_eq!(answer.number, 0);
+    assert_eq!(answer.number, number);
     let same = alike(compare::write(sheet, &mut one), answer);
     same.then(|| times([
-        &mut || { black_box(compare::write(black_box(sheet), black_box(&mut one))); },
-        &mut || { black_box(dnr_reference::write(black_box(sheet), black_box(&mut two))); },
+        &mut || { black_box(&compare::write_raw(black_box(sheet), black_box(&mut one))); },
+        &mut || { black_box(&dnr_reference::write(black_box(sheet), black_box(&mut two))); },
         &mut || { black_box(&mut three[..sheet.len()]).copy_from_slice(black_box(sheet)); },
     ]))
+}
+
+fn timed_writing(sheet: &[u8]) -> Option<Times> {
+    timed_sheet(sheet, 0)
+}
+
+/// A sheet with a bad name.
+fn timed_refusal(sheet: &[u8]) -> Option<Times> {
+    timed_sheet(sheet, 22)
 }
 
 /// Prints a row that was timed, with the times of the same on twice the input where there are some.
@@ -120,6 +131,13 @@ fn write_row(what: &str, carrier: u8, area: &[u8], doubled: Option<&[u8]>) {
         let more = doubled.and_then(|d| timed_writing(&sheet(carrier, d)));
         let s = sheet(carrier, area);
         print(&what, s.len(), timed_writing(&s), more);
+    }
+}
+
+fn refuse_row(what: &str, sheet: &[u8]) {
+    let what = format!("refusing {what}");
+    if wanted(&what) {
+        print(&what, sheet.len(), timed_refusal(sheet), None);
     }
 }
 
@@ -188,11 +206,16 @@ fn option(carrier: u8, body: &[u8]) -> Vec<u8> {
 /// `records` records of falling priority: every pair is exchanged.
 fn area(carrier: u8, records: usize, many: usize, params: &[u8]) -> Vec<u8> {
     let name = if carrier >= 4 { TEXT } else { NAME };
-    let bodies = (0..records).map(|i| body(carrier, (100 - i) as u16, name, many, params));
+    let bodies: Vec<Vec<u8>> = (0..records).map(|i| body(carrier, (100 - i) as u16, name, many, params)).collect();
+    framed(carrier, &bodies)
+}
+
+/// Bodies in options, in carrier 1 as instances of the joined data.
+fn framed(carrier: u8, bodies: &[Vec<u8>]) -> Vec<u8> {
     if carrier > 1 {
-        return bodies.flat_map(|b| option(carrier, &b)).collect();
+        return bodies.iter().flat_map(|b| option(carrier, b)).collect();
     }
-    let joined: Vec<u8> = bodies.flat_map(|b| [&(b.len() as u16).to_be_bytes()[..], &b].concat()).collect();
+    let joined: Vec<u8> = bodies.iter().flat_map(|b| [&(b.len() as u16).to_be_bytes()[..], b].concat()).collect();
     joined.chunks(255).flat_map(|c| option(1, c)).collect()
 }
 
@@ -205,6 +228,38 @@ fn longest() -> Vec<u8> {
     }
     n.push(0);
     n
+}
+
+/// The longest name as the carrier has it, with an underscore for its last letter.
+fn bad_at_its_end(carrier: u8) -> Vec<u8> {
+    let mut n = longest();
+    n[253] = b'_';
+    if carrier < 4 {
+        return n;
+    }
+    for dot in [64, 128, 192] {
+        n[dot] = b'.';
+    }
+    n[1..254].to_vec()
+}
+
+/// A block that is discarded for its name, in three carriers.
+fn bad_name_rows(params: &[u8]) {
+    for (carrier, what) in CARRIERS.into_iter().filter(|(carrier, _)| [1, 2, 5].contains(carrier)) {
+        let b = body(carrier, 1, &bad_at_its_end(carrier), 1, params);
+        row(&format!("a 255-octet name bad at its end, {what}"), carrier, &framed(carrier, &[b]), None);
+    }
+}
+
+/// Sheets that are refused for the name of their only record, and of their sixteenth.
+fn refused_rows(k1: &[u8]) {
+    let mut only = sheet(2, k1);
+    only[7 + 8 + 16] = b'_';
+    refuse_row("K1 with a name bad at its end", &only);
+    let mut last = sheet(2, &area(2, 16, 63, &hints()));
+    let start = 7 + (last.len() - 7) / 16 * 15;
+    last[start + 8 + 16] = b'_';
+    refuse_row("16 full records, the last name bad at its end, DHCPv6", &last);
 }
 
 /// A list of `keys` mandatory keys, each present and empty.
@@ -267,6 +322,7 @@ fn main() {
     let small = |n: usize| option(2, &body(2, 0, NAME, 1, dot)).repeat(n);
     row("787 blocks with a fault", 2, &small(787), None);
     row("a 255-octet name", 2, &option(2, &body(2, 1, &longest(), 1, dot)), None);
+    bad_name_rows(dot);
     mandatory_rows(row);
     row("no-default-alpn alone before 255 keys", 2, &alone(255), None);
     row("no-default-alpn alone before 127 keys", 2, &alone(127), Some(&alone(255)));
@@ -275,4 +331,5 @@ fn main() {
     full_rows(write_row);
     write_row("a 255-octet name", 2, &option(2, &body(2, 1, &longest(), 1, dot)), None);
     mandatory_rows(write_row);
+    refused_rows(&k1);
 }

@@ -1,7 +1,7 @@
 //! Resolvers that differ in their parameters alone, in the octets of every carrier and as a sheet, laid out by hand; and that the proved library and
 //! the reference answer as is stated of them.
 
-use crate::{read, write, Reading, Writing};
+use crate::{Reading, Written, SIDES};
 use std::ops::RangeInclusive;
 
 const MARK: u8 = 0x96;
@@ -10,14 +10,6 @@ const MARK: u8 = 0x96;
 const NAME: &[u8] = b"\x01a\x01b\x00";
 const V4: &[u8] = &[192, 0, 2, 9];
 const V6: &[u8] = &[0x20, 1, 0xd, 0xb8, 0, 0, 0, 0, 0, 0, 0, 0, 0, 0, 0, 9];
-
-/// An implementation: what it is called, and its two calls.
-type Side = (&'static str, fn(u8, &[u8], &mut [u8]) -> Reading, fn(&[u8], &mut [u8]) -> Writing);
-
-const SIDES: [Side; 2] = [
-    ("library", |carrier, area, sheet| read(usize::from(carrier), area, sheet), write),
-    ("reference", dnr_reference::read, dnr_reference::write),
-];
 
 /// A parameter's octets.
 pub fn parameter(key: u16, value: &[u8]) -> Vec<u8> {
@@ -102,8 +94,8 @@ pub fn agree(carriers: RangeInclusive<u8>, fields: &[(Vec<u8>, usize)]) {
         };
         let (area, whole, left) = (area(carrier, &all), sheet(carrier, &all), sheet(carrier, left));
         let written = if fault == 0 { &area[..] } else { &[] };
-        let reading = Reading { number: 0, length: left.len(), found, discarded, fault };
-        let writing = Writing { number: fault, length: written.len() };
+        let reading = Reading { number: 0, length: left.len(), found, discarded, fault, place: 0 };
+        let writing = Written { number: fault, length: written.len(), place: 0 };
         for (side, read, write) in SIDES {
             let mut buffer = vec![MARK; whole.len() + 3];
             assert_eq!(read(carrier, &area, &mut buffer), reading, "{side}, carrier {carrier}, parameters {all:02x?}");

@@ -17,7 +17,7 @@ fn compared(carrier: u8, area: &[u8], room: usize) -> Reading {
     assert!(mine[GUARD..GUARD + room] == theirs[..], "carrier {carrier}, room {room}, area {area:02x?}");
     assert!(mine[..GUARD].iter().chain(&mine[GUARD + room..]).all(|&o| o == MARK), "a guard was written");
     if got.number != 0 {
-        assert_eq!(got, Reading { number: got.number, length: 0, found: 0, discarded: 0, fault: 0 });
+        assert_eq!(got, Reading { number: got.number, length: 0, found: 0, discarded: 0, fault: 0, place: 0 });
         assert!(mine.iter().all(|&o| o == MARK), "a refusal wrote");
     }
     got
@@ -114,7 +114,7 @@ fn carriers_that_are_none() {
 /// A C caller may pass any number: none of these is cut to its lowest octet, which would be a carrier.
 #[test]
 fn numbers_that_are_no_octet() {
-    let refused = Reading { number: 1, length: 0, found: 0, discarded: 0, fault: 0 };
+    let refused = Reading { number: 1, length: 0, found: 0, discarded: 0, fault: 0, place: 0 };
     for low in 0..=5 {
         for carrier in [256, 512, 65_280, 65_536, 1 << 31, usize::MAX - 255].map(|high| high + low) {
             for area in [vec![], vec![0; 9], vec![0; 40_961]] {

@@ -4,13 +4,13 @@
 use compare::generate::Health;
 use compare::random::Random;
 use compare::sheets::{damage, sheet, sized};
-use compare::{read, write, Reading, Writing};
+use compare::{read, write, Reading, Written};
 
 const GUARD: usize = 32;
 const MARK: u8 = 0x5A;
 
 /// Writes into a buffer of `room` octets with guards on both sides, and compares everything that came back.
-fn compared(sheet: &[u8], room: usize) -> (Writing, Vec<u8>) {
+fn compared(sheet: &[u8], room: usize) -> (Written, Vec<u8>) {
     let mut mine = vec![MARK; room + 2 * GUARD];
     let mut theirs = vec![MARK; room];
     let got = write(sheet, &mut mine[GUARD..GUARD + room]);
@@ -20,6 +20,7 @@ fn compared(sheet: &[u8], room: usize) -> (Writing, Vec<u8>) {
     assert!(mine[..GUARD].iter().chain(&mine[GUARD + room..]).all(|&o| o == MARK), "a guard was written");
     if got.number != 0 {
         assert_eq!(got.length, 0);
+        assert!(got.place == 0 || got.number == 22);
         assert!(mine.iter().all(|&o| o == MARK), "a refusal wrote");
     }
     (got, theirs)
@@ -30,12 +31,12 @@ fn read_back(sheet: &[u8], octets: &[u8]) {
     let mut back = vec![MARK; sheet.len()];
     let got = read(usize::from(sheet[5]), octets, &mut back);
     let blocks = if sheet[5] == 1 { usize::from(sheet[6] > 0) } else { usize::from(sheet[6]) };
-    assert_eq!(got, Reading { number: 0, length: sheet.len(), found: blocks, discarded: 0, fault: 0 });
+    assert_eq!(got, Reading { number: 0, length: sheet.len(), found: blocks, discarded: 0, fault: 0, place: 0 });
     assert!(back == sheet, "{sheet:02x?}");
 }
 
 /// Every room around the result's length, and none at all.
-fn every_room(sheet: &[u8]) -> Writing {
+fn every_room(sheet: &[u8]) -> Written {
     let (all, octets) = compared(sheet, 40_000);
     if all.number == 0 {
         read_back(sheet, &octets[..all.length]);
@@ -44,7 +45,7 @@ fn every_room(sheet: &[u8]) -> Writing {
             assert_eq!(part.number, if room < all.length { 5 } else { 0 });
         }
     } else {
-        compared(sheet, 0);
+        assert_eq!(compared(sheet, 0).0, all);
     }
     all
 }

@@ -67,7 +67,11 @@ fn print_resolvers(carrier: Carrier, area: &[u8]) -> ExitCode {
             return ExitCode::from(1);
         }
     };
-    let first = reading.first_fault.map_or(String::new(), |fault| format!(", first {fault}"));
+    let first = match (reading.first_fault, reading.first_place) {
+        (Some(fault), Some(place)) => format!(", first fault {} at octet {place} of its block: {}", fault.number(), fault.words()),
+        (Some(fault), None) => format!(", first {fault}"),
+        _ => String::new(),
+    };
     println!("{carrier}: {} found, {} discarded{first}", reading.found, reading.discarded);
     for record in records(&sheet) {
         print_record(carrier, &record);

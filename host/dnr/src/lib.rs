@@ -59,30 +59,50 @@ pub struct Reading {
     pub discarded: usize,
     /// The fault of the first block that was discarded.
     pub first_fault: Option<Fault>,
+    /// Where the name of that block is wrong; there exactly if its fault is [`Fault::NAME`].
+    ///
+    /// It is the first octet at which no host name can continue, or the end of the name's field if the name is cut short. It counts from 0
+    /// at the first octet of the block, which is that of the option's or attribute's header; in DHCPv4 at the first octet of the data of
+    /// all options 162 joined, the headers of the options left out. In IKEv2 the octet is one of the name as text.
+    pub first_place: Option<usize>,
 }
 
 /// Reads an area of the carrier and writes the record sheet of its resolvers, by rising priority, to the front of `sheet`.
 ///
 /// Options of other codes are skipped. A block with a fault is discarded and the reading goes on. A refusal, of 2 to 5, changes
 /// nothing. [`MAX_SHEET`] octets have room for every sheet.
+///
+/// ```
+/// # fn main() -> Result<(), dnr::Refusal> {
+/// // A DHCPv6 option 144 with the name "a_b" in wire form: header 4, priority 2, length of the name 2, then the name.
+/// let area = b"\x00\x90\x00\x09\x00\x01\x00\x05\x03a_b\x00";
+/// let reading = dnr::read(dnr::Carrier::Dhcp6, area, &mut [0; 7])?;
+/// assert_eq!((reading.first_fault, reading.first_place), (Some(dnr::Fault::NAME), Some(10)));
+/// assert_eq!(area[10], b'_');
+/// # Ok(())
+/// # }
+/// ```
 pub fn read(carrier: Carrier, area: &[u8], sheet: &mut [u8]) -> Result<Reading, Refusal> {
     // SAFETY: each pointer is valid for the length beside it, the slices do not overlap, and the library keeps neither.
     let raw = unsafe { raw::dnr_read(usize::from(carrier.number()), area.as_ptr(), area.len(), sheet.as_mut_ptr(), sheet.len()) };
     if raw.number != 0 {
-        return Err(Refusal::of(raw.number));
+        return Err(Refusal::of(raw.number, raw.place));
     }
+    let first_fault = Fault::of(raw.fault);
     Ok(Reading {
         length: raw.length,
         found: raw.found,
         discarded: raw.discarded,
-        first_fault: Fault::of(raw.fault),
+        first_fault,
+        first_place: (first_fault == Some(Fault::NAME)).then_some(raw.place),
     })
 }
 
 /// Writes the options or attributes of a record sheet to the front of `octets`, in the sheet's order, and gives back how many octets
 /// they are.
 ///
-/// The sheet is tested first; a refusal changes nothing. [`MAX_OCTETS`] octets have room for what any sheet says.
+/// The sheet is tested first; a refusal changes nothing. [`Refusal::place`] tells where a name is wrong. [`MAX_OCTETS`] octets have room
+/// for what any sheet says.
 ///
 /// ```
 /// # fn main() -> Result<(), dnr::Refusal> {
@@ -96,7 +116,7 @@ pub fn write(sheet: &[u8], octets: &mut [u8]) -> Result<usize, Refusal> {
     // SAFETY: each pointer is valid for the length beside it, the slices do not overlap, and the library keeps neither.
     let raw = unsafe { raw::dnr_write(sheet.as_ptr(), sheet.len(), octets.as_mut_ptr(), octets.len()) };
     if raw.number != 0 {
-        return Err(Refusal::of(raw.number));
+        return Err(Refusal::of(raw.number, raw.place));
     }
     Ok(raw.length)
 }

@@ -6,9 +6,13 @@ use std::fmt;
 
 /// Why a call refused. It then changed no octet of any buffer.
 ///
-/// Reading answers 1 to 5; writing answers 2, 4, 5, 40 to 44 and, for the fields of a record, the numbers 21 to 28 of a [`Fault`].
+/// Reading answers 1 to 5; writing answers 2, 4, 5, 40 to 44 and, for the fields of a record, the numbers 21 to 28 of a [`Fault`]. Refusals
+/// are equal if their numbers and their places are; [`Refusal::fault`] leaves the place out.
 #[derive(Clone, Copy, Debug, PartialEq, Eq, Hash)]
-pub struct Refusal(u8);
+pub struct Refusal {
+    number: u8,
+    place: Option<usize>,
+}
 
 /// Why a reading discarded a block: 20 to 29. The reading goes on without it.
 #[derive(Clone, Copy, Debug, PartialEq, Eq, Hash)]
@@ -16,44 +20,66 @@ pub struct Fault(u8);
 
 impl Refusal {
     /// 1: reading, the carrier number is not 1 to 5. A [`Carrier`](crate::Carrier) never gets it.
-    pub const CARRIER: Refusal = Refusal(1);
+    pub const CARRIER: Refusal = Refusal::without_place(1);
     /// 2: the input is longer than 40,960 octets.
-    pub const INPUT: Refusal = Refusal(2);
+    pub const INPUT: Refusal = Refusal::without_place(2);
     /// 3: the area cannot be framed.
-    pub const FRAMING: Refusal = Refusal(3);
+    pub const FRAMING: Refusal = Refusal::without_place(3);
     /// 4: more than 16 records.
-    pub const RECORDS: Refusal = Refusal(4);
+    pub const RECORDS: Refusal = Refusal::without_place(4);
     /// 5: the output is shorter than the result.
-    pub const ROOM: Refusal = Refusal(5);
+    pub const ROOM: Refusal = Refusal::without_place(5);
     /// 40: the sheet is shorter than 7 octets, or does not begin with RSV.
-    pub const SHEET: Refusal = Refusal(40);
+    pub const SHEET: Refusal = Refusal::without_place(40);
     /// 41: the sheet's version is not 1.
-    pub const VERSION: Refusal = Refusal(41);
+    pub const VERSION: Refusal = Refusal::without_place(41);
     /// 42: the sheet's carrier is not 1 to 5.
-    pub const SHEET_CARRIER: Refusal = Refusal(42);
+    pub const SHEET_CARRIER: Refusal = Refusal::without_place(42);
     /// 43: the sheet's lengths do not add up, or a mode, the order or a lifetime is wrong.
-    pub const TILING: Refusal = Refusal(43);
+    pub const TILING: Refusal = Refusal::without_place(43);
     /// 44: a carrier 3 record is above 2,040 octets when rounded.
-    pub const LARGE: Refusal = Refusal(44);
+    pub const LARGE: Refusal = Refusal::without_place(44);
 
-    /// The refusal of this number; the library gives none above 44.
-    pub(crate) fn of(number: usize) -> Self {
-        Refusal(number as u8)
+    const fn without_place(number: u8) -> Self {
+        Refusal { number, place: None }
+    }
+
+    /// The refusal of this number; the library gives none above 44. Only 22 has a place.
+    pub(crate) fn of(number: usize, place: usize) -> Self {
+        let number = number as u8;
+        let place = (number == Fault::NAME.0).then_some(place);
+        Refusal { number, place }
     }
 
     /// The number.
     pub fn number(self) -> u8 {
-        self.0
+        self.number
     }
 
     /// When the number is given, in the library's words.
     pub fn words(self) -> String {
-        words(usize::from(self.0))
+        words(usize::from(self.number))
     }
 
     /// The fault of a record for which a writing refused, 21 to 28.
     pub fn fault(self) -> Option<Fault> {
-        Fault::of(usize::from(self.0))
+        Fault::of(usize::from(self.number))
+    }
+
+    /// Where a name is wrong; there exactly if a writing refused with 22.
+    ///
+    /// It is the first octet at which no host name can continue, or the end of the name if it is cut short, and counts from 0 at the sheet's
+    /// first octet. A sheet holds names in wire form, for IKEv2 too.
+    ///
+    /// ```
+    /// // A sheet of one record, whose name "a-" stands at octet 15, behind the length of its label: the hyphen may not be last.
+    /// let sheet = b"RSV\x00\x01\x01\x01\x00\x01\x00\x00\x00\x00\x00\x04\x02a-\x00";
+    /// let refusal = dnr::write_to_vec(sheet).unwrap_err();
+    /// assert_eq!((refusal.number(), refusal.place()), (22, Some(17)));
+    /// assert_eq!(sheet[17], b'-');
+    /// ```
+    pub fn place(self) -> Option<usize> {
+        self.place
     }
 }
 
@@ -96,15 +122,19 @@ impl Fault {
 }
 
 impl From<Fault> for Refusal {
-    /// Writing's answer for a record with this fault.
+    /// Writing's answer for a record with this fault, without a place.
     fn from(fault: Fault) -> Self {
-        Refusal(fault.0)
+        Refusal::without_place(fault.0)
     }
 }
 
 impl fmt::Display for Refusal {
     fn fmt(&self, f: &mut fmt::Formatter) -> fmt::Result {
-        write!(f, "refusal {}: {}", self.0, self.words())
+        write!(f, "refusal {}", self.number)?;
+        if let Some(place) = self.place {
+            write!(f, " at octet {place}")?;
+        }
+        write!(f, ": {}", self.words())
     }
 }
 
@@ -129,6 +159,20 @@ mod tests {
         assert_eq!(Refusal::from(Fault::LIMIT).to_string(), "refusal 24: more than 63 addresses, or over 1,024 octets of parameters");
         assert_eq!(Refusal::from(Fault::NAME).fault(), Some(Fault::NAME));
         assert_eq!(Refusal::ROOM.fault(), None);
+    }
+
+    #[test]
+    fn only_22_has_a_place() {
+        let wrong = Refusal::of(22, 31);
+        assert_eq!((wrong.number(), wrong.place(), wrong.fault()), (22, Some(31), Some(Fault::NAME)));
+        assert!(wrong.to_string().starts_with("refusal 22 at octet 31: the name is no host name"));
+        assert_eq!(Refusal::of(22, 0).place(), Some(0));
+        assert_ne!(wrong, Fault::NAME.into());
+        assert_eq!(Refusal::from(Fault::NAME).place(), None);
+        for number in (1..=5).chain(20..=29).chain(40..=44).filter(|number| *number != 22) {
+            assert_eq!(Refusal::of(number, 31).place(), None);
+        }
+        assert_eq!(Refusal::of(5, 0), Refusal::ROOM);
     }
 
     #[test]

@@ -18,23 +18,27 @@ pub struct Reading {
     pub discarded: usize,
     /// The fault of the first that was discarded, or 0.
     pub fault: usize,
+    /// For fault 22 the octet of that block at which its name is wrong, else 0.
+    pub place: usize,
 }
 
-/// `dnr_writing`.
+/// `dnr_result`.
 #[repr(C)]
 #[derive(Clone, Copy, Debug, PartialEq, Eq)]
-pub struct Writing {
-    /// 0, or the number of a refusal, and then the others are 0.
+pub struct Result {
+    /// 0, or the number of a refusal, and then the others are 0 but for the place of 22.
     pub number: usize,
     /// Octets written.
     pub length: usize,
+    /// For refusal 22 the octet of the sheet at which a name is wrong, else 0.
+    pub place: usize,
 }
 
 extern "C" {
     /// Reads an area under a carrier number and writes its record sheet.
     pub fn dnr_read(carrier: usize, area: *const u8, area_len: usize, sheet: *mut u8, sheet_len: usize) -> Reading;
     /// Writes the octets of a record sheet.
-    pub fn dnr_write(sheet: *const u8, sheet_len: usize, octets: *mut u8, octets_len: usize) -> Writing;
+    pub fn dnr_write(sheet: *const u8, sheet_len: usize, octets: *mut u8, octets_len: usize) -> Result;
     /// Writes the words of a number as a C string, as far as there is room, and gives back how many octets stand before its closing 0.
     pub fn dnr_words(number: usize, text: *mut c_char, text_len: usize) -> usize;
 }

@@ -19,7 +19,7 @@ macro_rules! piece {
 }
 
 fn done(length: usize, found: usize, discarded: usize, first_fault: Option<Fault>) -> Reading {
-    Reading { length, found, discarded, first_fault }
+    Reading { length, found, discarded, first_fault, first_place: None }
 }
 
 /// A sheet of one name-only record with this priority and lifetime.
@@ -112,6 +112,30 @@ fn faults_of_a_reading() {
     assert_eq!(read_to_vec(Carrier::Dhcp6, &area).unwrap().1, done(60, 3, 2, Some(Fault::DROPPED)));
 }
 
+/// A hyphen as the first octet of the name's first label, or of the name as text, in a piece of each carrier (RULES N5).
+#[test]
+fn places_of_bad_names() {
+    // In carrier 1 the header of the option, 2 octets, is not counted; the name stands 5 octets behind the start of the instance.
+    let pieces = [
+        (Carrier::Dhcp4, piece!("k02-dhcp4"), 2 + 5 + 1, 5 + 1),
+        (Carrier::Dhcp6, piece!("k01-dhcp6"), 8 + 1, 8 + 1),
+        (Carrier::Ra, piece!("k03-ra"), 10 + 1, 10 + 1),
+        (Carrier::Ike6, piece!("k05-ike6"), 8 + 16, 8 + 16),
+    ];
+    for (carrier, mut octets, at, place) in pieces {
+        octets[at] = b'-';
+        let (sheet, reading) = read_to_vec(carrier, &octets).unwrap();
+        assert_eq!(sheet.len(), 7);
+        assert_eq!((reading.first_fault, reading.first_place), (Some(Fault::NAME), Some(place)));
+    }
+    // Two discarded blocks, of which the first gives the fault and the place.
+    let (alias, mut bad) = (piece!("k07-dhcp6"), piece!("k01-dhcp6"));
+    bad[8 + 1] = b'-';
+    let first_is_bad = Reading { first_place: Some(8 + 1), ..done(7, 2, 2, Some(Fault::NAME)) };
+    assert_eq!(read_to_vec(Carrier::Dhcp6, &[bad.clone(), alias.clone()].concat()).unwrap().1, first_is_bad);
+    assert_eq!(read_to_vec(Carrier::Dhcp6, &[alias, bad].concat()).unwrap().1, done(7, 2, 2, Some(Fault::PRIORITY)));
+}
+
 #[test]
 fn refusals_of_a_reading() {
     let refused = |carrier, area: &[u8]| read_to_vec(carrier, area).unwrap_err();
@@ -122,6 +146,13 @@ fn refusals_of_a_reading() {
     let option = piece!("k12-dhcp6")[..19].to_vec();
     assert_eq!(refused(Carrier::Dhcp6, &option.repeat(17)), Refusal::RECORDS);
     assert_eq!(read_to_vec(Carrier::Dhcp6, &option.repeat(16)).unwrap().0[6], 16);
+}
+
+/// The sheet of one name with an underscore in the place of the root.
+fn damaged_name(sheet: &[u8]) -> Vec<u8> {
+    let mut damaged = sheet.to_vec();
+    *damaged.last_mut().unwrap() = b'_';
+    damaged
 }
 
 #[test]
@@ -141,7 +172,10 @@ fn refusals_of_a_writing() {
     assert_eq!(damaged(13, 2), Refusal::TILING);
     assert_eq!(write_to_vec(&name_only(2, 1, 9)), Err(Refusal::TILING));
     assert_eq!(write_to_vec(&name_only(2, 0, 0)), Err(Fault::PRIORITY.into()));
-    assert_eq!(damaged(16, b'-'), Fault::NAME.into());
+    // The name stands behind 7 octets of the head and 8 of the record, the length octet of its first label first.
+    assert_eq!((damaged(16, b'-').fault(), damaged(16, b'-').place()), (Some(Fault::NAME), Some(7 + 8 + 1)));
+    assert!(damaged(16, b'-').to_string().starts_with("refusal 22 at octet 16: "));
+    assert_eq!(write(&damaged_name(&sheet), &mut []).unwrap_err().place(), Some(7 + 8 + 17));
     assert_eq!(write_to_vec(&name_only(4, 1, 0)), Err(Fault::ADDRESSES.into()));
     assert_eq!(write_to_vec(&vec![0; dnr::MAX_INPUT + 1]), Err(Refusal::INPUT));
     assert_eq!(write_to_vec(&full(1, &[10, 0, 0, 1].repeat(64), &[])), Err(Fault::LIMIT.into()));

@@ -36,6 +36,7 @@ pub unsafe extern "C" fn ref_read(carrier: usize, area: *const u8, area_len: usi
         found: reading.found,
         discarded: reading.discarded,
         fault: reading.fault,
+        place: reading.place,
     }
 }
 
@@ -44,10 +45,11 @@ pub unsafe extern "C" fn ref_read(carrier: usize, area: *const u8, area_len: usi
 /// # Safety
 /// Each pointer is valid for the length beside it, or that length is 0, and the two parts do not overlap.
 #[no_mangle]
-pub unsafe extern "C" fn ref_write(sheet: *const u8, sheet_len: usize, octets: *mut u8, octets_len: usize) -> raw::Writing {
-    let writing = dnr_reference::write(lent(sheet, sheet_len), lent_mut(octets, octets_len));
-    raw::Writing {
-        number: writing.number,
-        length: writing.length,
+pub unsafe extern "C" fn ref_write(sheet: *const u8, sheet_len: usize, octets: *mut u8, octets_len: usize) -> raw::Result {
+    let written = dnr_reference::write(lent(sheet, sheet_len), lent_mut(octets, octets_len));
+    raw::Result {
+        number: written.number,
+        length: written.length,
+        place: written.place,
     }
 }

@@ -18,6 +18,21 @@ pub fn record(carrier: Carrier, data: &[u8]) -> Result<Record<'_>, u8> {
     }
 }
 
+/// The octets before the name: of a block from its header on, of an instance
+/// from its length on. In carriers 4 and 5 the addresses are among them.
+pub fn octets_before_name(carrier: Carrier, record: &Record) -> usize {
+    match carrier {
+        // Instance length 2, priority 2, ADN length 1.
+        Carrier::Dhcp4 => 5,
+        // Code 2, length 2, priority 2, ADN length 2.
+        Carrier::Dhcp6 => 8,
+        // Type 1, length 1, priority 2, lifetime 4, ADN length 2.
+        Carrier::Router => 10,
+        // Type 2, length 2, priority 2, number of addresses 1, ADN length 1.
+        Carrier::Ike4 | Carrier::Ike6 => 8 + record.full.map_or(0, |full| full.addresses.len()),
+    }
+}
+
 /// Carrier 1: one instance off the joined data, which instances tile
 /// (RULES B4). None where it runs past the end.
 pub fn take_instance<'a>(joined: &mut &'a [u8]) -> Option<&'a [u8]> {

@@ -11,6 +11,7 @@ mod addresses;
 mod area;
 mod block;
 mod carrier;
+mod fault;
 mod judge;
 mod names;
 mod numbers;
@@ -25,7 +26,7 @@ pub use addresses::{is_dropped, kept};
 pub use names::{check_text, check_wire, text_to_wire, wire_to_text};
 pub use params::params_fault;
 pub use read::{read, Reading};
-pub use write::{write, Writing};
+pub use write::{write, Written};
 
 /// Octets of an area or of a sheet taken (RULES L1).
 pub const MAX_INPUT: usize = 40_960;

@@ -21,10 +21,11 @@ pub enum Name<'a> {
 }
 
 impl Name<'_> {
-    pub fn is_acceptable(self) -> bool {
+    /// The error is the place in the name as it stands (RULES N5).
+    pub fn check(self) -> Result<(), usize> {
         match self {
-            Name::Wire(name) => check_wire(name).is_ok(),
-            Name::Text(text) => check_text(text).is_ok(),
+            Name::Wire(name) => check_wire(name),
+            Name::Text(text) => check_text(text),
         }
     }
 

@@ -13,6 +13,9 @@ const LETTERS: &[u8; 3] = b"RSV";
 const VERSION: u16 = 1;
 /// Octets of the header: letters 3, version 2, carrier 1, record count 1.
 pub const HEADER: usize = 7;
+/// Octets of a record before its name: priority 2, lifetime 4, mode 1, name
+/// length 1.
+pub const RECORD_HEAD: usize = 8;
 
 /// A sheet whose form is tested.
 #[derive(Clone, Copy)]
@@ -64,6 +67,15 @@ impl<'a> Sheet<'a> {
             count,
             octets,
         })
+    }
+
+    /// Where a record starts in the sheet, the header counted.
+    pub fn start_of(self, index: usize) -> usize {
+        let mut rest = self.octets;
+        for _ in 0..index {
+            take_record(self.carrier, &mut rest);
+        }
+        HEADER + self.octets.len() - rest.len()
     }
 
     /// The records, in the sheet's order.

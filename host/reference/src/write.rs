@@ -1,12 +1,13 @@
 //! Writing a record sheet as option octets (RULES E1 to E3, T5).
 
 use crate::carrier::{Carrier, Eights};
+use crate::fault::Fault;
 use crate::judge::{judge, Call};
 use crate::names::{put_text_of, Name};
 use crate::numbers::{OPTION_TOO_LARGE, OUTPUT_TOO_SHORT};
 use crate::octets::Pen;
 use crate::record::Record;
-use crate::sheet::Sheet;
+use crate::sheet::{Sheet, RECORD_HEAD};
 
 /// Octets of a carrier 3 option when rounded (RULES L6).
 const MAX_ROUTER: usize = 2_040;
@@ -15,50 +16,71 @@ const OPTION_DATA: usize = 255;
 
 /// What a writing gives back beside the octets.
 #[derive(Clone, Copy, Debug, PartialEq, Eq)]
-pub struct Writing {
+pub struct Written {
     /// 0 if done, else the refusal; then the length is zero.
     pub number: usize,
     /// Octets written.
     pub length: usize,
+    /// For refusal 22 where the name goes wrong, in wire form, from the sheet's
+    /// first octet; else 0 (RULES T8).
+    pub place: usize,
 }
 
 /// Writes the sheet's records as options or attributes of its carrier to
 /// `out`, which is unchanged past their length and, if refused, altogether.
-pub fn write(sheet: &[u8], out: &mut [u8]) -> Writing {
+pub fn write(sheet: &[u8], out: &mut [u8]) -> Written {
     match try_write(sheet, out) {
-        Ok(length) => Writing { number: 0, length },
-        Err(refusal) => Writing {
-            number: usize::from(refusal),
+        Ok(length) => Written {
+            number: 0,
+            length,
+            place: 0,
+        },
+        Err(refusal) => Written {
+            number: usize::from(refusal.number),
             length: 0,
+            place: refusal.place(),
         },
     }
 }
 
 /// Writing tests 2, 40, 41, 42, 4, 43, then 21 to 28 record by record, then 44,
 /// then 5 (RULES T5).
-fn try_write(sheet: &[u8], out: &mut [u8]) -> Result<usize, u8> {
+fn try_write(sheet: &[u8], out: &mut [u8]) -> Result<usize, Fault> {
     let sheet = Sheet::take(sheet)?;
+    let octets = record_octets(sheet)?;
+    // Carrier 1: the octets so far are the joined ones.
+    let length = match sheet.carrier {
+        Carrier::Dhcp4 => octets + 2 * octets.div_ceil(OPTION_DATA),
+        _ => octets,
+    };
+    if out.len() < length {
+        return Err(OUTPUT_TOO_SHORT.into());
+    }
+    put_records(sheet, octets, Pen::new(&mut out[..length]));
+    Ok(length)
+}
+
+/// Octets of all options or attributes, in carrier 1 of the joined data, if the
+/// records have no fault and are not too large.
+fn record_octets(sheet: Sheet) -> Result<usize, Fault> {
     let carrier = sheet.carrier;
     let mut octets = 0;
     let mut largest = 0;
-    for record in sheet.records() {
-        judge(Call::Writing, carrier, &record)?;
+    for (index, record) in sheet.records().enumerate() {
+        judge(Call::Writing, carrier, &record)
+            .map_err(|fault| fault.behind(sheet.start_of(index) + RECORD_HEAD))?;
         let length = option_length(carrier, &record);
         octets += length;
         largest = largest.max(length);
     }
     if carrier == Carrier::Router && largest > MAX_ROUTER {
-        return Err(OPTION_TOO_LARGE);
+        return Err(OPTION_TOO_LARGE.into());
     }
-    // Carrier 1: the octets so far are the joined ones.
-    let length = match carrier {
-        Carrier::Dhcp4 => octets + 2 * octets.div_ceil(OPTION_DATA),
-        _ => octets,
-    };
-    if out.len() < length {
-        return Err(OUTPUT_TOO_SHORT);
-    }
-    let mut pen = Pen::new(&mut out[..length]);
+    Ok(octets)
+}
+
+fn put_records(sheet: Sheet, octets: usize, mut pen: Pen) {
+    let carrier = sheet.carrier;
     match carrier {
         Carrier::Dhcp4 => {
             let mut cutter = Cutter::new(pen, octets);
@@ -76,7 +98,6 @@ fn try_write(sheet: &[u8], out: &mut [u8]) -> Result<usize, u8> {
             .records()
             .for_each(|record| put_ike(&mut pen, carrier, &record)),
     }
-    Ok(length)
 }
 
 /// Octets of a record's option or attribute, in carrier 1 of its instance.

@@ -35,8 +35,10 @@ fn add_wire(cases: &mut Cases) {
     state(b"\x03a-b\0", ok("a-b"));
     state(b"\x03a--\0", bad(3));
     state(b"\x03-aa\0", bad(1));
-    // Cut within a label; an octet after the root.
+    // Cut within a label, and behind its hyphen; an octet after the root.
     state(b"\x03a-", bad(3));
+    state(b"\x3f", bad(1));
+    state(b"\x02a-", bad(2));
     state(b"\x01a\0\0", bad(3));
     state(b"\x02a_\0", bad(2));
     // A label of 64 octets, and a compression pointer.
@@ -59,6 +61,7 @@ fn add_text(cases: &mut Cases) {
     // Cut short: a hyphen or a dot last, or nothing.
     state(b"a-", bad(2));
     state(b"a.", bad(2));
+    state(b"a-.", bad(2));
     state(b"", bad(0));
     state(b"-a", bad(0));
     state(b".a", bad(0));

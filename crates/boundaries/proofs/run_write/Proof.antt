@@ -2,7 +2,7 @@
 use borrow.Author.Needs.{needs}
 use native.Mathlib.Omega.{arith}
 use Rattle.io.proofs.Counting.{counts}
-use Rattle.writing.specs.WritesLaws.{writes-fits}
+use Rattle.answers.specs.AnswersLaws.{writes-fits}
 use Rattle.boundaries.proofs.run_write.Statement.{statement}
 use Rattle.boundaries.proofs.run_write.Tie as tie
 

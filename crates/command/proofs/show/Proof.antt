@@ -13,7 +13,7 @@ returns c =
 returns-2 : tie.Need-returns-2
 returns-2 c =
     let m = c .before .before in
-    let answer = shows-refused (m .before .before .vet .ensures) (m .k .given .1) in
+    let answer = shows-refused (m .before .before .vet .ensures) (m .number .given .1) in
     search (needs, answer)
 
 returns-3 : tie.Need-returns-3

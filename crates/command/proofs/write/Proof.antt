@@ -5,7 +5,7 @@ use native.Mathlib.Omega.{arith}
 use borrow.Author.Needs.{needs}
 use lib.ListN.{length}
 use lib.Seq.{length-take-le}
-use Rattle.writing.specs.WritesLaws.{writes-fits}
+use Rattle.answers.specs.AnswersLaws.{writes-fits}
 use Rattle.command.specs.NumbersLaws.{write-refused, write-done}
 use Rattle.command.proofs.write.Statement.{statement}
 use Rattle.command.proofs.write.Tie as tie

@@ -3,15 +3,17 @@
 use mathlib.Core.Path.{_≡_, refl, sym, ap, _∙_}
 use mathlib.Core.List.{[], _∷_, _++_}
 use native.Mathlib.Omega.{arith}
-use Prim.Native.Nat.{_-_}
+use Prim.Native.Nat.{ℕ, _-_}
 use lib.ListN.{length, length-set}
 use denote.Ref.{now}
 use Rattle.frames.specs.declared.Step.{Step}
 use Rattle.frames.specs.Frame.{frame}
 use Rattle.frames.specs.Step.{stepAt}
-use Rattle.frames.specs.Laws.{step-block, step-skipped}
+use Rattle.frames.specs.Laws.{step-block, step-body, step-skipped}
+use Rattle.frames.specs.GatherLaws.{part-length}
 use Rattle.frames.specs.SkipLaws.{skips-forward, skips-step, skips-then}
 use Rattle.numbers.specs.Limit as limit
+use Rattle.judge.specs.Place.{judged, placeFrom}
 use Rattle.order.specs.declared.Slot.{Slot}
 use Rattle.order.specs.Listed.{listed}
 use Rattle.order.specs.ListedLaws.{listed-next}
@@ -25,11 +27,11 @@ use Rattle.reading.proofs.read_blocks.Statement.{statement}
 use Rattle.reading.proofs.read_blocks.Tie as tie
 
 abbrev Inv-loop : tie.InvT-loop
-Inv-loop c area out₀ slots₀ size₀ clean₀ more₀ found₀ bad₀ fault₀ at₀ out slots size clean more found bad fault at =
-    Tallying c area at (tallyOf (heldOf slots size clean more) found bad fault) × (out ≡ out₀) × (length (slots .items) ≡ limit.records)
+Inv-loop c area out₀ slots₀ size₀ clean₀ more₀ found₀ bad₀ fault₀ place₀ at₀ out slots size clean more found bad fault place at =
+    Tallying c area at (tallyOf (heldOf slots size clean more) found bad (judged fault place)) × (out ≡ out₀) × (length (slots .items) ≡ limit.records)
 
 abbrev μ-loop : tie.MeasureT-loop
-μ-loop c area out₀ slots₀ size₀ clean₀ more₀ found₀ bad₀ fault₀ at₀ out slots size clean more found bad fault at = length area - at
+μ-loop c area out₀ slots₀ size₀ clean₀ more₀ found₀ bad₀ fault₀ place₀ at₀ out slots size clean more found bad fault place at = length area - at
 
 abbrev start : tie.At-loop Inv-loop μ-loop → tie.Start Inv-loop μ-loop
 start c = c .before .before .before .before
@@ -47,13 +49,22 @@ seen : (c : tie.After-examine Inv-loop μ-loop)
     let a = start (k .before .before .before) .args in
     Seen (a .c) (now (a .area)) (k .start .given .0 .0) (k .start .given .0 .1 .0) (c .examine .result)
 seen c =
-    let m = step-block _ _ _ (block (c .before .before .before)) in
-    record { low = m .1; high = m .2; tells = c .examine .ensures .0; small = c .examine .ensures .1 .0 .1; clean = c .examine .ensures .1 .1 }
+    let k = c .before .before .before in
+    let m = step-block _ _ _ (block k) in
+    let area = start (k .before .before .before) .args .area in
+    record {
+      low = m .1;
+      high = m .2;
+      tells = c .examine .ensures .0;
+      small = c .examine .ensures .1 .0 .1;
+      near = omega (arith, c .examine .ensures .1 .0 .2, part-length (k .start .given .0 .0) (k .start .given .0 .1 .0) (now area) (m .2));
+      clean = c .examine .ensures .1 .1;
+    }
 
 -- there is room in the counts for one more block
 open-more : (c : tie.After-start Inv-loop μ-loop)
     → let l = (c .before .before .before .loop) in
-    Open (tallyOf (heldOf (l .slots) (l .size) (l .clean) (l .more)) (l .found) (l .bad) (l .fault))
+    Open (tallyOf (heldOf (l .slots) (l .size) (l .clean) (l .more)) (l .found) (l .bad) (judged (l .fault) (l .place)))
 open-more c =
     let l = c .before .before .before in
     let m = step-block _ _ _ (block c) in
@@ -95,20 +106,32 @@ part-examine-end c = let m = step-block _ _ _ (block (c .before)) in omega arith
 add-found : tie.Need-add-found Inv-loop μ-loop
 add-found c = omega (arith, open-more (c .before .before .before) .found)
 
+-- a header and a place in a body are no more than an area
+place-from-requires : tie.Need-place-from-requires Inv-loop μ-loop
+place-from-requires c κs =
+    let x = c .before .before .before in
+    let k = x .before .before .before in
+    let s = seen x in
+    omega (arith, step-body _ _ _ (block k), s .near, s .low, s .high, start (k .before .before .before) .pre .1, c .header-size .ensures)
+
 add-bad : tie.Need-add-bad Inv-loop μ-loop
 add-bad c =
-    let o = open-more (c .before .before .before .before .before .before) in
+    let o = open-more (c .before .before .before .before .before .before .before .before .before) in
     omega (arith, o .found, o .discarded)
 
 loop-less : tie.Need-loop-less Inv-loop μ-loop
-loop-less c = let m = step-block _ _ _ (block (c .before .before .before .before .before .before)) in omega arith
+loop-less c = let m = step-block _ _ _ (block (c .before .before .before .before .before .before .before .before .before)) in omega arith
 
 loop-again : tie.Need-loop-again Inv-loop μ-loop
 loop-again c =
-    let x = c .before .before .before in
+    let f = c .before in
+    let p = f .before in
+    let h = p .before in
+    let x = h .before .before .before in
     let k = x .before .before .before in
     let i = k .before .before .before .loop .inv in
-    (tallying-discarded _ _ (i .0) (block k) (seen x) (c .before .if1 .taken) (c .first-fault .ensures), i .1, i .2)
+    let there = p .place-from .ensures ∙ ap (λ (n : ℕ). placeFrom n (x .examine .result .fault) (x .examine .result .place)) (h .header-size .ensures) in
+    (tallying-discarded _ _ (i .0) (block k) (seen x) (h .before .if1 .taken) there (f .first-of .ensures) (c .first-of2 .ensures), i .1, i .2)
 
 slot-of-requires : tie.Need-slot-of-requires Inv-loop μ-loop
 slot-of-requires c κs =
@@ -212,6 +235,9 @@ read-blocks-spec =
     part-examine-end
     (λ c κs. search needs)
     add-found
+    (λ c κs. search needs)
+    place-from-requires
+    (λ c κs. search needs)
     (λ c κs. search needs)
     add-bad
     loop-less

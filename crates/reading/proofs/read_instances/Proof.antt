@@ -3,11 +3,12 @@
 use mathlib.Core.Path.{_≡_, refl, sym, ap, _∙_}
 use mathlib.Core.List.{[], _∷_, _++_}
 use native.Mathlib.Omega.{arith}
-use Prim.Native.Nat.{_+_, _-_}
+use Prim.Native.Nat.{_+_, _-_, _≤_}
 use lib.ListN.{length, length-set}
 use denote.Ref.{now}
 use Rattle.carriers.specs.declared.Carrier.the-variants.{Dhcp4}
 use Rattle.numbers.specs.Limit as limit
+use Rattle.frames.specs.GatherLaws.{part-length}
 use Rattle.order.specs.declared.Slot.{Slot}
 use Rattle.order.specs.Listed.{listed}
 use Rattle.order.specs.ListedLaws.{listed-next}
@@ -42,11 +43,15 @@ seen : (c : tie.After-examine Inv-loop μ-loop)
     Seen Dhcp4 (now (start l .args .joined)) (l .loop .at + 2) (l .loop .at + 2 + k .get16 .result) (c .examine .result)
 seen c =
     let e = c .before .before in
+    let k = e .before in
+    let l = turn k in
+    let high : l .loop .at + 2 + k .get16 .result ≤ length (now (start l .args .joined)) = omega (arith, e .if3 .left, k .before .if2 .left) in
     record {
       low = omega arith;
-      high = omega (arith, e .if3 .left, e .before .before .if2 .left);
+      high = high;
       tells = c .examine .ensures .0;
       small = c .examine .ensures .1 .0 .1;
+      near = omega (arith, c .examine .ensures .1 .0 .2, part-length (l .loop .at + 2) (l .loop .at + 2 + k .get16 .result) (now (start l .args .joined)) high);
       clean = c .examine .ensures .1 .1;
     }
 
@@ -85,21 +90,28 @@ returns-3 c =
     let l = turn (d .before .before .before) in
     reads-from (readBlocks Dhcp4 (now (start l .args .joined) ∷ [])) (l .loop .inv .1) (d .discard-joined3 .ensures)
 
+place-from-requires : tie.Need-place-from-requires Inv-loop μ-loop
+place-from-requires c κs =
+    let x = c .before .before in
+    let s = seen x in
+    omega (arith, s .near, s .high, start (turn (x .before .before .before)) .pre)
+
 discard-joined-requires-4 : tie.Need-discard-joined-requires-4 Inv-loop μ-loop
 discard-joined-requires-4 c κs =
-    let x = c .before .before .before in
+    let p = c .before in
+    let x = p .before .before .before in
     let e = x .before .before in
     let k = e .before in
     let t = k .before .before in
-    passed-faulty _ (t .before .loop .inv .0) (t .loop-test .taken) _ (k .get16 .ensures .0) (k .before .if2 .left) (e .if3 .left) (seen x) (c .before .if4 .taken)
+    passed-faulty _ (t .before .loop .inv .0) (t .loop-test .taken) _ (k .get16 .ensures .0) (k .before .if2 .left) (e .if3 .left) (seen x) (p .before .if4 .taken) (p .place-from .ensures)
 
 same-length-4 : tie.Need-same-length-4 Inv-loop μ-loop
-same-length-4 c = let l = turn (c .before .before .before .before .before .before .before .before .before) in omega (arith, ap length (l .loop .inv .1))
+same-length-4 c = let l = turn (c .before .before .before .before .before .before .before .before .before .before) in omega (arith, ap length (l .loop .inv .1))
 
 returns-4 : tie.Need-returns-4 Inv-loop μ-loop
 returns-4 c =
     let d = c .before .before in
-    let l = turn (d .before .before .before .before .before .before .before) in
+    let l = turn (d .before .before .before .before .before .before .before .before) in
     reads-from (readBlocks Dhcp4 (now (start l .args .joined) ∷ [])) (l .loop .inv .1) (d .discard-joined4 .ensures)
 
 slot-of-requires : tie.Need-slot-of-requires Inv-loop μ-loop
@@ -191,6 +203,7 @@ read-instances-spec =
     (λ c. search needs)
     (λ c. search needs)
     (λ c κs. search needs)
+    place-from-requires
     discard-joined-requires-4
     same-length-4
     returns-4

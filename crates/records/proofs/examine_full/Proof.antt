@@ -10,17 +10,26 @@ use Rattle.blocks.specs.Block.{whole}
 use Rattle.judge.specs.JudgeLaws.{carrier-width}
 use Rattle.records.specs.Records.{headSize, tailSize}
 use Rattle.records.specs.Parts.{nameIn}
-use Rattle.records.specs.Outcomes.{unclean, examined-faulty, full-few, full-small, full-kept, full-clean}
+use Rattle.records.specs.Outcomes.{unclean, place-inside, examined-faulty, full-few, full-small, full-kept, full-clean}
 use Rattle.records.proofs.examine_full.Statement.{statement}
 use Rattle.records.proofs.examine_full.Tie as tie
 
+place-from-requires : tie.Need-place-from-requires
+place-from-requires c κs =
+    let judged = c .before in
+    let start = judged .before .before .before .before in
+    let args = start .args in
+    let fields = whole (args .priority) 0 (args .name .now) (args .addresses .now) (args .parameters .now) in
+    omega (arith, start .pre, place-inside (args .c) (args .at) fields (judged .judge-fields .ensures))
+
 returns : tie.Need-returns
 returns c =
-    let judged = c .before .before in
+    let placed = c .before in
+    let judged = placed .before .before in
     let args = judged .before .before .before .before .args in (
       λ t.
-          examined-faulty (args .c) (whole (args .priority) t (args .name .now) (args .addresses .now) (args .parameters .now))
-          (judged .judge-fields .ensures) (c .faulty .ensures) (c .before .if1 .taken),
+          examined-faulty (args .c) (args .at) (whole (args .priority) t (args .name .now) (args .addresses .now) (args .parameters .now))
+          (judged .judge-fields .ensures) (placed .place-from .ensures) (c .faulty .ensures) (placed .before .if1 .taken),
       λ z. absurd (unclean _ (c .faulty .ensures) z),
     )
 
@@ -38,7 +47,7 @@ small c e =
     let wide = c .before in
     let judged = wide .before .before in
     let args = judged .before .before .before .before .args in
-    full-small (args .c) (args .priority) (args .name .now) (args .addresses .now) (args .parameters .now) (judged .judge-fields .ensures) (wide .before .if1 .left) e (wide .address-width .ensures) (c .kept-count .ensures .0)
+    full-small (args .c) (args .priority) (args .at) (args .name .now) (args .addresses .now) (args .parameters .now) (judged .judge-fields .ensures) (wide .before .if1 .left) e (wide .address-width .ensures) (c .kept-count .ensures .0)
 
 mul-staying : tie.Need-mul-staying
 mul-staying c = omega (arith, small c refl)
@@ -60,8 +69,8 @@ returns-2 c =
     let wide = c .before .before in
     let judged = wide .before .before in
     let args = judged .before .before .before .before .args in (
-      full-kept (args .c) (args .priority) (args .name .now) (args .addresses .now) (args .parameters .now) (judged .judge-fields .ensures) (wide .before .if1 .left) (c .name-size .ensures) (wide .address-width .ensures) (c .before .kept-count .ensures .0) _,
-      λ z. full-clean (args .c) (args .priority) (args .name .now) (args .addresses .now) (args .parameters .now) (judged .judge-fields .ensures) (wide .before .if1 .left) (c .name-size .ensures) (wide .address-width .ensures) (c .before .kept-count .ensures .0) (eqb-true _ _ z),
+      full-kept (args .c) (args .priority) (args .at) (args .name .now) (args .addresses .now) (args .parameters .now) (judged .judge-fields .ensures) (wide .before .if1 .left) (c .name-size .ensures) (wide .address-width .ensures) (c .before .kept-count .ensures .0) _,
+      λ z. full-clean (args .c) (args .priority) (args .at) (args .name .now) (args .addresses .now) (args .parameters .now) (judged .judge-fields .ensures) (wide .before .if1 .left) (c .name-size .ensures) (wide .address-width .ensures) (c .before .kept-count .ensures .0) (eqb-true _ _ z),
     )
 
 pub examine-full-spec : {M : Type 1} → statement M
@@ -69,6 +78,7 @@ examine-full-spec =
     tie.close
     (tie.spec
     (λ c κs. search needs)
+    place-from-requires
     (λ c κs. search needs)
     returns
     (λ c κs. search needs)

@@ -8,12 +8,13 @@ use Rattle.results.proofs.put_text.Tie as tie
 returns : tie.Need-returns
 unfolding textOf
 returns c =
-    let u = c .before .before in
-    let s = u .before .before .before .before .before in
-    let q = s .before .before .before .before .before in
-    let p = q .before .before .before .before .before in
-    let whole = puts-then (p .put-sheet .ensures) (puts-then (q .put-count .ensures) (puts-then (s .put-count2 .ensures) (u .put-all .ensures .1))) in
-    (u .put-all .ensures .0, whole)
+    let p5 = c .before .before in
+    let p4 = p5 .before .before .before .before .before in
+    let p3 = p4 .before .before .before .before in
+    let p2 = p3 .before .before .before .before .before in
+    let p1 = p2 .before .before .before .before .before in
+    let back = puts-then (p3 .put-count2 .ensures) (puts-then (p4 .put-first-part .ensures) (p5 .put-all .ensures .1)) in
+    (p5 .put-all .ensures .0, puts-then (p1 .put-sheet .ensures) (puts-then (p2 .put-count .ensures) back))
 
 pub put-text-spec : {M : Type 1} → statement M
 put-text-spec =
@@ -23,6 +24,7 @@ put-text-spec =
     (λ c. search needs)
     (λ c κs. search needs)
     (λ c. search needs)
+    (λ c κs. search needs)
     (λ c κs. search needs)
     (λ c. search needs)
     (λ c κs. search needs)

@@ -15,7 +15,7 @@ returns : tie.Need-returns
 returns c =
     let k = c .before in
     let t = k .before .before in
-    vet-refused (t .before .before .args .s .now) (sym (k .k .given .1) ∙ t .take .ensures)
+    vet-refused (t .before .before .args .s .now) (sym (k .number .given .1) ∙ t .take .ensures)
 
 returns-2 : tie.Need-returns-2
 returns-2 c =

@@ -1,6 +1,7 @@
 -- `writing::write` meets its contract: the sheet is refused as it is vetted, or 44, 5 and its octets decide. Assumes nothing.
 use mathlib.Core.Path.{sym, _∙_}
-use Rattle.writing.specs.WritesLaws.{writes-as, write-refused, write-vetted}
+use Rattle.answers.specs.AnswersLaws.{writes-as, writes-refused}
+use Rattle.writing.specs.WritesLaws.{write-refused, write-vetted}
 use borrow.Author.Needs.{needs}
 use Rattle.writing.proofs.write.Statement.{statement}
 use Rattle.writing.proofs.write.Tie as tie
@@ -15,7 +16,7 @@ returns : tie.Need-returns
 returns c =
     let k = c .before .before in
     let t = k .before .before in
-    writes-as (write-refused (t .before .before .before .args .s .now) _ (sym (k .k .given .1) ∙ t .vet .ensures)) (c .refused .ensures _)
+    writes-refused _ (write-refused (t .before .before .before .args .s .now) _ (sym (k .number .given .1) ∙ t .vet .ensures)) (c .refused .ensures)
 
 returns-2 : tie.Need-returns-2
 returns-2 c =

@@ -2,7 +2,8 @@
 use native.Mathlib.Omega.{arith}
 use Rattle.octets.specs.NumbersLaws.{bytes-at}
 use Rattle.octets.specs.Numbers.{Bytes}
-use Rattle.writing.specs.WritesLaws.{writes-as, writes-written, records-large, records-room, records-written, found-small, found-ready}
+use Rattle.answers.specs.AnswersLaws.{writes-as, writes-refused, writes-written}
+use Rattle.writing.specs.WritesLaws.{records-large, records-room, records-written, found-small, found-ready}
 use borrow.Author.Needs.{needs}
 use Rattle.writing.proofs.write_sheet.Statement.{statement}
 use Rattle.writing.proofs.write_sheet.Tie as tie
@@ -17,14 +18,14 @@ total-size-requires c κs = found-small (c .before .before .pre) (bytes c)
 returns : tie.Need-returns
 returns c =
     let k = c .before in
-    writes-as (records-large (k .before .before .before .before .pre) _ (k .if1 .taken)) (c .refused .ensures _)
+    writes-refused _ (records-large (k .before .before .before .before .pre) _ (k .if1 .taken)) (c .refused .ensures)
 
 returns-2 : tie.Need-returns-2
 returns-2 c =
     let k = c .before in
     let l = k .before in
     let t = l .before in
-    writes-as (records-room (t .before .before .before .pre) _ (l .if1 .left) (t .total-size .ensures) (k .if2 .taken)) (c .refused2 .ensures _)
+    writes-refused _ (records-room (t .before .before .before .pre) _ (l .if1 .left) (t .total-size .ensures) (k .if2 .taken)) (c .refused2 .ensures)
 
 put-octets-requires : tie.Need-put-octets-requires
 put-octets-requires c κs =
@@ -36,11 +37,12 @@ put-octets-requires c κs =
 
 returns-3 : tie.Need-returns-3
 returns-3 c =
-    let p = c .before .before in
+    let p = c .before .before .before in
     let k = p .before .before in
     let l = k .before in
     let t = l .before in
-    writes-as (records-written (t .before .before .before .pre) _ (l .if1 .left) (t .total-size .ensures) (k .if2 .left)) (writes-written (p .put-octets .ensures))
+    writes-as (records-written (t .before .before .before .pre) _ (l .if1 .left) (t .total-size .ensures) (k .if2 .left))
+    (writes-written (p .put-octets .ensures) (c .wrote .ensures))
 
 pub write-sheet-spec : {M : Type 1} → statement M
 write-sheet-spec =
@@ -52,5 +54,6 @@ write-sheet-spec =
     (λ c κs. search needs)
     returns-2
     put-octets-requires
+    (λ c κs. search needs)
     (λ c. search needs)
     returns-3)

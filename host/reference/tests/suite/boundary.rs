@@ -10,6 +10,7 @@ fn done(length: usize, found: usize, discarded: usize, fault: usize) -> Reading 
         found,
         discarded,
         fault,
+        place: 0,
     }
 }
 

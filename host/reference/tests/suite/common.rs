@@ -1,7 +1,7 @@
 //! Octets of RULES, builders of areas and sheets, and calls that also
 //! test what every call promises of its buffer.
 
-use dnr_reference::{read, write, Reading};
+use dnr_reference::{read, write, Reading, Written};
 
 /// doh1.example.com in wire form.
 pub const N: &[u8] = b"\x04doh1\x07example\x03com\0";
@@ -125,9 +125,11 @@ pub fn read_in(room: usize, carrier: u8, area: &[u8]) -> (Reading, Vec<u8>) {
             reading.found,
             reading.discarded,
             reading.fault,
+            reading.place,
         ];
-        assert_eq!(others, [0; 4]);
+        assert_eq!(others, [0; 5]);
     }
+    assert!(reading.place == 0 || reading.fault == 22);
     assert!(out[reading.length..]
         .iter()
         .all(|octet| *octet == UNTOUCHED));
@@ -160,17 +162,24 @@ pub fn read_number(carrier: u8, area: &[u8]) -> usize {
 }
 
 /// Writes into `room` octets, with the same tests as `read_in`.
-pub fn write_in(room: usize, sheet: &[u8]) -> (usize, Vec<u8>) {
+pub fn written_in(room: usize, sheet: &[u8]) -> (Written, Vec<u8>) {
     let mut out = vec![UNTOUCHED; room];
-    let writing = write(sheet, &mut out);
-    if writing.number != 0 {
-        assert_eq!(writing.length, 0);
+    let written = write(sheet, &mut out);
+    if written.number != 0 {
+        assert_eq!(written.length, 0);
     }
-    assert!(out[writing.length..]
+    assert!(written.place == 0 || written.number == 22);
+    assert!(out[written.length..]
         .iter()
         .all(|octet| *octet == UNTOUCHED));
-    out.truncate(writing.length);
-    (writing.number, out)
+    out.truncate(written.length);
+    (written, out)
+}
+
+/// The number of a writing and its octets.
+pub fn write_in(room: usize, sheet: &[u8]) -> (usize, Vec<u8>) {
+    let (written, octets) = written_in(room, sheet);
+    (written.number, octets)
 }
 
 pub fn write_number(sheet: &[u8]) -> usize {

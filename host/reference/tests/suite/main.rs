@@ -10,6 +10,7 @@ mod limits;
 mod names;
 mod params;
 mod places;
+mod places_given;
 mod sheets;
 mod states;
 mod wrong_readings;

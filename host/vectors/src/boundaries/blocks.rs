@@ -1,9 +1,11 @@
 //! Fields and framing of carrier 2, faults in their order, and blocks that are
 //! discarded among blocks that are kept (RULES B1, T2, W9).
 
-use super::layout::{address, area, coded, hex, letter_name, option, sheet, Resolver, A, N, P};
+use super::layout::{
+    address, area, coded, hex, letter_name, name_at, option, sheet, Resolver, A, N, P,
+};
 use super::pieces::{k1, k12, k12_sheet, k1_sheet};
-use super::table::{Done, Table, ROOM};
+use super::table::{bad_name, fault, Done, Fault, Table, ROOM};
 
 /// K1 with some octets changed. Places: length 3, priority 5, ADN length 7,
 /// name 8, address length 27, address 28, parameters 44.
@@ -20,18 +22,18 @@ fn k1_with(changes: &[(usize, u8)]) -> Vec<u8> {
 fn add_orders(table: &mut Table) {
     let source = "RULES T2, order of faults in carrier 2";
     let loopback = (28..44).map(|place| (place, u8::from(place == 43)));
-    let steps: [(Vec<(usize, u8)>, usize); 8] = [
+    let steps: [(Vec<(usize, u8)>, Fault); 8] = [
         // alpn with an empty string, key 4, a value past the end, ::1.
-        (vec![(48, 0)], 28),
-        (vec![(45, 4)], 27),
-        (vec![(47, 9)], 26),
-        (loopback.collect(), 25),
+        (vec![(48, 0)], fault(28)),
+        (vec![(45, 4)], fault(27)),
+        (vec![(47, 9)], fault(26)),
+        (loopback.collect(), fault(25)),
         // An address length of 15, a label of 64 octets, priority 0, an
         // address length past the end.
-        (vec![(27, 15)], 23),
-        (vec![(8, 64)], 22),
-        (vec![(5, 0)], 21),
-        (vec![(26, 1)], 20),
+        (vec![(27, 15)], fault(23)),
+        (vec![(8, 64)], bad_name(8)),
+        (vec![(5, 0)], fault(21)),
+        (vec![(26, 1)], fault(20)),
     ];
     let mut changes = Vec::new();
     for (more, fault) in steps {
@@ -129,7 +131,7 @@ fn add_discarded(table: &mut Table) {
         let done = Done {
             found: 6,
             discarded: 3,
-            fault: 27,
+            fault: fault(27),
             sheet: sheet(carrier, &ordered),
         };
         let source = format!("RULES W9, blocks discarded among others, carrier {carrier}");
@@ -137,7 +139,12 @@ fn add_discarded(table: &mut Table) {
         let mut turned = arrived;
         turned.reverse();
         let source = source + ", turned round";
-        let done = Done { fault: 22, ..done };
+        // The hyphen stands behind its label's length, or first in the text.
+        let hyphen = if carrier < 4 { 1 } else { 0 };
+        let done = Done {
+            fault: bad_name(name_at(carrier, 1) + hyphen),
+            ..done
+        };
         table.read(source, carrier, ROOM, &area(carrier, &turned), &done);
     }
 }

@@ -3,7 +3,7 @@
 
 use super::layout::{hex, option, options_162, params_of, sheet, Resolver, A4, N};
 use super::pieces::{k2, k2_sheet, k8_joined, k8_sheet};
-use super::table::{Done, Table, ROOM};
+use super::table::{bad_name, fault, Done, Fault, Table, ROOM};
 
 /// The name a with the address 192.0.2.1 and the port 853: an instance of 19
 /// octets with its length.
@@ -174,14 +174,15 @@ fn add_framing(table: &mut Table) {
 }
 
 /// Joined data too short for a name (RULES R20, R22).
-const SHORT: [(&str, usize); 7] = [
-    ("00", 20),
-    ("0000", 20),
-    ("0001 00", 20),
-    ("0002 0001", 20),
-    ("0003 0001 00", 22),
-    ("0004 0001 00 00", 22),
-    ("0003 0001 01", 20),
+const SHORT: [(&str, Fault); 7] = [
+    ("00", fault(20)),
+    ("0000", fault(20)),
+    ("0001 00", fault(20)),
+    ("0002 0001", fault(20)),
+    // The empty name stands behind L, priority and ADN length.
+    ("0003 0001 00", bad_name(2 + 2 + 1)),
+    ("0004 0001 00 00", bad_name(2 + 2 + 1)),
+    ("0003 0001 01", fault(20)),
 ];
 
 /// Joined data with N: L, priority and ADN length before it, and what stands
@@ -239,23 +240,38 @@ fn add_lengths(table: &mut Table) {
 /// the block is discarded whole, good instances with it.
 fn add_first_fault(table: &mut Table) {
     let alias = Resolver::named(0, N).block(1);
-    let bad_name = Resolver::named(1, b"\x01_\0").block(1);
+    let wrong = Resolver::named(1, b"\x01_\0").block(1);
     let good = small().block(1);
     // An instance past the joined data, and a field past its instance.
     let (past, short) = (hex("0040 0001"), hex("0001 00"));
     // An address length of 4 and no address: the next instance must not lend
     // its octets, since each is read from its own.
     let borrowing = [&hex("0016 0001 12"), N, &[4]].concat();
-    let rows: [(&str, &[&[u8]], usize); 9] = [
-        ("21, then past the end", &[&alias, &past], 21),
-        ("good, then past the end", &[&good, &past], 20),
-        ("21, then a field past its end", &[&alias, &short], 21),
-        ("a field past its end, then 21", &[&short, &alias], 20),
-        ("22, then 21", &[&bad_name, &alias], 22),
-        ("21, then 22", &[&alias, &bad_name], 21),
-        ("good, then 22, then 21", &[&good, &bad_name, &alias], 22),
-        ("good twice, then 21", &[&good, &good, &alias], 21),
-        ("a next instance's octets", &[&borrowing, &good], 20),
+    // The underscore stands behind L, priority, ADN length and its label's
+    // length. The good instance has 19 octets.
+    let underscore = 2 + 2 + 1 + 1;
+    let rows: [(&str, &[&[u8]], Fault); 9] = [
+        ("21, then past the end", &[&alias, &past], fault(21)),
+        ("good, then past the end", &[&good, &past], fault(20)),
+        (
+            "21, then a field past its end",
+            &[&alias, &short],
+            fault(21),
+        ),
+        (
+            "a field past its end, then 21",
+            &[&short, &alias],
+            fault(20),
+        ),
+        ("22, then 21", &[&wrong, &alias], bad_name(underscore)),
+        ("21, then 22", &[&alias, &wrong], fault(21)),
+        (
+            "good, then 22, then 21",
+            &[&good, &wrong, &alias],
+            bad_name(19 + underscore),
+        ),
+        ("good twice, then 21", &[&good, &good, &alias], fault(21)),
+        ("a next instance's octets", &[&borrowing, &good], fault(20)),
     ];
     for (what, instances, fault) in rows {
         let source = format!("RULES T2, {what}");

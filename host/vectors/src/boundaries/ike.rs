@@ -2,9 +2,9 @@
 //! attributes without addresses or data (RULES W7, W8,
 //! B1).
 
-use super::layout::{address, hex, option, sheet, Resolver, A4, N, P};
+use super::layout::{address, hex, name_at, option, sheet, Resolver, A4, N, P};
 use super::pieces::{k5, k5_sheet};
-use super::table::{Done, Table, ROOM};
+use super::table::{bad_name, fault, Done, Fault, Table, ROOM};
 
 /// What a carrier reads and what it skips.
 struct Family {
@@ -98,21 +98,30 @@ fn add_types(table: &mut Table, family: &Family) {
 fn add_fields(table: &mut Table, carrier: u8) {
     let address = address(carrier, 1);
     let text = b"doh1.example.com";
-    let rows: [(&str, &str, &[&[u8]], usize); 12] = [
-        ("no data", "", &[], 20),
-        ("one octet", "00", &[], 20),
-        ("only a priority", "00 01", &[], 20),
-        ("no ADN length", "00 01 01", &[], 20),
-        ("no addresses", "00 01 00 10", &[text, P], 23),
-        ("only a name", "00 01 00 10", &[text], 23),
-        ("no name", "00 01 01 00", &[&address, P], 22),
-        ("neither", "00 01 00 00", &[P], 22),
-        ("a name past the end", "00 01 01 11", &[&address, text], 20),
-        ("addresses past it", "00 01 ff 10", &[&address, text], 20),
-        // The name stands behind the addresses (Figure 1 of RFC 9464).
-        ("a name first", "00 01 01 10", &[text, &address, P], 22),
+    let (short, no_address) = (fault(20), fault(23));
+    // An empty name, and one at fault in its first octet.
+    let [alone, behind] = [0, 1].map(|count| bad_name(name_at(carrier, count)));
+    let rows: [(&str, &str, &[&[u8]], Fault); 12] = [
+        ("no data", "", &[], short),
+        ("one octet", "00", &[], short),
+        ("only a priority", "00 01", &[], short),
+        ("no ADN length", "00 01 01", &[], short),
+        ("no addresses", "00 01 00 10", &[text, P], no_address),
+        ("only a name", "00 01 00 10", &[text], no_address),
+        ("no name", "00 01 01 00", &[&address, P], behind),
+        ("neither", "00 01 00 00", &[P], alone),
+        ("a name past it", "00 01 01 11", &[&address, text], short),
+        ("addresses past it", "00 01 ff 10", &[&address, text], short),
+        // The name stands behind the addresses (Figure 1 of RFC 9464). Where it
+        // should begin there is a dot in carrier 4, in carrier 5 the octet 20.
+        ("a name first", "00 01 01 10", &[text, &address, P], behind),
         // The text's last letter and P are then a key with a length of 256.
-        ("a short ADN", "00 01 01 0f", &[&address, text, P], 26),
+        (
+            "a short ADN",
+            "00 01 01 0f",
+            &[&address, text, P],
+            fault(26),
+        ),
     ];
     for (what, head, fields, fault) in rows {
         let source = format!("RULES B1, carrier {carrier}, {what}");

@@ -5,7 +5,7 @@ use super::layout::{
     addresses, area, coded, hex, name_of, own_code, params_of, sheet, Resolver, A, A4, N, P,
 };
 use super::pieces::k1;
-use super::table::{Done, Table, ROOM};
+use super::table::{fault, Done, Table, ROOM};
 
 /// Octets of the longest input (RULES L1).
 const LONGEST: usize = 40_960;
@@ -84,7 +84,7 @@ fn add_own_options(table: &mut Table) {
     let done = Done {
         found: 97,
         discarded: 81,
-        fault: 21,
+        fault: fault(21),
         sheet: sheet(2, &records),
     };
     assert_eq!(done.sheet.len(), 36_775);

@@ -101,6 +101,26 @@ pub fn text(wire: &[u8]) -> Vec<u8> {
     labels.join(&b'.')
 }
 
+/// Where the name of a block with so many addresses begins, from the block's
+/// first octet; in carrier 1 that of the first instance in the joined data
+/// (RULES B1).
+pub fn name_at(carrier: u8, addresses: usize) -> usize {
+    match carrier {
+        // Instance length, priority, ADN length.
+        1 => 2 + 2 + 1,
+        // Code and length, priority, ADN length.
+        2 => 4 + 2 + 2,
+        // Type and length, priority, lifetime, ADN length.
+        3 => 2 + 2 + 4 + 2,
+        // Type and length, priority, number of addresses, ADN length, addresses.
+        _ => 4 + 2 + 1 + 1 + addresses * width(carrier),
+    }
+}
+
+/// Where the name of a sheet's first record begins: the head, priority,
+/// lifetime, mode, name length (RULES S1, S2).
+pub const FIRST_NAME: usize = 7 + 2 + 4 + 1 + 1;
+
 /// A resolver, to be laid out in an area or in a sheet.
 #[derive(Clone)]
 pub struct Resolver {

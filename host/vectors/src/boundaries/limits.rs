@@ -4,7 +4,7 @@
 use super::layout::{
     address, addresses, area, letter_name, options_162, params_of, sheet, width, Resolver, N, P,
 };
-use super::table::{Done, Table, ROOM};
+use super::table::{fault, Done, Table, ROOM};
 
 /// An address of the carrier's width that a reading drops.
 fn multicast(carrier: u8) -> Vec<u8> {
@@ -114,7 +114,7 @@ fn add_records_kept(table: &mut Table) {
         let done = Done {
             found: 17,
             discarded: 1,
-            fault: 21,
+            fault: fault(21),
             sheet: sheet(carrier, &blocks),
         };
         table.read(source, carrier, done.sheet.len(), &octets, &done);

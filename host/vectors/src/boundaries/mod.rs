@@ -7,8 +7,9 @@
 //! significant octet first.
 //!
 //! The file `stdout` has one line a case, `r NUMBER LENGTH FOUND DISCARDED
-//! FAULT OCTETS KEPT` or `w NUMBER LENGTH OCTETS KEPT`. The numbers are
-//! decimal. OCTETS are the first LENGTH octets of the output, two lower-case
+//! FAULT PLACE OCTETS KEPT` or `w NUMBER LENGTH PLACE OCTETS KEPT`. The numbers
+//! are decimal. PLACE is that of a bad name, 0 where fault or number is not 22
+//! (RULES N5). OCTETS are the first LENGTH octets of the output, two lower-case
 //! hexadecimal digits each, or `-` for none. KEPT is always `kept`: every octet
 //! of the output buffer from LENGTH to the room is as it was before the call.
 //!
@@ -30,6 +31,8 @@ mod limits;
 mod names;
 mod params;
 mod pieces;
+mod places;
+mod places_given;
 mod rfc8973;
 mod rfc9460;
 mod rfc9463;
@@ -44,7 +47,7 @@ use std::{fs, io};
 use table::Table;
 
 /// All cases together stay below so many octets.
-const MAX_STDIN: usize = 1_000_000;
+const MAX_STDIN: usize = 1_048_576;
 
 /// The whole table.
 fn all_cases() -> Table {
@@ -54,6 +57,8 @@ fn all_cases() -> Table {
         inputs::add,
         limits::add,
         names::add,
+        places::add,
+        places_given::add,
         params::add,
         sheets::add,
         blocks::add,
@@ -140,7 +145,7 @@ mod tests {
         let mut seen = HashSet::new();
         for ((letter, case, room), line) in cases.into_iter().zip(lines) {
             let words: Vec<&str> = line.split(' ').collect();
-            assert_eq!(words.len(), if letter == b'r' { 8 } else { 5 }, "{line}");
+            assert_eq!(words.len(), if letter == b'r' { 9 } else { 6 }, "{line}");
             assert_eq!(words[0].as_bytes(), [letter], "{line}");
             assert_eq!(words[words.len() - 1], "kept", "{line}");
             let length: u32 = words[2].parse().expect("a length");
@@ -178,7 +183,7 @@ mod tests {
         let mut wrong = vec![done.clone(); 4];
         wrong[0].found = 1;
         wrong[1].discarded = 1;
-        wrong[2].fault = 20;
+        wrong[2].fault = table::fault(20);
         wrong[3].sheet[5] = 3;
         let mut table = Table::default();
         table.read("right", 2, 7, &[], &done);
@@ -188,8 +193,12 @@ mod tests {
         table.read_refused("wrong refusal", 2, 6, &[], 3);
         table.write("wrong octets", 8, &done.sheet, &[0]);
         table.write_refused("wrong refusal", 9, &done.sheet, 5);
+        let empty_name = b"\x00\x90\x00\x04\x00\x01\x00\x00";
+        table.discarded("wrong place", 2, empty_name, table::bad_name(7));
+        let empty_name = b"RSV\x00\x01\x02\x01\x00\x01\x00\x00\x00\x00\x00\x00";
+        table.write_refused("wrong place", 0, empty_name, table::bad_name(16));
         let found = table.disagreements();
-        assert_eq!(found.len(), 7);
+        assert_eq!(found.len(), 9);
         assert!(found.iter().all(|told| told.starts_with("wrong")));
     }
 }

@@ -1,7 +1,7 @@
 //! Parameters and the order of their faults (RULES P1 to P8, T3).
 
 use super::layout::{address, area, hex, param, sheet, Resolver, A, N, P};
-use super::table::{Done, Table, ROOM};
+use super::table::{fault, Done, Table, ROOM};
 
 /// Parameters with a fault. Where alpn "dot" stands beside others it is P.
 const BAD: [(&str, &str, usize); 40] = [
@@ -169,7 +169,7 @@ fn add_no_default_alpn(table: &mut Table) {
             _ => Done {
                 found: 2,
                 discarded: 1,
-                fault: 28,
+                fault: fault(28),
                 sheet: sheet(carrier, std::slice::from_ref(&good)),
             },
         };

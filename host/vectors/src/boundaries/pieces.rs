@@ -3,7 +3,7 @@
 //! and K12, is laid out by hand after RULES S1, S2 and B1.
 
 use super::layout::{hex, A, A4, N, P};
-use super::table::{Done, Table, ROOM};
+use super::table::{fault, Done, Table, ROOM};
 
 /// The address ::1 of K10.
 const LOOPBACK: &[u8] = &[0, 0, 0, 0, 0, 0, 0, 0, 0, 0, 0, 0, 0, 0, 0, 1];
@@ -200,10 +200,10 @@ pub fn add(table: &mut Table) {
 /// K7, K10 and K11, and the sheets that would belong to the first two, which
 /// the writer refuses with the same numbers.
 fn add_faulty(table: &mut Table) {
-    let none = |carrier, fault| Done {
+    let none = |carrier, number| Done {
         found: 1,
         discarded: 1,
-        fault,
+        fault: fault(number),
         sheet: empty_sheet(carrier),
     };
     let k7 = k1_with("00 00", A);

@@ -1,9 +1,11 @@
 //! Examples of RFC 8973, built into areas: its names, addresses and ports, and
 //! its own options as foreign ones.
 
-use super::layout::{address, area, coded, hex, option, param, sheet, two, Resolver, A4, N};
+use super::layout::{
+    address, area, coded, hex, name_at, option, param, sheet, two, Resolver, A4, FIRST_NAME, N,
+};
 use super::pieces::{k1, k1_sheet, k2, k2_sheet, k3, k3_sheet};
-use super::table::{Done, Table, ROOM};
+use super::table::{bad_name, Done, Table, ROOM};
 
 /// dots.example.com, as Figure 4 shows it: 18 octets.
 const DOTS: &[u8] = b"\x04dots\x07example\x03com\0";
@@ -27,7 +29,8 @@ fn add_name_and_addresses(table: &mut Table) {
     table.goes_round(source, 2, &[Resolver::full(1, DOTS, &mapped, &[])]);
     let source = "RFC 8973 §5.1.3, more than one name in one field";
     let fields = [&hex("00 01 00 24")[..], DOTS, N].concat();
-    table.discarded(source, 2, &option(2, &fields), 22);
+    // The second name begins where the field should end, behind 18 octets.
+    table.discarded(source, 2, &option(2, &fields), bad_name(8 + 18));
 }
 
 /// Its options 141, 142, 147 and 148 around K1, K2 and K3.
@@ -66,28 +69,33 @@ fn add_table_1(table: &mut Table) {
     }
 }
 
-/// Names of RFC 8973 Figures 8 and 9 and §8.1, and the fault, 0 if there is
-/// none. RULES N2 accepts no underscore and no wildcard.
-const NAMES: [(&[u8], usize); 5] = [
-    (b"\x0c_dots-signal\x04_udp\x07example\x03net\0", 22),
-    (b"\x0f_dots-call-home\x04_tcp\x07example\x03net\0", 22),
-    (b"\x01*\x07example\x03com\0", 22),
-    (b"\x06dots-1\x07example\x03com\0", 0),
-    (b"\x06signal\x07example\x03net\0", 0),
+/// Names of RFC 8973 Figures 8 and 9 and §8.1, and whether they are acceptable.
+/// RULES N2 accepts no underscore and no wildcard, which are the first octet of
+/// their label.
+const NAMES: [(&[u8], bool); 5] = [
+    (b"\x0c_dots-signal\x04_udp\x07example\x03net\0", false),
+    (b"\x0f_dots-call-home\x04_tcp\x07example\x03net\0", false),
+    (b"\x01*\x07example\x03com\0", false),
+    (b"\x06dots-1\x07example\x03com\0", true),
+    (b"\x06signal\x07example\x03net\0", true),
 ];
 
 /// Those names in every carrier.
 fn add_names(table: &mut Table) {
-    for (name, fault) in NAMES {
+    for (name, acceptable) in NAMES {
         for carrier in 1..=5 {
             let resolver = [Resolver::small(carrier, 1, name)];
             let source = format!("RFC 8973, one of its names in carrier {carrier}");
-            if fault == 0 {
+            if acceptable {
                 table.goes_round(source, carrier, &resolver);
-            } else {
-                table.discarded(source.clone(), carrier, &area(carrier, &resolver), fault);
-                table.write_refused(source, ROOM, &sheet(carrier, &resolver), fault);
+                continue;
             }
+            // Behind the label's length in wire form, first of all in text.
+            let place = name_at(carrier, 1) + if carrier < 4 { 1 } else { 0 };
+            let octets = area(carrier, &resolver);
+            table.discarded(source.clone(), carrier, &octets, bad_name(place));
+            let octets = sheet(carrier, &resolver);
+            table.write_refused(source, ROOM, &octets, bad_name(FIRST_NAME + 1));
         }
     }
 }

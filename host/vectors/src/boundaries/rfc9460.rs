@@ -2,8 +2,8 @@
 //! parameters of each record, with an address beside them. The answers are
 //! those of RULES P1 to P8, R21 and R22.
 
-use super::layout::{address, area, hex, sheet, Resolver};
-use super::table::{Table, ROOM};
+use super::layout::{address, area, hex, name_at, sheet, Resolver, FIRST_NAME};
+use super::table::{bad_name, Table, ROOM};
 
 const COM: &[u8] = b"\x03foo\x07example\x03com\0";
 const ORG: &[u8] = b"\x03foo\x07example\x03org\0";
@@ -13,11 +13,10 @@ const SHORT: &[u8] = b"\x07example\x03com\0";
 /// and the fault, 0 if it is good.
 type Row = (&'static str, u16, &'static [u8], &'static str, usize);
 
-/// RFC 9460 §D.1 and §D.2. AliasMode is refused, as are the root as a name and
-/// the hints; the rest is good.
-const VALID: [Row; 9] = [
+/// RFC 9460 §D.1 and §D.2. AliasMode is refused, as are the hints; the rest is
+/// good.
+const VALID: [Row; 8] = [
     ("D.1, AliasMode", 0, COM, "", 21),
-    ("D.2, the target name is the root", 1, b"\0", "", 22),
     ("D.2, a port", 16, COM, "00 03 00 02 00 35", 0),
     (
         "D.2, a generic key",
@@ -108,8 +107,23 @@ const FAILURES: [Row; 10] = [
     ),
 ];
 
+/// RFC 9460 §D.2, the target name is the root: its first octet is at fault, in
+/// text its end, there being no octet.
+fn add_root(table: &mut Table) {
+    for carrier in 1..=5 {
+        let source = format!("RFC 9460 §D.2, the target name is the root, carrier {carrier}");
+        let resolvers = [Resolver::full(1, b"\0", &address(carrier, 1), &[])];
+        let octets = area(carrier, &resolvers);
+        let place = bad_name(name_at(carrier, 1));
+        table.discarded(source.clone(), carrier, &octets, place);
+        let octets = sheet(carrier, &resolvers);
+        table.write_refused(source, ROOM, &octets, bad_name(FIRST_NAME));
+    }
+}
+
 /// All of the above, read and written in each carrier.
 pub fn add(table: &mut Table) {
+    add_root(table);
     for (what, priority, name, params, fault) in VALID.into_iter().chain(FAILURES) {
         for carrier in 1..=5 {
             let source = format!("RFC 9460 §{what}, carrier {carrier}");

@@ -2,7 +2,7 @@
 //! Figure 1. The other attributes have the types of RFC 7296 and RFC 8598.
 
 use super::layout::{coded, hex, sheet, Resolver};
-use super::table::{Done, Table, ROOM};
+use super::table::{bad_name, fault, Done, Table, ROOM};
 
 const INTERNAL_IP6_ADDRESS: u16 = 8;
 const INTERNAL_IP6_DNS: u16 = 10;
@@ -102,15 +102,28 @@ fn add_requests(table: &mut Table) {
     let by_name = [&hex("00 01 00 0f")[..], b"doh.example.com"].concat();
     let by_protocol = hex("00 01 00 00 00 01 00 04 03 64 6f 74");
     let domain = attribute(INTERNAL_DNS_DOMAIN, &[]);
+    // The empty names stand behind header, head and, in the first, an address.
     for (what, octets, fault) in [
-        ("A.1, a CFG_REQUEST", [own(&[]), algorithms].concat(), 20),
-        ("A.2, a resolver by its address", own(&by_address), 22),
-        ("A.2, a resolver by its name", own(&by_name), 23),
-        ("A.2, a transport protocol", own(&by_protocol), 22),
+        (
+            "A.1, a CFG_REQUEST",
+            [own(&[]), algorithms].concat(),
+            fault(20),
+        ),
+        (
+            "A.2, a resolver by its address",
+            own(&by_address),
+            bad_name(4 + 4 + 16),
+        ),
+        ("A.2, a resolver by its name", own(&by_name), fault(23)),
+        (
+            "A.2, a transport protocol",
+            own(&by_protocol),
+            bad_name(4 + 4),
+        ),
         (
             "A.3, a CFG_REQUEST for a domain",
             [own(&[]), domain].concat(),
-            20,
+            fault(20),
         ),
     ] {
         let source = format!("RFC 9464 §{what}");

@@ -3,7 +3,7 @@
 
 use super::layout::{addresses, area, hex, name_of, param, params_of, sheet, Resolver, A, N, P};
 use super::pieces::{k3, k3_sheet, k4};
-use super::table::{Done, Table, ROOM};
+use super::table::{bad_name, Done, Table, ROOM};
 
 /// A name-only option with so many octets of name and these behind it.
 fn named(name: usize, rest: &[u8]) -> Vec<u8> {
@@ -191,7 +191,7 @@ fn add_small(table: &mut Table) {
     table.discarded(source, 3, &hex("90 01 00 01 00 00 00 09"), 20);
     let source = "RULES R20, an option of two units without a name";
     let octets = hex("90 02 00 01 00 00 00 09 00 00 00 00 00 00 00 00");
-    table.discarded(source, 3, &octets, 22);
+    table.discarded(source, 3, &octets, bad_name(10));
 }
 
 /// All of the above.

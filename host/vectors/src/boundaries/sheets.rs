@@ -5,7 +5,7 @@ use super::layout::{
     address, addresses, area, hex, letter_name, name_of, params_of, sheet, Resolver, A, N, P,
 };
 use super::pieces::{empty_sheet, k12_sheet, k1_sheet, k2_sheet, k3_sheet, k5_sheet};
-use super::table::{Table, ROOM};
+use super::table::{bad_name, fault, Fault, Table, ROOM};
 
 /// A sheet with one octet set to another value.
 fn with(mut sheet: Vec<u8>, place: usize, octet: u8) -> Vec<u8> {
@@ -151,7 +151,8 @@ fn add_records(table: &mut Table) {
         let named = |priority, name: &[u8]| sheet(carrier, &[Resolver::named(priority, name)]);
         table.write_refused(source.clone(), ROOM, &named(1, N), 23);
         table.write_refused(source.clone() + ", 21 before", ROOM, &named(0, N), 21);
-        table.write_refused(source + ", 22 before", ROOM, &named(1, b"\x01-\0"), 22);
+        let (source, place) = (source + ", 22 before", bad_name(7 + 8 + 1));
+        table.write_refused(source, ROOM, &named(1, b"\x01-\0"), place);
     }
     for carrier in 1..=5 {
         let full = |addresses: &[u8]| [Resolver::full(1, N, addresses, &[])];
@@ -168,31 +169,27 @@ fn add_records(table: &mut Table) {
 /// 21 to 28 record by record, then 44, then 5 (RULES T5).
 fn add_record_order(table: &mut Table) {
     let good = Resolver::full(1, N, A, P);
-    let bad_name = Resolver::full(1, b"\x01_\0", A, P);
+    let wrong = Resolver::full(1, b"\x01_\0", A, P);
     let bad_port = Resolver::full(1, N, A, &hex("00 03 00 01 35"));
     let large = Resolver::full(1, N, &addresses(3, 63), &params_of(1_001));
-    let mut refused = |what: &str, room: usize, records: &[&Resolver], number| {
+    let mut refused = |what: &str, room: usize, records: &[&Resolver], number: Fault| {
         let records: Vec<Resolver> = records.iter().map(|record| (*record).clone()).collect();
         let source = format!("RULES T5, {what}");
         table.write_refused(source, room, &sheet(3, &records), number);
     };
-    refused(
-        "28 of the first, 22 of the second",
-        ROOM,
-        &[&bad_port, &bad_name],
-        28,
-    );
-    refused("22 of the second", ROOM, &[&good, &bad_name, &bad_port], 22);
-    refused(
-        "44 of the first, 22 of the second",
-        ROOM,
-        &[&large, &bad_name],
-        22,
-    );
-    refused("44 of the second", ROOM, &[&good, &large], 44);
-    refused("44 before 5", 0, &[&large], 44);
-    refused("22 before 5", 0, &[&bad_name], 22);
-    refused("5", 0, &[&good], 5);
+    // Where the wrong octet of the second record stands: behind the head, the
+    // first record (8 octets to the name length, N, number of addresses,
+    // addresses, parameter length, parameters), 8 octets and a length octet.
+    let behind_good = bad_name(7 + (8 + 18 + 1 + 16 + 2 + 8) + 8 + 1);
+    let behind_large = bad_name(7 + (8 + 18 + 1 + 63 * 16 + 2 + 1_001) + 8 + 1);
+    refused("28, then 22", ROOM, &[&bad_port, &wrong], fault(28));
+    let records = [&good, &wrong, &bad_port];
+    refused("22 of the second", ROOM, &records, behind_good);
+    refused("44, then 22", ROOM, &[&large, &wrong], behind_large);
+    refused("44 of the second", ROOM, &[&good, &large], fault(44));
+    refused("44 before 5", 0, &[&large], fault(44));
+    refused("22 before 5", 0, &[&wrong], bad_name(7 + 8 + 1));
+    refused("5", 0, &[&good], fault(5));
     let longest = Resolver::named(1, &name_of(&[63, 63, 63, 61]));
     let source = "RULES R44, name only is at most 272 octets in carrier 3";
     let octets = area(3, std::slice::from_ref(&longest));

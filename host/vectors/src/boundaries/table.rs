@@ -18,14 +18,15 @@ enum Input {
     Sheet(Vec<u8>),
 }
 
-/// What a call gives back, all zero and no octets for a refusal but its
-/// number. A writing has only a number and its output.
+/// What a call gives back, all zero and no octets for a refusal but its number
+/// and the place of 22. A writing has only a number, a place and its output.
 #[derive(Default, PartialEq, Eq)]
 struct Answer {
     number: usize,
     found: usize,
     discarded: usize,
     fault: usize,
+    place: usize,
     output: Vec<u8>,
 }
 
@@ -37,13 +38,39 @@ struct Case {
     stated: Answer,
 }
 
+/// A fault of a block or a refusal of a sheet, as the rules have it: its number,
+/// and for 22 the place.
+#[derive(Clone, Copy)]
+pub struct Fault {
+    number: usize,
+    place: usize,
+}
+
+/// Any fault or refusal but 22, which has to state its place.
+pub const fn fault(number: usize) -> Fault {
+    assert!(number != 22);
+    Fault { number, place: 0 }
+}
+
+/// 22 with the place of the bad name (RULES N5): in a block from its first octet,
+/// in carrier 1 from that of the joined data, in a sheet from its first octet.
+pub const fn bad_name(place: usize) -> Fault {
+    Fault { number: 22, place }
+}
+
+impl From<usize> for Fault {
+    fn from(number: usize) -> Self {
+        fault(number)
+    }
+}
+
 /// A reading that is done, as the rules have it.
 #[derive(Clone)]
 pub struct Done {
     pub found: usize,
     pub discarded: usize,
     /// The first discarded block's fault, 0 if there is none.
-    pub fault: usize,
+    pub fault: Fault,
     pub sheet: Vec<u8>,
 }
 
@@ -53,17 +80,17 @@ impl Done {
         Done {
             found,
             discarded: 0,
-            fault: 0,
+            fault: fault(0),
             sheet: sheet.to_vec(),
         }
     }
 
     /// The only block found is discarded with a fault, and no record is left.
-    pub fn discarded(carrier: u8, fault: usize) -> Self {
+    pub fn discarded(carrier: u8, fault: impl Into<Fault>) -> Self {
         Done {
             found: 1,
             discarded: 1,
-            fault,
+            fault: fault.into(),
             sheet: sheet(carrier, &[]),
         }
     }
@@ -98,17 +125,19 @@ impl Input {
                     found: reading.found,
                     discarded: reading.discarded,
                     fault: reading.fault,
+                    place: reading.place,
                     output: Vec::new(),
                 };
                 (answer, reading.length)
             }
             Input::Sheet(octets) => {
-                let writing = reference::write(octets, &mut output);
+                let written = reference::write(octets, &mut output);
                 let answer = Answer {
-                    number: writing.number,
+                    number: written.number,
+                    place: written.place,
                     ..Answer::default()
                 };
-                (answer, writing.length)
+                (answer, written.length)
             }
         };
         assert!(output[length..].iter().all(|octet| *octet == MARK));
@@ -124,14 +153,15 @@ impl Input {
             found,
             discarded,
             fault,
+            place,
             output,
         } = answer;
         let (length, octets) = (output.len(), digits(output));
         match self {
             Input::Area { .. } => {
-                format!("r {number} {length} {found} {discarded} {fault} {octets} kept")
+                format!("r {number} {length} {found} {discarded} {fault} {place} {octets} kept")
             }
-            Input::Sheet(_) => format!("w {number} {length} {octets} kept"),
+            Input::Sheet(_) => format!("w {number} {length} {place} {octets} kept"),
         }
     }
 }
@@ -156,7 +186,8 @@ impl Table {
             number: 0,
             found: done.found,
             discarded: done.discarded,
-            fault: done.fault,
+            fault: done.fault.number,
+            place: done.fault.place,
             output: done.sheet.clone(),
         };
         let octets = octets.to_vec();
@@ -174,7 +205,7 @@ impl Table {
     ) {
         let octets = octets.to_vec();
         let input = Input::Area { carrier, octets };
-        self.push(source, room, input, refusal(number));
+        self.push(source, room, input, refusal(fault(number)));
     }
 
     /// The area is read with room exactly for its sheet, one octet less
@@ -192,7 +223,7 @@ impl Table {
         source: impl Into<String>,
         carrier: u8,
         octets: &[u8],
-        fault: usize,
+        fault: impl Into<Fault>,
     ) {
         let done = Done::discarded(carrier, fault);
         self.read(source, carrier, ROOM, octets, &done);
@@ -213,10 +244,10 @@ impl Table {
         source: impl Into<String>,
         room: usize,
         sheet: &[u8],
-        number: usize,
+        refused: impl Into<Fault>,
     ) {
         let input = Input::Sheet(sheet.to_vec());
-        self.push(source, room, input, refusal(number));
+        self.push(source, room, input, refusal(refused.into()));
     }
 
     /// The sheet is written with room exactly for its octets, one octet less
@@ -306,10 +337,11 @@ fn digits(octets: &[u8]) -> String {
     octets.iter().map(|octet| format!("{octet:02x}")).collect()
 }
 
-/// A refusal: its number, all else zero, and nothing written.
-fn refusal(number: usize) -> Answer {
+/// A refusal: its number, the place of 22, all else zero, and nothing written.
+fn refusal(refused: Fault) -> Answer {
     Answer {
-        number,
+        number: refused.number,
+        place: refused.place,
         ..Answer::default()
     }
 }
