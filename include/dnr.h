@@ -99,17 +99,19 @@ enum {
  * key 3 the port.
  * In a sheet that dnr_read wrote all this holds, so a program may walk it without testing it again; examples/resolvers.c does. */
 
-/* The place of a bad name, which fault 22 has when dnr_read discards a block and refusal 22 when dnr_write refuses a sheet. It is the first
- * octet of the name at which no host name can continue; where the name as far as it goes is the beginning of one and is only cut short,
- * it is the end of the name's field. Octets count from 0.
+/* The place of a bad name, which fault 22 has when dnr_read discards a block and refusal 22 when dnr_write refuses a sheet. It counts from
+ * 0 and is the first octet of the name at which no host name can continue; where the name is only cut short it is the index after its
+ * last octet, which may be the length of the block or of the sheet: compare before looking at the octet there.
  *   dnr_read   counts from the first octet of the block, that of its option's or attribute's header: the name begins at 8 in DHCPv6, at 10
  *              in a router advertisement, and in IKEv2 at 8 plus the octets of all addresses, where the octet is one of the name's text.
- *              DHCPv4: it counts in the data of all options 162 joined, from their first octet. The two octets of code and length before
- *              each option's data are not counted, the 16-bit length of each instance is: an instance that starts with its length at s
- *              has its name at s + 5.
+ *              DHCPv4: the block is the data of all options 162 joined, and it counts from their first octet. The two octets of code and
+ *              length before each option's data are not counted, the 16-bit length of each instance is: an instance that starts with its
+ *              length at s has its name at s + 5.
  *   dnr_write  counts from the sheet's first octet, in the wire form that a sheet holds for every carrier: the name of a record that starts
  *              at s begins at s + 8.
  * For every other fault and every other refusal, and where there is neither, place is 0; for a bad name it never is. */
+
+/* The sizes of the two structs are part of the interface: compile with the header of the library that is linked. */
 
 /* What dnr_read gives back.
  *   number     DNR_DONE, or a refusal, 1 to 5, with every other field 0.

@@ -284,29 +284,10 @@ refused 28 "52535600010201${R}12${N}01${A}000400010000"
 refused 28 "52535600010201${R}12${N}01${A}000400020000"
 refused 44 "52535600010301${R}12${N}3f$(repeated 63 "$A")0400ff0003fc$(repeated 1020 00)"
 
-# refused_at OCTET REASON HEX: the sheet is refused by 22, and said is where its name is wrong and why.
-refused_at() {
-    for command in write show; do
-        said="dnr: standard input: octet $1: refused, 22: $(words 22); $2"
-        octets "$3" >"$work/in"
-        says "$command refuses a name, $2" 1 '' "$said" "$dnr" $command
-        octets "$3" >"$work/in"
-        tells "$command --json refuses a name, $2" 1 '' "$said" "$dnr" $command --json
-    done
-}
-# the name of the first record begins at octet 15, after 7 of the sheet's head and 8 of its own
-refused_at 15 'it is empty' 525356000102010001000000000000
-refused_at 16 'an underscore' 525356000102010001000000000003015f00
-refused_at 16 'an underscore' "52535600010201${R}03015f00000000"
-refused_at 17 'it has no end: the name stops before its last octet 0' 5253560001020100010000000000020161
-# of the second after 11 octets of the first, and after 18 in full form
-refused_at 28 'a hyphen at the beginning or end of a label' 525356000102020001000000000003016100000200000000000402612d00
-refused_at 35 'a compression pointer' "52535600010402${R}0301610001c0000201000000020000000001040161c00c01c00002010000"
-
 # discarded FAULT OCTET END HEX: the one block of a DHCPv6 area is discarded (tools/findings.py tries this at length).
 discarded() {
     at=
-    [ "$1" -ne 22 ] || at=" at octet $2"
+    [ "$1" -ne 22 ] || at=" at octet $2 of its block"
     octets "$4" >"$work/in"
     says "a block discarded for $1" 0 "DHCPv6 (carrier 2), 0 records
 found 1, discarded 1, fault $1$at" "$(discards 'standard input' 1 "$2" "$1")$3" "$dnr" read 2
@@ -321,19 +302,6 @@ discarded 26 44 '; parameter key65535' "0090002c00010012${N}0010${A}ffff0000"
 discarded 27 44 '; parameter key6' "0090002c00010012${N}0010${A}00060000"
 discarded 28 44 '; parameter alpn' "0090002c00010012${N}0010${A}00010000"
 discarded 28 44 '; parameter no-default-alpn' "0090002c00010012${N}0010${A}00020000"
-
-# the place of a wrong name is counted in its block, and the first fault is told: of a second block, of joined data, after another fault
-octets "${area}0090000700010003015f00" >"$work/in"
-says "a wrong name in the second block" 0 "$(sed '$d' "$tests/k01-dhcp6.txt")
-found 2, discarded 1, fault 22 at octet 9" "$(discards 'standard input' 2 61 22); an underscore" "$dnr" read 2
-octets a20400060001a20403015f00 >"$work/in"
-says "a wrong name in joined data" 0 "DHCPv4 (carrier 1), 0 records
-found 1, discarded 1, fault 22 at octet 6" "$(discards 'standard input' 1 10 22); an underscore" "$dnr" read 1
-octets "0090001600000012${N}0090000700010003015f00" >"$work/in"
-says "a wrong name after another fault" 0 "DHCPv6 (carrier 2), 0 records
-found 2, discarded 2, fault 21" "dnr: standard input: 2 of 2 blocks discarded
-dnr: standard input: block 1, octet 4: discarded, 21: $(words 21)
-dnr: standard input: block 2, octet 35: discarded, 22: $(words 22); an underscore" "$dnr" read 2
 
 repeated 17 "0090001600010012$N" >"$work/in"
 says "seventeen records" 1 '' "dnr: standard input: refused, 4: $(words 4)" "$dnr" read 2
@@ -387,6 +355,7 @@ says "options first" 0 "@$tests/k01-dhcp6.json" '' "$dnr" read --json --hex dhcp
 
 # ---- files, and readings without all that was to be found
 
+. "$tests/places.sh"
 . "$tests/files.sh"
 . "$tests/left.sh"
 . "$tests/json.sh"

@@ -401,7 +401,7 @@ def messages(carrier, area, reading):
 
 def numbers(reading):
     """The line of text after the sheet."""
-    at = f" at octet {reading.place}" if reading.fault == 22 else ""
+    at = f" at octet {reading.place} of its block" if reading.fault == 22 else ""
     return f"found {reading.found}, discarded {reading.discarded}" + (f", fault {reading.fault}{at}" if reading.fault else "")
 
 

@@ -215,7 +215,7 @@ fn give_octets(a: Asked, s: &[u8], text: &mut [u8]) -> i32
     output::print_hex(a.json, s, text)
 }
 
-// Says that a sheet is refused; for a name, at which octet and why.
+// Says that a sheet is refused; with 22 also at which octet, and why the resolver's name there is bad.
 fn refuse_sheet(a: Asked, name: &[u8], sheet: &[u8], number: usize, place: usize) -> i32
     ensures { λ r. ⌜ r ≡ pos status.refused ⌝ }
 {

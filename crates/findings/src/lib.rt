@@ -1,13 +1,12 @@
 // What is found amiss in the blocks of an area, for people: where the fault of a body stands, why a name is bad and which parameter is at fault
-// (RULES R20 to R29), and where in the area an octet of joined data stands (RULES W4). `records` and `reading` decide which fault it is; here it is only
+// (RULES R20 to R29), where in the area an octet of joined data stands (RULES W4), and why a name of a sheet is bad (`sheet`). `records` and `reading` decide which fault it is; here it is only
 // told more closely, and `findings/Exactly` has that the number is theirs.
 pub mod sheet;
 
 ghost use mathlib.Core.Path.{_≡_};
 ghost use Prim.Native.Nat.{ℕ, _+_, _≤_, _<_, _^_};
 ghost use lib.ListN.{length};
-ghost use Rattle.blocks.specs.Block.{headWith, fieldsOf};
-ghost use Rattle.blocks.specs.Block.{nameAt};
+ghost use Rattle.blocks.specs.Block.{headWith, fieldsOf, nameAt};
 ghost use Rattle.findings.specs.Troubles as troubles;
 ghost use Rattle.findings.specs.Troubles.{paddingAt, laidPlace, addressLengthAt, addressesAt, parametersAt, limitAt, fieldPlace};
 ghost use Rattle.findings.specs.Troubles.{reasonOf, fieldsTrouble, troubleOf, joinedTrouble};

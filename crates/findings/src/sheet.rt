@@ -25,7 +25,7 @@ fn seek(c: Carrier, s: &[u8], place: usize) -> usize
     0
 }
 
-// Why the name at a place of a sheet is bad (`reasons::Reason`), and 0 where the octets are no sheet or no name ends after it.
+// Why the name at a place of a sheet is bad (`reasons::Reason`), and 0 where the octets are no sheet or no name ends at the place or after it.
 pub fn reason(s: &[u8], place: usize) -> usize
     ensures { λ r. ⌜ r ≡ sheetReason (now (s .entry)) place ⌝ }
 {

@@ -13,5 +13,6 @@ judged k p = record { fault = k; place = p }
 abbrev pub placeFrom : ℕ → ℕ → ℕ → ℕ
 placeFrom n k p = cond (eqb k fault.name) (n + p) 0
 
+-- the same of a fault with its place
 abbrev pub from : ℕ → Judged → Judged
 from n j = judged (j .fault) (placeFrom n (j .fault) (j .place))

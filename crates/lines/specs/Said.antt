@@ -48,7 +48,7 @@ hints =
 unfoldable pub refusedOf : List ℕ → ℕ → ℕ → List ℕ
 refusedOf name number hint = aboutOf name ++ (ascii ": refused, " ++ (wordedOf number ++ (wordsIn hints hint ++ ascii "\n")))
 
--- a sheet is refused for a name, at an octet of it, and why the name is bad (RULES T8)
+-- a sheet, the input of this name, is refused for the name of a resolver: at which octet, and why that is bad (RULES T8)
 unfoldable pub refusedAtOf : List ℕ → ℕ → ℕ → List ℕ
 refusedAtOf name octet reason =
     aboutOf name ++ (countOf (ascii ": octet ") octet ++ (ascii ": refused, " ++ causeOf fault.name reason none))

@@ -85,7 +85,7 @@ pub fn put_refused(out: &mut [u8], name: &[u8], number: usize, hint: usize) -> u
     put_all(out, end, b"\n")
 }
 
-// Writes that a sheet is refused for a name: at which octet, and why the name is bad, where that is known.
+// Writes that a sheet, the input of this name, is refused for the name of a resolver: at which octet, and why that is bad, where it is known.
 pub fn put_refused_at(out: &mut [u8], name: &[u8], octet: usize, reason: usize) -> usize
     ensures { λ r. ⌜ Counts r (now (out .exit)) ⌝ }
     ensures { λ r. ⌜ Puts 0 (refusedAtOf (now (name .entry)) octet reason) (now (out .entry)) r (now (out .exit)) ⌝ }

@@ -9,9 +9,9 @@ use Rattle.chars.specs.Ascii.{ascii}
 use Rattle.lines.specs.Messages.{countOf}
 use Rattle.showing.specs.Showing.{shownOf}
 
--- the place of fault 22, and of no other (RULES W11)
+-- the place of fault 22 in its block, and of no other fault (RULES W11)
 abbrev pub placePart : ℕ → ℕ → List ℕ
-placePart k p = cond (eqb k fault.name) (countOf (ascii " at octet ") p) []
+placePart k p = cond (eqb k fault.name) (countOf (ascii " at octet ") p ++ ascii " of its block") []
 
 -- the first fault; 0 is none
 abbrev pub firstPart : ℕ → ℕ → List ℕ

@@ -10,12 +10,13 @@ use octets::lesser;
 
 // ---- as text
 
-// Writes the place of fault 22, and of no other.
+// Writes the place of fault 22 in its block, and of no other fault.
 fn put_place_part(out: &mut [u8], at: usize, fault: usize, place: usize) -> usize
     ensures { λ n. ⌜ Puts at (placePart fault place) (now (out .entry)) n (now (out .exit)) ⌝ }
 {
     if fault == Fault::NAME {
-        return put_count(out, at, b" at octet ", place);
+        let next = put_count(out, at, b" at octet ", place);
+        return put_all(out, next, b" of its block");
     }
     lesser(at, out.len())
 }

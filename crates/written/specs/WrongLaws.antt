@@ -37,7 +37,7 @@ use Rattle.written.specs.Wrong.{WrongName}
 -- ---- among records
 
 -- the first of the records rs that is not allowed has a wrong name; the records stand from index `at` on, and p is the place of its first bad octet
-record WrongIn (c : Carrier) (at : ℕ) (rs : List Fields) (p : ℕ) : Type 0 where
+record WrongAmong (c : Carrier) (at : ℕ) (rs : List Fields) (p : ℕ) : Type 0 where
   before : List Fields
   wrong : Fields
   after : List Fields
@@ -55,10 +55,10 @@ module _ (c : Carrier) where
   named-service r (inr b) e = b .0
 
   -- 22 is the first fault exactly of such records
-  first-wrong : {at : ℕ} {rs : List Fields} {k p : ℕ} → FirstFault c at rs k p → k ≡ fault.name → WrongIn c at rs p
+  first-wrong : {at : ℕ} {rs : List Fields} {k p : ℕ} → FirstFault c at rs k p → k ≡ fault.name → WrongAmong c at rs p
   first-wrong (here {at} {r} {rs} b n x) e = go x e (named-service r b e)
     where
-      go : {k p : ℕ} → PlaceOf IsName (r .name) (at + headSize) k p → k ≡ fault.name → (r .priority ≡ 0 → ⊥) → WrongIn c at (r ∷ rs) p
+      go : {k p : ℕ} → PlaceOf IsName (r .name) (at + headSize) k p → k ≡ fault.name → (r .priority ≡ 0 → ⊥) → WrongAmong c at (r ∷ rs) p
       go (nowhere m) e s = absurd (m e)
       go (in-name {i} bad) e s = record {
         before = [];
@@ -120,7 +120,7 @@ module _ (c : Carrier) where
       (stands-at (r .name) (front ++ more) size (stands-within front (r .name) (recordOf c r) (recordsOf c after) headSize room (record-name r)))
 
 module _ (s : List ℕ) (p : ℕ) where
-  in-sheet : {c : Carrier} {rs : List Fields} → IsSheet s c rs → WrongIn c frontSize rs p → WrongName s p
+  in-sheet : {c : Carrier} {rs : List Fields} → IsSheet s c rs → WrongAmong c frontSize rs p → WrongName s p
   in-sheet {c} {rs} i w =
       let start : ℕ = frontSize + length (recordsOf c (w .before)) + headSize in
       let is : IsSheet s c (w .before ++ (w .wrong ∷ w .after)) = subst (IsSheet s c) (w .are) i in
@@ -160,7 +160,7 @@ module _ (s : List ℕ) (p : ℕ) where
     answers-wrong (faulty {c} {rs} {k} {p = q} i f) e =
         let j : k ≡ fault.name = cc in
         let o : q ≡ p = cc in
-        in-sheet i (subst (WrongIn c frontSize rs) o (first-wrong c f j))
+        in-sheet i (subst (WrongAmong c frontSize rs) o (first-wrong c f j))
     answers-wrong (large i a n) e = let z : refusal.large ≡ fault.name = cc in absurd (omega arith)
     answers-wrong (no-room a h) e = let z : refusal.room ≡ fault.name = cc in absurd (omega arith)
     answers-wrong (is-written a h) e = let z : _≡_ {A = ℕ} 0 1 = cc in absurd (omega arith)

@@ -1,6 +1,6 @@
-//! The place of a bad name (RULES N5), which the library, the reference and a rule of its own (`compare::places`) give alike: all short names of a small
-//! alphabet, names at the limits and names changed at random, each in a block of every carrier that has its form, with addresses and other blocks
-//! around it, and in the first to third record of a sheet.
+//! The place of a bad name (RULES N5, W11, T8), which the library, the reference and a rule of its own (`compare::places`) give alike: all short names of
+//! a small alphabet, names at the limits and names changed at random, each in a block of every carrier that has its form, with addresses, other blocks
+//! and other faults around it, and in the first to third record of a sheet.
 
 use compare::generate::width;
 use compare::places::{is_name, least_place, place, Form};
@@ -12,6 +12,18 @@ const MARK: u8 = 0x3c;
 /// The name a.b of the good blocks and records, in wire form and as text.
 const GOOD: &[u8] = b"\x01a\x01b\x00";
 const GOOD_TEXT: &[u8] = b"a.b";
+
+/// The name a_ of the second bad block.
+const BAD: &[u8] = b"\x02a_\x00";
+const BAD_TEXT: &[u8] = b"a_";
+
+/// A block, in carrier 1 an instance: its fault, 0 if it is good, and for 22 the place in it.
+#[derive(Clone)]
+struct Block {
+    octets: Vec<u8>,
+    fault: usize,
+    place: usize,
+}
 
 /// A list of good addresses.
 fn addresses(carrier: u8, many: usize) -> Vec<u8> {
@@ -65,38 +77,77 @@ fn cut(r: &mut Random, joined: &[u8]) -> Vec<u8> {
     area
 }
 
-/// An area with this name between good blocks, how many blocks or instances it has, and where the name's block or instance begins as a place counts.
-fn area(r: &mut Random, carrier: u8, bad: &[u8]) -> (Vec<u8>, usize, usize) {
-    let good = block(carrier, if carrier > 3 { GOOD_TEXT } else { GOOD }, 1).0;
-    let (before, after) = (r.below(3), r.below(3));
+/// A block with this name and so many addresses, whose name is wrong at a place or good.
+fn named(carrier: u8, name: &[u8], many: usize, wrong: Option<usize>) -> Block {
+    let (octets, at) = block(carrier, name, many);
+    match wrong {
+        Some(place) => Block { octets, fault: 22, place: at + place },
+        None => Block { octets, fault: 0, place: 0 },
+    }
+}
+
+/// The same block with priority 0, which is found before the name is looked at.
+fn alias(carrier: u8, of: &Block) -> Block {
+    let mut octets = of.octets.clone();
+    octets[if carrier == 1 || carrier == 3 { 3 } else { 5 }] = 0;
+    Block { octets, fault: 21, place: 0 }
+}
+
+/// The block between good ones, perhaps behind one of priority 0, perhaps before a second one whose name is wrong.
+fn around(r: &mut Random, carrier: u8, given: Block) -> Vec<Block> {
+    let (form, good, bad) = if carrier > 3 { (Form::Text, GOOD_TEXT, BAD_TEXT) } else { (Form::Wire, GOOD, BAD) };
+    let good = named(carrier, good, 1, None);
+    let mut blocks = vec![good.clone(); r.below(3)];
+    if r.once_in(5) {
+        blocks.push(alias(carrier, if r.once_in(2) { &good } else { &given }));
+    }
+    blocks.push(given);
+    blocks.extend(vec![good.clone(); r.below(3)]);
+    if r.once_in(3) {
+        blocks.push(named(carrier, bad, r.below(3), Some(place(form, bad))));
+        blocks.extend(vec![good; r.below(2)]);
+    }
+    blocks
+}
+
+/// An area of these blocks.
+fn area(r: &mut Random, carrier: u8, blocks: &[Block]) -> Vec<u8> {
     if carrier == 1 {
-        let joined = [&good.repeat(before)[..], bad, &good.repeat(after)].concat();
-        return (cut(r, &joined), 1, before * good.len());
+        let joined: Vec<u8> = blocks.iter().flat_map(|block| block.octets.clone()).collect();
+        return cut(r, &joined);
     }
     let mut area = Vec::new();
-    for index in 0..before + 1 + after {
+    for block in blocks {
         if r.once_in(3) {
             area.extend(foreign(r, carrier));
         }
-        area.extend(if index == before { bad } else { &good[..] });
+        area.extend(&block.octets);
     }
-    (area, before + 1 + after, 0)
+    area
 }
 
-/// Reads the name in a block with good ones around it.
+/// What a reading tells of these blocks: the first with a fault gives fault and place. In carrier 1 they are one block, and the place counts in all of it.
+fn told(carrier: u8, blocks: &[Block], length: usize) -> Reading {
+    let discarded = blocks.iter().filter(|block| block.fault != 0).count();
+    let first = blocks.iter().position(|block| block.fault != 0);
+    let (fault, place) = first.map_or((0, 0), |at| (blocks[at].fault, blocks[at].place));
+    if carrier > 1 {
+        return Reading { number: 0, length, found: blocks.len(), discarded, fault, place };
+    }
+    let before: usize = blocks[..first.unwrap_or(0)].iter().map(|block| block.octets.len()).sum();
+    let place = if fault == 22 { before + place } else { 0 };
+    Reading { number: 0, length, found: 1, discarded: discarded.min(1), fault, place }
+}
+
+/// Reads the name in a block with other ones around it.
 fn read_in(r: &mut Random, carrier: u8, name: &[u8], wanted: Option<usize>) {
     let many = if wanted.is_none() { 1 + r.below(3) } else { r.below(4) };
-    let (bad, at) = block(carrier, name, many);
-    let (area, found, start) = area(r, carrier, &bad);
+    let blocks = around(r, carrier, named(carrier, name, many, wanted));
+    let area = area(r, carrier, &blocks);
     for (side, read, _) in SIDES {
         let mut sheet = vec![MARK; 4_000];
         let got = read(carrier, &area, &mut sheet);
-        let (discarded, fault, place) = match wanted {
-            Some(place) => (1, 22, start + at + place),
-            None => (0, 0, 0),
-        };
-        let wanted = Reading { number: 0, length: got.length, found, discarded, fault, place };
-        assert_eq!(got, wanted, "{side}, carrier {carrier}, name {name:02x?}, area {area:02x?}");
+        assert_eq!(got, told(carrier, &blocks, got.length), "{side}, carrier {carrier}, name {name:02x?}, area {area:02x?}");
         // With less room the reading is refused, and a refusal has no place.
         let refused = Reading { number: 5, length: 0, found: 0, discarded: 0, fault: 0, place: 0 };
         assert_eq!(read(carrier, &area, &mut sheet[..got.length - 1]), refused, "{side}, carrier {carrier}");

@@ -61,9 +61,14 @@ pub struct Reading {
     pub first_fault: Option<Fault>,
     /// Where the name of that block is wrong; there exactly if its fault is [`Fault::NAME`].
     ///
-    /// It is the first octet at which no host name can continue, or the end of the name's field if the name is cut short. It counts from 0
-    /// at the first octet of the block, which is that of the option's or attribute's header; in DHCPv4 at the first octet of the data of
-    /// all options 162 joined, the headers of the options left out. In IKEv2 the octet is one of the name as text.
+    /// It is the first octet at which no host name can continue; where the name is only cut short it is the index after its last octet,
+    /// which may be the length of the block: compare before looking at the octet there. It counts from 0 at the first octet of the block,
+    /// which is that of the option's or attribute's header: the name begins at 8 in DHCPv6, at 10 in a router advertisement, and in IKEv2
+    /// at 8 plus the octets of all addresses, where the octet is one of the name's text.
+    ///
+    /// In DHCPv4 the block is the data of all options 162 joined, and it counts from their first octet. The two octets of code and length
+    /// before each option's data are not counted, the 16-bit length of each instance is: an instance that starts with its length at s has
+    /// its name at s + 5.
     pub first_place: Option<usize>,
 }
 

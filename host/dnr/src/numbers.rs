@@ -68,8 +68,9 @@ impl Refusal {
 
     /// Where a name is wrong; there exactly if a writing refused with 22.
     ///
-    /// It is the first octet at which no host name can continue, or the end of the name if it is cut short, and counts from 0 at the sheet's
-    /// first octet. A sheet holds names in wire form, for IKEv2 too.
+    /// It is the first octet at which no host name can continue; where the name is only cut short it is the index after its last octet,
+    /// which may be the length of the sheet: compare before looking at the octet there. It counts from 0 at the sheet's first octet: the
+    /// name of a record that starts at s begins at s + 8. A sheet holds names in wire form, for IKEv2 too.
     ///
     /// ```
     /// // A sheet of one record, whose name "a-" stands at octet 15, behind the length of its label: the hyphen may not be last.
@@ -122,7 +123,8 @@ impl Fault {
 }
 
 impl From<Fault> for Refusal {
-    /// Writing's answer for a record with this fault, without a place.
+    /// Writing's answer for a record with this fault, without a place. For 22 it equals no refusal that a writing gave, which has a place:
+    /// compare [`Refusal::fault`] or [`Refusal::number`].
     fn from(fault: Fault) -> Self {
         Refusal::without_place(fault.0)
     }

@@ -112,7 +112,7 @@ fn faults_of_a_reading() {
     assert_eq!(read_to_vec(Carrier::Dhcp6, &area).unwrap().1, done(60, 3, 2, Some(Fault::DROPPED)));
 }
 
-/// A hyphen as the first octet of the name's first label, or of the name as text, in a piece of each carrier (RULES N5).
+/// A hyphen as the first octet of the name's first label, or of the name as text, in a piece of each carrier (RULES N5, W11).
 #[test]
 fn places_of_bad_names() {
     // In carrier 1 the header of the option, 2 octets, is not counted; the name stands 5 octets behind the start of the instance.
@@ -120,6 +120,8 @@ fn places_of_bad_names() {
         (Carrier::Dhcp4, piece!("k02-dhcp4"), 2 + 5 + 1, 5 + 1),
         (Carrier::Dhcp6, piece!("k01-dhcp6"), 8 + 1, 8 + 1),
         (Carrier::Ra, piece!("k03-ra"), 10 + 1, 10 + 1),
+        // Behind a foreign attribute of 8 octets, and before an attribute with fault 20.
+        (Carrier::Ike4, piece!("escaped-ike4"), 8 + 8 + 4, 8 + 4),
         (Carrier::Ike6, piece!("k05-ike6"), 8 + 16, 8 + 16),
     ];
     for (carrier, mut octets, at, place) in pieces {
@@ -134,6 +136,32 @@ fn places_of_bad_names() {
     let first_is_bad = Reading { first_place: Some(8 + 1), ..done(7, 2, 2, Some(Fault::NAME)) };
     assert_eq!(read_to_vec(Carrier::Dhcp6, &[bad.clone(), alias.clone()].concat()).unwrap().1, first_is_bad);
     assert_eq!(read_to_vec(Carrier::Dhcp6, &[alias, bad].concat()).unwrap().1, done(7, 2, 2, Some(Fault::PRIORITY)));
+}
+
+/// A name that is cut short and ends its block: the place is the length of the block or of the joined data, of a sheet that of the sheet
+/// (RULES N5, W11, T8).
+#[test]
+fn places_behind_the_last_octet() {
+    // Names without their root, and texts that end in a hyphen or a dot.
+    let blocks = [
+        (Carrier::Dhcp4, b"\xa2\x07\x00\x05\x00\x01\x02\x01a".to_vec(), 2),
+        (Carrier::Dhcp6, b"\x00\x90\x00\x06\x00\x01\x00\x02\x01a".to_vec(), 0),
+        (Carrier::Ra, b"\x90\x02\x00\x01\x00\x00\x00\x09\x00\x06\x05abcde".to_vec(), 0),
+        (Carrier::Ike4, b"\x00\x1b\x00\x0a\x00\x01\x01\x02\xc0\x00\x02\x01a-".to_vec(), 0),
+        (Carrier::Ike6, [&b"\x00\x1c\x00\x16\x00\x01\x01\x02"[..], &[32; 16], b"a."].concat(), 0),
+    ];
+    for (carrier, area, headers) in blocks {
+        let wanted = Reading { first_place: Some(area.len() - headers), ..done(7, 1, 1, Some(Fault::NAME)) };
+        assert_eq!(read_to_vec(carrier, &area).unwrap().1, wanted);
+    }
+    // A second record, name only, behind a good one.
+    for carrier in 1..=5 {
+        let mut sheet = full(carrier, &[32; 16], &[]);
+        sheet[6] = 2;
+        sheet.extend(b"\x00\x02\x00\x00\x00\x00\x00\x02\x01a");
+        let refusal = write_to_vec(&sheet).unwrap_err();
+        assert_eq!((refusal.fault(), refusal.place()), (Some(Fault::NAME), Some(sheet.len())));
+    }
 }
 
 #[test]

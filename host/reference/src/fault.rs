@@ -1,4 +1,4 @@
-//! A fault or a refusal with its place (RULES N5).
+//! A fault or a refusal with its place (RULES N5, W11, T8).
 
 use crate::numbers::NAME;
 

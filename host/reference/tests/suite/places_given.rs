@@ -1,6 +1,6 @@
 //! Where the place of a bad name counts from when a call gives it back
-//! (RULES N5): in a block from its header on, in joined data from their first
-//! octet, in a sheet from its first octet.
+//! (RULES N5, W11, T8): in a block from its header on, in joined data from their
+//! first octet, in a sheet from its first octet.
 
 use crate::common::*;
 

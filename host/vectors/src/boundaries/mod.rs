@@ -9,9 +9,10 @@
 //! The file `stdout` has one line a case, `r NUMBER LENGTH FOUND DISCARDED
 //! FAULT PLACE OCTETS KEPT` or `w NUMBER LENGTH PLACE OCTETS KEPT`. The numbers
 //! are decimal. PLACE is that of a bad name, 0 where fault or number is not 22
-//! (RULES N5). OCTETS are the first LENGTH octets of the output, two lower-case
-//! hexadecimal digits each, or `-` for none. KEPT is always `kept`: every octet
-//! of the output buffer from LENGTH to the room is as it was before the call.
+//! (RULES N5, W11, T8). OCTETS are the first LENGTH octets of the output, two
+//! lower-case hexadecimal digits each, or `-` for none. KEPT is always `kept`:
+//! every octet of the output buffer from LENGTH to the room is as it was before
+//! the call.
 //!
 //! What a case answers is stated here, from docs/RULES.md and docs/DECISIONS.md,
 //! with octets laid out by hand. The files are written only if the reference

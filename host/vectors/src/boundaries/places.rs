@@ -177,12 +177,12 @@ fn add_good(table: &mut Table) {
 fn add_wire(table: &mut Table, name: &[u8], place: usize, what: &str, sheets: &[u8]) {
     let resolver = |carrier| [Resolver::full(1, name, &address(carrier, 1), P)];
     for carrier in 1..=3 {
-        let source = format!("RULES N5, {what}, carrier {carrier}");
+        let source = format!("RULES N5, W11, {what}, carrier {carrier}");
         let at = bad_name(name_at(carrier, 1) + place);
         table.discarded(source, carrier, &area(carrier, &resolver(carrier)), at);
     }
     for carrier in sheets {
-        let source = format!("RULES N5, {what}, sheet of carrier {carrier}");
+        let source = format!("RULES N5, T8, {what}, sheet of carrier {carrier}");
         let octets = sheet(*carrier, &resolver(*carrier));
         table.write_refused(source, ROOM, &octets, bad_name(FIRST_NAME + place));
     }
@@ -191,7 +191,7 @@ fn add_wire(table: &mut Table, name: &[u8], place: usize, what: &str, sheets: &[
 /// A text in a block of these carriers.
 fn add_text(table: &mut Table, name: &[u8], place: usize, what: &str, carriers: &[u8]) {
     for carrier in carriers {
-        let source = format!("RULES N5, {what}, carrier {carrier}");
+        let source = format!("RULES N5, W11, {what}, carrier {carrier}");
         let at = bad_name(name_at(*carrier, 1) + place);
         table.discarded(source, *carrier, &attribute(*carrier, 1, 1, name), at);
     }
@@ -213,13 +213,14 @@ fn add_characters(table: &mut Table) {
 fn add_adn_lengths(table: &mut Table) {
     for carrier in [4, 5] {
         for count in [0, 2, 3] {
-            let source = format!("RULES N5, no name behind {count} addresses, carrier {carrier}");
+            let source =
+                format!("RULES N5, W11, no name behind {count} addresses, carrier {carrier}");
             let at = bad_name(8 + usize::from(count) * width(carrier));
             table.discarded(source, carrier, &attribute(carrier, 1, count, b""), at);
         }
     }
     for carrier in 1..=3 {
-        let source = format!("RULES N5, no name before other fields, carrier {carrier}");
+        let source = format!("RULES N5, W11, no name before other fields, carrier {carrier}");
         let resolver = [Resolver::full(1, b"", &address(carrier, 1), P)];
         let at = bad_name(name_at(carrier, 1));
         table.discarded(source, carrier, &area(carrier, &resolver), at);
@@ -240,7 +241,7 @@ fn add_adn_lengths(table: &mut Table) {
         ),
     ] {
         for carrier in [2, 3] {
-            let source = format!("RULES N5, ADN length {what}, carrier {carrier}");
+            let source = format!("RULES N5, W11, ADN length {what}, carrier {carrier}");
             let octets = area(carrier, &[Resolver::named(1, &name)]);
             let at = bad_name(name_at(carrier, 0) + place);
             table.discarded(source, carrier, &octets, at);

@@ -52,8 +52,9 @@ pub const fn fault(number: usize) -> Fault {
     Fault { number, place: 0 }
 }
 
-/// 22 with the place of the bad name (RULES N5): in a block from its first octet,
-/// in carrier 1 from that of the joined data, in a sheet from its first octet.
+/// 22 with the place of the bad name (RULES N5, W11, T8): in a block from its
+/// first octet, in carrier 1 from that of the joined data, in a sheet from its
+/// first octet.
 pub const fn bad_name(place: usize) -> Fault {
     Fault { number: 22, place }
 }
