@@ -2,7 +2,7 @@
 use mathlib.Core.Path.{_≡_}
 use mathlib.Core.Bool.{true, false}
 use mathlib.Core.List.{List, [], _∷_, _++_}
-use Prim.Native.Nat.{ℕ, _+_, _-_, _≤_}
+use Prim.Native.Nat.{ℕ, _+_, _-_, _≤_, _<_}
 use lib.ListN.{length}
 use Rattle.octets.specs.Lists.{All, Stands}
 use Rattle.octets.specs.Numbers.{be}
@@ -27,7 +27,7 @@ pub data BodyIn (c : Carrier) (area block : List ℕ) : (front body rest : List 
   of-option : (before header after : List ℕ) → isJoined c ≡ false → area ≡ before ++ ((header ++ block) ++ after) → length header ≡ headerOf c
       → IsOption c (header ++ block) (codeOf c) block → BodyIn c area block header block []
   -- carrier 1: the body of an instance, after instances that yield records and after its own length, in the joined data
-  of-instance : (front body rest : List ℕ) (rs : List Fields) → isJoined c ≡ true → block ≡ front ++ putCounted 2 body rest
+  of-instance : (front body rest : List ℕ) (rs : List Fields) → isJoined c ≡ true → block ≡ front ++ putCounted 2 body rest → length body < 65536
       → Instances 0 front (yields rs) → BodyIn c area block (front ++ be 2 (length body)) body rest
 
 -- its name is wrong: the body is laid out from fields (RULES B1); their name stands in the octets from `start` on, and p is the place of the name's first bad

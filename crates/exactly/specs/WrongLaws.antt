@@ -86,6 +86,7 @@ record Faulty (at : ℕ) (l : List ℕ) (j : Judged) : Type 0 where
   records : List Fields
   fault : Judged
   are : l ≡ front ++ putCounted 2 body rest
+  small : length body < 65536
   yielding : Instances at front (yields records)
   is : BodyIs Dhcp4 body (faulty fault)
   counted : from (at + length front + 2) fault ≡ j
@@ -101,6 +102,7 @@ first-instance (first-faulty {at} {joined} {body} {rest} {j = i} b is) k =
       records = [];
       fault = i;
       are = b .are;
+      small = b .small;
       yielding = none;
       is = is;
       counted = ap (λ (n : ℕ). from n i) same;
@@ -123,6 +125,7 @@ first-instance (later-faulty {at} {joined} {body} {rest} {r} b is later) k =
           ∙ ap (putCounted 2 body) (f .are)
           ∙ ap (λ (x : List ℕ). size ++ x) (sym (append-assoc body (f .front) after))
           ∙ sym (append-assoc size (body ++ f .front) after);
+      small = f .small;
       yielding = one-more (record { small = b .small; are = refl }) is (f .yielding);
       is = f .is;
       counted = ap (λ (n : ℕ). from n (f .fault)) same ∙ f .counted;
@@ -198,7 +201,7 @@ instances-wrong octets block i k =
     let size : List ℕ = be 2 (length (f .body)) in
     let long : length (f .front ++ size) ≡ 0 + length (f .front) + 2 =
     length-append (f .front) size ∙ omega (arith, length-be 2 (length (f .body))) in
-    (f .front ++ size, f .body, f .rest, of-instance (f .front) (f .body) (f .rest) (f .records) refl (f .are) (f .yielding), wrong-at Dhcp4 (f .front ++ size) (f .body) (f .rest) long (f .counted) (f .is) k)
+    (f .front ++ size, f .body, f .rest, of-instance (f .front) (f .body) (f .rest) (f .records) refl (f .are) (f .small) (f .yielding), wrong-at Dhcp4 (f .front ++ size) (f .body) (f .rest) long (f .counted) (f .is) k)
 
 -- a block with fault 22, in carriers 2 to 5 of an option that stands in the area
 block-wrong : (c : Carrier) (octets block : List ℕ) (j : Judged) {y : Yield} → (isJoined c ≡ false → OptionIn c octets block) → BlockIs c block y

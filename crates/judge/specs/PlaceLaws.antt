@@ -73,39 +73,28 @@ name-only-no-name c = by-test (asText c) (λ t. cond t fault.addresses 0 ≡ fau
 -- ---- the judge's place
 
 module _ (side : Side) (c : Carrier) (f : Fields) where
-  -- with 22 it is that of the name
+  -- with 22 it is that of the name, and without 22 there is none
+  judged-place : (faultOf side c f ≡ fault.name → nameOf side c (f .name) ≡ Bad (judgedBy side c f .place))
+      × ((faultOf side c f ≡ fault.name → ⊥) → judgedBy side c f .place ≡ 0)
+  unfolding judgedOf
+  judged-place = go (eqb (f .priority) 0) (nameOf side c (f .name)) (f .full) refl
+    where
+      tail : ℕ
+      tail = tailFault side (addressWidth c) (f .addresses) (f .parameters)
+
+      answer : Bool → Name → Bool → Judged
+      answer zero n full = cond zero (judged fault.priority 0) (onName n (λ place. judged fault.name place) (judged (cond full tail (nameOnlyFault c)) 0))
+
+      go : (zero : Bool) (n : Name) (full : Bool) → nameOf side c (f .name) ≡ n
+          → (answer zero n full .fault ≡ fault.name → nameOf side c (f .name) ≡ Bad (answer zero n full .place))
+          × ((answer zero n full .fault ≡ fault.name → ⊥) → answer zero n full .place ≡ 0)
+      go true n full m = ((λ e. absurd (omega arith)), λ h. refl)
+      go false (Bad place) full m = ((λ e. m), λ h. absurd (h refl))
+      go false Good true m = ((λ e. absurd (tail-no-name side (addressWidth c) (f .addresses) (f .parameters) e)), λ h. refl)
+      go false Good false m = ((λ e. absurd (name-only-no-name c e)), λ h. refl)
+
   pub judged-bad : faultOf side c f ≡ fault.name → nameOf side c (f .name) ≡ Bad (judgedBy side c f .place)
-  unfolding judgedOf
-  judged-bad = go (eqb (f .priority) 0) (nameOf side c (f .name)) (f .full) refl
-    where
-      tail : ℕ
-      tail = tailFault side (addressWidth c) (f .addresses) (f .parameters)
-
-      answer : Bool → Name → Bool → Judged
-      answer zero n full = cond zero (judged fault.priority 0) (onName n (λ place. judged fault.name place) (judged (cond full tail (nameOnlyFault c)) 0))
-
-      go : (zero : Bool) (n : Name) (full : Bool) → nameOf side c (f .name) ≡ n → answer zero n full .fault ≡ fault.name
-          → nameOf side c (f .name) ≡ Bad (answer zero n full .place)
-      go true n full m e = absurd (omega arith)
-      go false (Bad place) full m e = m
-      go false Good true m e = absurd (tail-no-name side (addressWidth c) (f .addresses) (f .parameters) e)
-      go false Good false m e = absurd (name-only-no-name c e)
-
-  -- and without 22 there is none
-  judged-nowhere : (faultOf side c f ≡ fault.name → ⊥) → judgedBy side c f .place ≡ 0
-  unfolding judgedOf
-  judged-nowhere = go (eqb (f .priority) 0) (nameOf side c (f .name)) (f .full)
-    where
-      tail : ℕ
-      tail = tailFault side (addressWidth c) (f .addresses) (f .parameters)
-
-      answer : Bool → Name → Bool → Judged
-      answer zero n full = cond zero (judged fault.priority 0) (onName n (λ place. judged fault.name place) (judged (cond full tail (nameOnlyFault c)) 0))
-
-      go : (zero : Bool) (n : Name) (full : Bool) → (answer zero n full .fault ≡ fault.name → ⊥) → answer zero n full .place ≡ 0
-      go true n full h = refl
-      go false (Bad place) full h = absurd (h refl)
-      go false Good full h = refl
+  judged-bad = judged-place .0
 
   -- it is no more than the name is long
   pub place-within : judgedBy side c f .place ≤ length (f .name)
@@ -113,7 +102,7 @@ module _ (side : Side) (c : Carrier) (f : Fields) where
     where
       go : (t : Bool) → eqb (faultOf side c f) fault.name ≡ t → judgedBy side c f .place ≤ length (f .name)
       go true t = bad-exactly side c (f .name) (judgedBy side c f .place) .0 (judged-bad (eqb-true _ _ t)) .within
-      go false t = let z = judged-nowhere (eqb-false _ _ t) in omega arith
+      go false t = let z = judged-place .1 (eqb-false _ _ t) in omega arith
 
 -- ---- places that are counted from further back
 
@@ -123,14 +112,6 @@ module _ (n k p : ℕ) where
 
   pub place-none : (k ≡ fault.name → ⊥) → 0 ≡ placeFrom n k p
   place-none h = simp (ne-eqb _ _ h)
-
--- once by n and once by m is once by both
-pub from-from : (n m : ℕ) (j : Judged) → from n (from m j) ≡ from (n + m) j
-from-from n m j = go (eqb (j .fault) fault.name)
-  where
-    go : (t : Bool) → judged (j .fault) (cond t (n + cond t (m + j .place) 0) 0) ≡ judged (j .fault) (cond t (n + m + j .place) 0)
-    go true = ap (judged (j .fault)) (sym (add-assoc n m (j .place)))
-    go false = refl
 
 module _ {A : List ℕ → Type 0} {name : List ℕ} {at : ℕ} where
   -- a place that is so, counted from further back
