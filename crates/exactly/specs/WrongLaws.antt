@@ -2,7 +2,6 @@
 -- (RULES W10, W11). Assumes nothing.
 use mathlib.Core.Path.{_≡_, refl, sym, ap, _∙_, subst, subst⁻¹}
 use mathlib.Core.Bool.{Bool, true, false, cond, true≢false}
-use mathlib.Core.Logic.{inl, inr}
 use mathlib.Core.List.{List, [], _∷_, _++_, append-assoc}
 use Prim.Native.Nat.{ℕ, _+_, _-_, _≤_, _<_}
 use native.Mathlib.Omega.{arith}
@@ -29,8 +28,8 @@ use Rattle.blocks.specs.NameLaws.{name-there, name-stands}
 use Rattle.judge.specs.declared.Side.the-variants.{Reading}
 use Rattle.judge.specs.declared.Judged.{Judged}
 use Rattle.judge.specs.Place.{judged, from}
-use Rattle.judge.specs.Allowed.{FirstBroken, PlaceOf, in-name, nowhere}
-use Rattle.judge.specs.PlaceLaws.{place-none, placed-from}
+use Rattle.judge.specs.Allowed.{PlaceOf, in-name, nowhere}
+use Rattle.judge.specs.PlaceLaws.{named-service, place-none, placed-from}
 use Rattle.records.specs.Records.{Outcome, faulty, kept, further}
 use Rattle.reading.specs.declared.Reading as returned
 use Rattle.reading.specs.Reading.{readOf}
@@ -46,11 +45,6 @@ placed-in : {A : List ℕ → Type 0} {name : List ℕ} {at k p : ℕ} → Place
 placed-in {A} {name} {at} (in-name {i} b) e = (omega arith, subst⁻¹ (FirstBad A name) (add-sub-cancel-left at i) b)
 placed-in (nowhere n) e = absurd (n e)
 
--- before 22 the priority is looked at
-name-service : (c : Carrier) (f : Fields) {k : ℕ} → k ≡ fault.name → FirstBroken Reading c f k → f .priority ≡ 0 → ⊥
-name-service c f e (inl (n, q)) = λ z. omega arith
-name-service c f e (inr (s, later)) = s
-
 -- a body with fault 22 between other octets, and the place counted from the first of these
 body-wrong : (c : Carrier) (front body rest : List ℕ) {j : Judged} → BodyIs c body (faulty j) → j .fault ≡ fault.name
     → WrongName c front body rest (from (length front) j .place)
@@ -61,7 +55,7 @@ body-wrong c front body rest (broken {f} l r n there) k =
     record {
       fields = f;
       laid = l;
-      service = name-service c f k r;
+      service = named-service Reading c f r k;
       start = length front + nameAt c (length (f .addresses));
       starts = refl;
       stands = stands-within front (f .name) body rest (nameAt c (length (f .addresses))) (name-there c body f l .whole) (name-stands c body f l);

@@ -31,7 +31,7 @@ use Rattle.judge.specs.declared.Side.the-variants.{Reading, Writing}
 use Rattle.judge.specs.declared.Judged.{Judged}
 use Rattle.judge.specs.Place.{judged, placeFrom, from}
 use Rattle.judge.specs.Judge.{nameOf, refusedOf, tailFault, nameOnlyFault, onName, judgedOf, judgedBy, faultOf}
-use Rattle.judge.specs.Allowed.{NameBy, NameAllowed, PlaceOf, in-name, nowhere}
+use Rattle.judge.specs.Allowed.{NameBy, NameAllowed, FirstBroken, PlaceOf, in-name, nowhere}
 
 -- ---- the name
 
@@ -69,6 +69,13 @@ tail-no-name side w a p =
 
 name-only-no-name : (c : Carrier) → nameOnlyFault c ≡ fault.name → ⊥
 name-only-no-name c = by-test (asText c) (λ t. cond t fault.addresses 0 ≡ fault.name → ⊥) (λ _ e. omega arith) (λ _ e. omega arith)
+
+-- ---- 21 goes before 22
+
+-- fields whose first broken rule is that of the name have a priority
+pub named-service : (side : Side) (c : Carrier) (f : Fields) {k : ℕ} → FirstBroken side c f k → k ≡ fault.name → f .priority ≡ 0 → ⊥
+named-service side c f (inl b) e = absurd (omega (arith, b .1))
+named-service side c f (inr b) e = b .0
 
 -- ---- the judge's place
 

@@ -18,7 +18,8 @@ use Rattle.carriers.specs.Carriers.{addressWidth}
 use Rattle.names.specs.Names.{IsName, FirstBad}
 use Rattle.blocks.specs.Block.{Fields}
 use Rattle.judge.specs.declared.Side.the-variants.{Writing}
-use Rattle.judge.specs.Allowed.{Allowed, FirstBroken, PlaceOf, in-name, nowhere}
+use Rattle.judge.specs.Allowed.{Allowed, PlaceOf, in-name, nowhere}
+use Rattle.judge.specs.PlaceLaws.{named-service}
 use Rattle.records.specs.Records.{headSize, tailOf, recordOf}
 use Rattle.records.specs.RecordsLaws.{length-record}
 use Rattle.sheets.specs.Sheets.{frontSize, frontOf, recordsOf, sheetOf}
@@ -49,14 +50,9 @@ record WrongAmong (c : Carrier) (at : ℕ) (rs : List Fields) (p : ℕ) : Type 0
   place : p ≡ at + length (recordsOf c before) + headSize + bad-at
 
 module _ (c : Carrier) where
-  -- a record whose first fault is 22 passed 21
-  named-service : (r : Fields) {k : ℕ} → FirstBroken Writing c r k → k ≡ fault.name → r .priority ≡ 0 → ⊥
-  named-service r (inl b) e = absurd (omega (arith, b .1))
-  named-service r (inr b) e = b .0
-
   -- 22 is the first fault exactly of such records
   first-wrong : {at : ℕ} {rs : List Fields} {k p : ℕ} → FirstFault c at rs k p → k ≡ fault.name → WrongAmong c at rs p
-  first-wrong (here {at} {r} {rs} b n x) e = go x e (named-service r b e)
+  first-wrong (here {at} {r} {rs} b n x) e = go x e (named-service Writing c r b e)
     where
       go : {k p : ℕ} → PlaceOf IsName (r .name) (at + headSize) k p → k ≡ fault.name → (r .priority ≡ 0 → ⊥) → WrongAmong c at (r ∷ rs) p
       go (nowhere m) e s = absurd (m e)
