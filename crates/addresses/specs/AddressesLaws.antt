@@ -1,18 +1,18 @@
 -- The laws of address lists: how the tests of one address come out, the list is its addresses one after another, dropping nothing leaves
 -- the list, and what a loop over the list does in one turn. Assumes nothing.
-use Rattle.std.specs.Prelude.{◌≡◌, refl, Bool, false, not, List, [], ◌∷◌, ◌++◌, ℕ, zero, suc, ◌+◌, ◌-◌, ◌*◌, ◌/◌, ◌%◌, ◌≤◌, ◌<◌, ltb, eqb, get_or, take, drop}
+use Rattle.std.specs.Prelude.{◌≡◌, refl, Bool, false, not, List, [], ◌∷◌, ◌++◌, ℕ, zero, suc, ◌+◌, ◌-◌, ◌*◌, ◌/◌, ◌%◌, ◌≤◌, ◌<◌, ltb, eq, get_or, take, drop}
 use Rattle.std.proofs.Math.Path.{sym, ap}
 use Rattle.std.proofs.Common.{◌∙◌, div-mul-le_self, add-one, arith, length-append, take-append-drop, length-take-le, drop-drop, take_at, drop_at}
 use Rattle.std.proofs.Math.Bool.{true, cond}
 use Rattle.std.specs.Bool.{beq}
 use Rattle.std.proofs.lemmas.Bool.{false≢true}
 use Rattle.std.proofs.Math.Nat.{div-eq-sub-div, div-eq_of_lt, div-add-mod', add-sub_cancel_left}
-use Rattle.std.proofs.Math.Dec.{eqb-suc-zero}
+use Rattle.std.proofs.Math.Dec.{eq-suc-zero}
 use borrow.Author.Tests.{ne_eqb, lt-ltb, le-ltb, not-true, not-false}
 use Rattle.std.proofs.Math.ListN.{length, length-drop}
 use Rattle.octets.specs.Lists.{All, flat}
-use Rattle.octets.specs.Numbers.{allZero}
-use Rattle.addresses.specs.Addresses.{Width, unusable, unusable4, unusable16, addressesOf, list_of, keptOf, has_of, any_of, noneOf}
+use Rattle.octets.specs.Numbers.{all_zero}
+use Rattle.addresses.specs.Addresses.{Width, unusable, unusable4, unusable16, addresses_of, list_of, kept_of, has_of, any_of, none_of}
 
 pub wide-some : {w : ℕ} → Width w → 0 < w
 wide-some h = let e = h.is in omega arith
@@ -39,10 +39,10 @@ module _ (x : ℕ) where
   unusable4-above h = rw (ne_eqb x 127 (omega arith), le-ltb x 224 h)
 
 -- a first octet that is not 0 leaves multicast alone
-pub unusable16-first : (a : List ℕ) → (get_or a 0 0 ≡ 0 → ⊥) → eqb (get_or a 0 0) 255 ≡ unusable16 a
-unfolding unusable16 allZero
+pub unusable16-first : (a : List ℕ) → (get_or a 0 0 ≡ 0 → ⊥) → eq (get_or a 0 0) 255 ≡ unusable16 a
+unfolding unusable16 all_zero
 unusable16-first [] n = absurd (n refl)
-unusable16-first (x ∷ xs) n = simp (ne_eqb x 0 n) (go (eqb x 255) (eqb (get_or xs 14 0) 1))
+unusable16-first (x ∷ xs) n = simp (ne_eqb x 0 n) (go (eq x 255) (eq (get_or xs 14 0) 1))
   where
     go : (b c : Bool) → b ≡ cond b true (cond c false false)
     go true c = refl
@@ -50,7 +50,7 @@ unusable16-first (x ∷ xs) n = simp (ne_eqb x 0 n) (go (eqb x 255) (eqb (get_or
     go false false = refl
 
 module _ (a : List ℕ) (z : get_or a 0 0 ≡ 0) where
-  pub unusable16-one : {r : Bool} → get_or a 15 0 ≡ 1 → r ≡ allZero (take 15 a) → r ≡ unusable16 a
+  pub unusable16-one : {r : Bool} → get_or a 15 0 ≡ 1 → r ≡ all_zero (take 15 a) → r ≡ unusable16 a
   unfolding unusable16
   unusable16-one e q = rw (z, e) q
 
@@ -73,7 +73,7 @@ list-nil w s h = rw (div-eq_of_lt h)
 -- ---- the list is its addresses
 
 module _ (w : ℕ) where
-  flat-of : (n : ℕ) (s : List ℕ) → length s ≡ n * w → flat (addressesOf w n s) ≡ s
+  flat-of : (n : ℕ) (s : List ℕ) → length s ≡ n * w → flat (addresses_of w n s) ≡ s
   flat-of zero [] e = refl
   flat-of zero (x ∷ s) e = absurd (omega arith)
   flat-of (suc n) s e =
@@ -85,7 +85,7 @@ module _ (w : ℕ) where
   unfolding list_of
   flat-list s e = flat-of (length s / w) s (omega (arith, div-add-mod' (length s) w))
 
-  length-of : (n : ℕ) (s : List ℕ) → length (addressesOf w n s) ≡ n
+  length-of : (n : ℕ) (s : List ℕ) → length (addresses_of w n s) ≡ n
   length-of zero s = refl
   length-of (suc n) s = ap suc (length-of n (drop w s))
 
@@ -94,7 +94,7 @@ module _ (w : ℕ) where
   unfolding list_of
   list_length s = length-of (length s / w) s
 
-  wide_of : (n : ℕ) (s : List ℕ) → n * w ≤ length s → All (λ (a : List ℕ). length a ≡ w) (addressesOf w n s)
+  wide_of : (n : ℕ) (s : List ℕ) → n * w ≤ length s → All (λ (a : List ℕ). length a ≡ w) (addresses_of w n s)
   wide_of zero s h = tt
   wide_of (suc n) s h =
       let d : n * w ≤ length (drop w s) = rw length-drop (omega arith) in
@@ -121,82 +121,82 @@ module _ (w : ℕ) where
 -- ---- what is kept
 
 -- what holds of each address holds of each that is kept
-pub kept-all : (P : List ℕ → Type 0) (w : ℕ) (more : List (List ℕ)) → All P more → All P (keptOf w more)
-unfolding keptOf
+pub kept-all : (P : List ℕ → Type 0) (w : ℕ) (more : List (List ℕ)) → All P more → All P (kept_of w more)
+unfolding kept_of
 kept-all P w [] h = tt
 kept-all P w (a ∷ more) h = go (unusable w a) (kept-all P w more h.1)
   where
-    go : (b : Bool) → All P (keptOf w more) → All P (cond b (keptOf w more) (a ∷ keptOf w more))
+    go : (b : Bool) → All P (kept_of w more) → All P (cond b (kept_of w more) (a ∷ kept_of w more))
     go true ih = ih
     go false ih = (h.0, ih)
 
 -- each that is kept has w octets
-pub kept-wide : (w : ℕ) (more : List (List ℕ)) → All (λ (a : List ℕ). length a ≡ w) more → All (λ (a : List ℕ). length a ≡ w) (keptOf w more)
+pub kept-wide : (w : ℕ) (more : List (List ℕ)) → All (λ (a : List ℕ). length a ≡ w) more → All (λ (a : List ℕ). length a ≡ w) (kept_of w more)
 kept-wide w more h = kept-all (λ a. length a ≡ w) w more h
 
 -- what is dropped nowhere is kept whole
-pub none_dropped : (w : ℕ) (more : List (List ℕ)) → any_of w more ≡ false → keptOf w more ≡ more
-unfolding has_of keptOf
+pub none_dropped : (w : ℕ) (more : List (List ℕ)) → any_of w more ≡ false → kept_of w more ≡ more
+unfolding has_of kept_of
 none_dropped w [] e = refl
 none_dropped w (a ∷ more) e = go (unusable w a) refl e (none_dropped w more)
   where
-    go : (b : Bool) → unusable w a ≡ b → cond (beq b true) true (any_of w more) ≡ false → (any_of w more ≡ false → keptOf w more ≡ more) → cond (unusable w a) (keptOf w more) (a ∷ keptOf w more) ≡ a ∷ more
+    go : (b : Bool) → unusable w a ≡ b → cond (beq b true) true (any_of w more) ≡ false → (any_of w more ≡ false → kept_of w more ≡ more) → cond (unusable w a) (kept_of w more) (a ∷ kept_of w more) ≡ a ∷ more
     go true t e ih = absurd (false≢true (sym e))
     go false t e ih = simp t (ap (λ (l : List (List ℕ)). a ∷ l) (ih e))
 
-pub kept-few : (w : ℕ) (more : List (List ℕ)) → length (keptOf w more) ≤ length more
-unfolding keptOf
+pub kept-few : (w : ℕ) (more : List (List ℕ)) → length (kept_of w more) ≤ length more
+unfolding kept_of
 kept-few w [] = omega arith
 kept-few w (a ∷ more) = go (unusable w a) (kept-few w more)
   where
-    go : (b : Bool) → length (keptOf w more) ≤ length more → length (cond b (keptOf w more) (a ∷ keptOf w more)) ≤ suc (length more)
+    go : (b : Bool) → length (kept_of w more) ≤ length more → length (cond b (kept_of w more) (a ∷ kept_of w more)) ≤ suc (length more)
     go true ih = omega arith
     go false ih = omega arith
 
 -- where one is to be dropped, fewer are kept
-some-dropped : (w : ℕ) (more : List (List ℕ)) → any_of w more ≡ true → length (keptOf w more) < length more
-unfolding has_of keptOf
+some-dropped : (w : ℕ) (more : List (List ℕ)) → any_of w more ≡ true → length (kept_of w more) < length more
+unfolding has_of kept_of
 some-dropped w [] e = absurd (false≢true e)
 some-dropped w (a ∷ more) e = go (unusable w a) e (some-dropped w more) (kept-few w more)
   where
-    go : (b : Bool) → cond (beq b true) true (any_of w more) ≡ true → (any_of w more ≡ true → length (keptOf w more) < length more)
-        → length (keptOf w more) ≤ length more → length (cond b (keptOf w more) (a ∷ keptOf w more)) < suc (length more)
+    go : (b : Bool) → cond (beq b true) true (any_of w more) ≡ true → (any_of w more ≡ true → length (kept_of w more) < length more)
+        → length (kept_of w more) ≤ length more → length (cond b (kept_of w more) (a ∷ kept_of w more)) < suc (length more)
     go true e ih few = omega arith
     go false e ih few = let h = ih e in omega arith
 
 -- one is to be dropped exactly where fewer are kept
-pub fewer-any : (w : ℕ) (more : List (List ℕ)) → ltb (length (keptOf w more)) (length more) ≡ any_of w more
+pub fewer-any : (w : ℕ) (more : List (List ℕ)) → ltb (length (kept_of w more)) (length more) ≡ any_of w more
 fewer-any w more = go (any_of w more) refl
   where
-    go : (b : Bool) → any_of w more ≡ b → ltb (length (keptOf w more)) (length more) ≡ any_of w more
-    go true e = lt-ltb (length (keptOf w more)) (length more) (some-dropped w more e) ∙ sym e
+    go : (b : Bool) → any_of w more ≡ b → ltb (length (kept_of w more)) (length more) ≡ any_of w more
+    go true e = lt-ltb (length (kept_of w more)) (length more) (some-dropped w more e) ∙ sym e
     go false e =
-        let same : length (keptOf w more) ≡ length more = ap length (none_dropped w more e) in
-        le-ltb (length (keptOf w more)) (length more) (omega arith) ∙ sym e
+        let same : length (kept_of w more) ≡ length more = ap length (none_dropped w more e) in
+        le-ltb (length (kept_of w more)) (length more) (omega arith) ∙ sym e
 
 -- octets that whole addresses fill, none of them to be dropped, are kept whole
-pub none-dropped-flat : (w : ℕ) (s : List ℕ) → length s % w ≡ 0 → any_of w (list_of w s) ≡ false → flat (keptOf w (list_of w s)) ≡ s
+pub none-dropped-flat : (w : ℕ) (s : List ℕ) → length s % w ≡ 0 → any_of w (list_of w s) ≡ false → flat (kept_of w (list_of w s)) ≡ s
 none-dropped-flat w s e h = ap flat (none_dropped w (list_of w s) h) ∙ flat-list w s e
 
 -- what is kept has nothing to drop
-pub kept-usable : (w : ℕ) (more : List (List ℕ)) → any_of w (keptOf w more) ≡ false
-unfolding has_of keptOf
+pub kept-usable : (w : ℕ) (more : List (List ℕ)) → any_of w (kept_of w more) ≡ false
+unfolding has_of kept_of
 kept-usable w [] = refl
 kept-usable w (a ∷ more) = go (unusable w a) refl (kept-usable w more)
   where
-    go : (b : Bool) → unusable w a ≡ b → any_of w (keptOf w more) ≡ false → any_of w (cond b (keptOf w more) (a ∷ keptOf w more)) ≡ false
+    go : (b : Bool) → unusable w a ≡ b → any_of w (kept_of w more) ≡ false → any_of w (cond b (kept_of w more) (a ∷ kept_of w more)) ≡ false
     go true t ih = ih
     go false t ih = simp t ih
 
 -- none is kept where none that stays is there
-pub none_has : (w : ℕ) (more : List (List ℕ)) → not (has_of w false more) ≡ noneOf w more
-unfolding has_of keptOf
+pub none_has : (w : ℕ) (more : List (List ℕ)) → not (has_of w false more) ≡ none_of w more
+unfolding has_of kept_of
 none_has w [] = refl
 none_has w (a ∷ more) = go (unusable w a) (none_has w more)
   where
-    go : (b : Bool) → not (has_of w false more) ≡ noneOf w more → not (cond (beq b false) true (has_of w false more)) ≡ eqb (length (cond b (keptOf w more) (a ∷ keptOf w more))) 0
+    go : (b : Bool) → not (has_of w false more) ≡ none_of w more → not (cond (beq b false) true (has_of w false more)) ≡ eq (length (cond b (kept_of w more) (a ∷ kept_of w more))) 0
     go true ih = ih
-    go false ih = sym (eqb-suc-zero (length (keptOf w more)))
+    go false ih = sym (eq-suc-zero (length (kept_of w more)))
 
 -- ---- turns of a loop: the rest of the list from `at` on
 
@@ -215,16 +215,16 @@ module _ (w : ℕ) (s : List ℕ) (at : ℕ) (wide : Width w) (h : w ≤ length 
     part-tested : unusable w (take w (drop at s)) ≡ r
     part-tested = rw add-sub_cancel_left at (sym e)
 
-    pub kept-drop : not r ≡ false → keptOf w (list_of w (drop at s)) ≡ keptOf w (list_of w (drop (at + w) s))
-    unfolding keptOf
+    pub kept-drop : not r ≡ false → kept_of w (list_of w (drop at s)) ≡ kept_of w (list_of w (drop (at + w) s))
+    unfolding kept_of
     kept-drop t = rw turn (simp (part-tested ∙ not-false _ t))
 
-    pub kept-keep : not r ≡ true → keptOf w (list_of w (drop at s)) ≡ take w (drop at s) ∷ keptOf w (list_of w (drop (at + w) s))
-    unfolding keptOf
+    pub kept-keep : not r ≡ true → kept_of w (list_of w (drop at s)) ≡ take w (drop at s) ∷ kept_of w (list_of w (drop (at + w) s))
+    unfolding kept_of
     kept-keep t = rw turn (simp (part-tested ∙ not-true _ t))
 
-pub kept-end : (w : ℕ) (s : List ℕ) (at : ℕ) → length s - at < w → keptOf w (list_of w (drop at s)) ≡ []
-unfolding keptOf
+pub kept-end : (w : ℕ) (s : List ℕ) (at : ℕ) → length s - at < w → kept_of w (list_of w (drop at s)) ≡ []
+unfolding kept_of
 kept-end w s at h = let k : length (drop at s) < w = rw length-drop h in rw (list-nil w (drop at s) k)
 
 -- ---- whether an address is there whose being dropped is `wanted`

@@ -4,38 +4,38 @@ use Rattle.std.specs.Prelude.{◌≡◌, Bool, ◌&&◌, ℕ, zero, suc, ◌+◌
 use Rattle.std.proofs.Math.Path.{refl, ap}
 use Rattle.std.proofs.Common.{sym, ◌∙◌, add-zero, arith, ne_eqb, length-append, length-drop, take-append-drop, length-take-le, drop-drop, take_all, get_or-take, get_or-drop}
 use Rattle.std.proofs.Math.Bool.{true, false, cond, not, and-eq-true_iff}
-use Rattle.std.proofs.lemmas.Bool.{false≢true, eqb-false}
+use Rattle.std.proofs.lemmas.Bool.{false≢true, eq-false}
 use mathlib.Core.List.{List, [], ◌∷◌, ◌++◌}
 use Rattle.std.proofs.Math.Nat.{add-sub_cancel_left}
-use Rattle.std.proofs.Math.Dec.{eqb}
+use Rattle.std.proofs.Math.Dec.{eq}
 use Rattle.std.proofs.lemmas.List.{take-append-le, drop-append-le}
-use Rattle.addresses.specs.Addresses.{unusable, plain16, list_of, keptOf}
+use Rattle.addresses.specs.Addresses.{unusable, plain16, list_of, kept_of}
 use Rattle.addresses.specs.AddressesLaws.{sixteen, unusable16-first, list-cons, list-nil, kept-keep}
 
 -- ---- the first octet of an IPv6 address
 
 module _ (x : ℕ) where
-  pub plain16-zero : x ≡ 0 → not (eqb x 0) ≡ plain16 x
+  pub plain16-zero : x ≡ 0 → not (eq x 0) ≡ plain16 x
   unfolding plain16
   plain16-zero e = rw e
 
-  pub plain16-other : (x ≡ 0 → ⊥) → not (eqb x 255) ≡ plain16 x
+  pub plain16-other : (x ≡ 0 → ⊥) → not (eq x 255) ≡ plain16 x
   unfolding plain16
-  plain16-other n = simp (ne_eqb x 0 n) (go (eqb x 255))
+  plain16-other n = simp (ne_eqb x 0 n) (go (eq x 255))
     where
       go : (b : Bool) → not b ≡ cond b false true
       go true = refl
       go false = refl
 
   -- a plain octet begins neither ::1 nor ff00::/8
-  plain16-neither : plain16 x ≡ true → (x ≡ 0 → ⊥) × (eqb x 255 ≡ false)
+  plain16-neither : plain16 x ≡ true → (x ≡ 0 → ⊥) × (eq x 255 ≡ false)
   unfolding plain16
-  plain16-neither = go (eqb x 0) refl (eqb x 255) refl
+  plain16-neither = go (eq x 0) refl (eq x 255) refl
     where
-      go : (a : Bool) → eqb x 0 ≡ a → (b : Bool) → eqb x 255 ≡ b → cond a false (cond b false true) ≡ true → (x ≡ 0 → ⊥) × (eqb x 255 ≡ false)
+      go : (a : Bool) → eq x 0 ≡ a → (b : Bool) → eq x 255 ≡ b → cond a false (cond b false true) ≡ true → (x ≡ 0 → ⊥) × (eq x 255 ≡ false)
       go true s b t e = absurd (false≢true e)
       go false s true t e = absurd (false≢true e)
-      go false s false t e = (eqb-false x 0 s, t)
+      go false s false t e = (eq-false x 0 s, t)
 
 -- an address with a plain first octet is not dropped
 plain16-usable : (a : List ℕ) → plain16 (get_or a 0 0) ≡ true → unusable 16 a ≡ false
@@ -58,26 +58,26 @@ module _ (w : ℕ) where
       list-cons w (s ++ t) p k
       ∙ rw (take-append-le w s t h, drop-append-le w s t h, list-append p n (drop w s) t d, list-cons w s p h)
 
-  kept_append : (ls ms : List (List ℕ)) → keptOf w (ls ++ ms) ≡ keptOf w ls ++ keptOf w ms
-  unfolding keptOf
+  kept_append : (ls ms : List (List ℕ)) → kept_of w (ls ++ ms) ≡ kept_of w ls ++ kept_of w ms
+  unfolding kept_of
   kept_append [] ms = refl
   kept_append (a ∷ ls) ms = go (unusable w a) (kept_append ls ms)
     where
-      go : (b : Bool) → keptOf w (ls ++ ms) ≡ keptOf w ls ++ keptOf w ms
-          → cond b (keptOf w (ls ++ ms)) (a ∷ keptOf w (ls ++ ms)) ≡ cond b (keptOf w ls) (a ∷ keptOf w ls) ++ keptOf w ms
+      go : (b : Bool) → kept_of w (ls ++ ms) ≡ kept_of w ls ++ kept_of w ms
+          → cond b (kept_of w (ls ++ ms)) (a ∷ kept_of w (ls ++ ms)) ≡ cond b (kept_of w ls) (a ∷ kept_of w ls) ++ kept_of w ms
       go true ih = ih
       go false ih = ap (λ (l : List (List ℕ)). a ∷ l) ih
 
   -- the count of the first n addresses and of the rest is the whole count
   count_cut : 0 < w → (n : ℕ) (s : List ℕ) → n * w ≤ length s
-      → length (keptOf w (list_of w s)) ≡ length (keptOf w (list_of w (take (n * w) s))) + length (keptOf w (list_of w (drop (n * w) s)))
+      → length (kept_of w (list_of w s)) ≡ length (kept_of w (list_of w (take (n * w) s))) + length (kept_of w (list_of w (drop (n * w) s)))
   count_cut p n s h =
       let front = take (n * w) s in
       let back = drop (n * w) s in
-      ap (λ (l : List ℕ). length (keptOf w (list_of w l))) (sym (take-append-drop (n * w) s))
-      ∙ ap (λ (l : List (List ℕ)). length (keptOf w l)) (list-append p n front back (length-take-le (n * w) s h))
+      ap (λ (l : List ℕ). length (kept_of w (list_of w l))) (sym (take-append-drop (n * w) s))
+      ∙ ap (λ (l : List (List ℕ)). length (kept_of w l)) (list-append p n front back (length-take-le (n * w) s h))
       ∙ ap length (kept_append (list_of w front) (list_of w back))
-      ∙ length-append (keptOf w (list_of w front)) (keptOf w (list_of w back))
+      ∙ length-append (kept_of w (list_of w front)) (kept_of w (list_of w back))
 
 -- ---- turns of a loop that counts
 
@@ -85,25 +85,25 @@ module _ (w : ℕ) where
 pub record Counting (w : ℕ) (s : List ℕ) (n at : ℕ) : Type 0 where
   pub within : at ≤ length s
   pub few : n ≤ at
-  pub whole : n + length (keptOf w (list_of w (drop at s))) ≡ length (keptOf w (list_of w s))
+  pub whole : n + length (kept_of w (list_of w (drop at s))) ≡ length (kept_of w (list_of w s))
 
 pub count-start : (w : ℕ) (s : List ℕ) → Counting w s 0 0
 count-start w s = record { within = omega arith; few = omega arith; whole = omega arith }
 
 module _ {w : ℕ} {s : List ℕ} {n at : ℕ} (c : Counting w s n at) where
   -- k addresses, counted by themselves
-  pub count-part : 0 < w → (k : ℕ) {r : ℕ} → k * w ≤ length s - at → r ≡ length (keptOf w (list_of w (take (at + k * w - at) (drop at s))))
+  pub count-part : 0 < w → (k : ℕ) {r : ℕ} → k * w ≤ length s - at → r ≡ length (kept_of w (list_of w (take (at + k * w - at) (drop at s))))
       → r ≤ length (take (at + k * w - at) (drop at s)) → Counting w s (n + r) (at + k * w)
   count-part p k {r} h e f =
       let here : k * w ≤ length (drop at s) = rw length-drop h in
-      let part : r ≡ length (keptOf w (list_of w (take (k * w) (drop at s)))) = rw add-sub_cancel_left at e in
+      let part : r ≡ length (kept_of w (list_of w (take (k * w) (drop at s)))) = rw add-sub_cancel_left at e in
       let size : r ≤ k * w = omega (arith, rw add-sub_cancel_left at f, length-take-le (k * w) (drop at s) here) in
       let cut = rw drop-drop at (count_cut w p k (drop at s) here) in
       record { within = omega arith; few = omega arith; whole = omega arith }
 
   -- the rest, counted by itself
-  pub count-end : {r : ℕ} → r ≡ length (keptOf w (list_of w (take (length s - at) (drop at s)))) → r ≤ length (take (length s - at) (drop at s))
-      → (n + r ≡ length (keptOf w (list_of w s))) × (n + r ≤ length s)
+  pub count-end : {r : ℕ} → r ≡ length (kept_of w (list_of w (take (length s - at) (drop at s)))) → r ≤ length (take (length s - at) (drop at s))
+      → (n + r ≡ length (kept_of w (list_of w s))) × (n + r ≤ length s)
   count-end e f =
       let rest : take (length s - at) (drop at s) ≡ drop at s = take_all (length s - at) (drop at s) (rw length-drop (omega arith)) in
       (omega (arith, rw rest at e), omega (arith, rw (rest, length-drop) at f))
@@ -112,7 +112,7 @@ module _ {w : ℕ} {s : List ℕ} {n at : ℕ} (c : Counting w s n at) where
 
 -- one such address
 count-plain : (s : List ℕ) (at next : ℕ) → next ≡ at + 16 → next ≤ length s → plain16 (get_or s at 0) ≡ true
-    → length (keptOf 16 (list_of 16 (drop at s))) ≡ suc (length (keptOf 16 (list_of 16 (drop next s))))
+    → length (kept_of 16 (list_of 16 (drop at s))) ≡ suc (length (kept_of 16 (list_of 16 (drop next s))))
 count-plain s at next e h p =
     let address = take (at + 16 - at) (drop at s) in
     let first : get_or address 0 0 ≡ get_or s at 0 = rw (add-sub_cancel_left, get_or-take 16 (drop at s) 0 0 (omega arith), get_or-drop, add-zero) in

@@ -4,7 +4,7 @@
 ghost use Rattle.std.specs.Prelude.{◌≡◌, ◌+◌, ◌≤◌, ◌<◌, length};
 ghost use Rattle.octets.specs.Over.{Wrote};
 ghost use Rattle.octets.specs.Lists.{flat};
-ghost use Rattle.addresses.specs.Addresses.{Width, unusable, unusable4, unusable16, plain16, list_of, keptOf, has_of, any_of, noneOf};
+ghost use Rattle.addresses.specs.Addresses.{Width, unusable, unusable4, unusable16, plain16, list_of, kept_of, has_of, any_of, none_of};
 
 // 224.0.0.0/4 (RFC 5771 §3) and 127.0.0.0/8 (RFC 1122 §3.2.1.3), by the first octet.
 fn unusable4(first: u8) -> bool
@@ -77,7 +77,7 @@ pub fn any_unusable(w: usize, s: &[u8]) -> bool
 // Whether no address is kept; the first that stays decides.
 pub fn none_kept(w: usize, s: &[u8]) -> bool
     requires { Width w }
-    ensures { result ≡ noneOf w (list_of w s.now) }
+    ensures { result ≡ none_of w (list_of w s.now) }
 {
     !has(w, s, false)
 }
@@ -93,7 +93,7 @@ fn plain16(first: u8) -> bool
 fn count_each(w: usize, s: &[u8]) -> usize
     requires width { Width w }
     requires s_len_bound { length s.now < 65536 }
-    ensures value { result ≡ length (keptOf w (list_of w s.now)) }
+    ensures value { result ≡ length (kept_of w (list_of w s.now)) }
     ensures upper_bound { result ≤ length s.now }
 {
     let mut n: u16 = 0;
@@ -111,7 +111,7 @@ fn count_each(w: usize, s: &[u8]) -> usize
 // How many IPv6 addresses are kept: four at a time, mostly by their first octets alone.
 fn count_fours(s: &[u8]) -> usize
     requires { length s.now < 65536 }
-    ensures value { result ≡ length (keptOf 16 (list_of 16 s.now)) }
+    ensures value { result ≡ length (kept_of 16 (list_of 16 s.now)) }
     ensures upper_bound { result ≤ length s.now }
 {
     let mut n: usize = 0;
@@ -132,7 +132,7 @@ fn count_fours(s: &[u8]) -> usize
 pub fn kept_count(w: usize, s: &[u8]) -> usize
     requires width { Width w }
     requires s_len_bound { length s.now < 65536 }
-    ensures value { result ≡ length (keptOf w (list_of w s.now)) }
+    ensures value { result ≡ length (kept_of w (list_of w s.now)) }
     ensures upper_bound { result ≤ length s.now }
 {
     if w == 4 {
@@ -144,8 +144,8 @@ pub fn kept_count(w: usize, s: &[u8]) -> usize
 // Writes the addresses that are kept at `o`, in their order, and returns the index after them.
 pub fn put_kept(out: &mut [u8], o: usize, w: usize, s: &[u8]) -> usize
     requires width { Width w }
-    requires s_in_bounds { o + length (flat (keptOf w (list_of w s.now))) ≤ length out.old }
-    ensures { Wrote o (flat (keptOf w (list_of w s.now))) out.old result out.new }
+    requires s_in_bounds { o + length (flat (kept_of w (list_of w s.now))) ≤ length out.old }
+    ensures { Wrote o (flat (kept_of w (list_of w s.now))) out.old result out.new }
 {
     let mut next_out = o;
     let mut at: usize = 0;

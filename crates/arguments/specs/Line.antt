@@ -1,13 +1,13 @@
 -- What a command line asks for (docs/COMMAND.md): the state of the line, word after word, and what is settled at its end. An argument is
 -- kept by its index; 0, the program's own name, stands for none. Assumes nothing: these are definitions.
-use Rattle.std.specs.Prelude.{◌≡◌, Bool, true, false, cond, not, ◌&&◌, ◌||◌, List, [], ◌∷◌, ℕ, ◌+◌, leb, eqb, length, drop}
+use Rattle.std.specs.Prelude.{◌≡◌, Bool, true, false, cond, not, ◌&&◌, ◌||◌, List, [], ◌∷◌, ℕ, ◌+◌, leb, eq, length, drop}
 use Rattle.chars.specs.Ascii.{ascii}
 use Rattle.arguments.specs.declared.Asked.{Asked}
 use Rattle.arguments.specs.Command as command
 use Rattle.arguments.specs.Form as form
 use Rattle.arguments.specs.Options as option
 use Rattle.arguments.specs.Wrong as wrong
-use Rattle.arguments.specs.Tables.{commandOf, optionOf, carrierOf, isOption, isDash, frontOf}
+use Rattle.arguments.specs.Tables.{command_of, option_of, carrier_of, is_option, is_dash, front_of}
 
 -- ---- the state of a line
 
@@ -65,78 +65,78 @@ abbrev with : Bool → Bool → ℕ → Bool → Bool → Bool → Asked → Ask
 with e j h v s g a =
     asked a.command a.carrier a.words a.input a.output a.front a.dashed a.pending e j h v s g a.wrong a.at
 
-abbrev pub withJson : Asked → Asked
-withJson a = with a.ended true a.form a.value a.strict a.force a
+abbrev pub with_json : Asked → Asked
+with_json a = with a.ended true a.form a.value a.strict a.force a
 
-abbrev pub withEnd : Asked → Asked
-withEnd a = with true a.json a.form a.value a.strict a.force a
+abbrev pub with_end : Asked → Asked
+with_end a = with true a.json a.form a.value a.strict a.force a
 
 -- no further word matters after an error, and after a command that has no more words: `--json` alone is still heard
 abbrev pub decided : Asked → Bool
-decided a = cond (eqb a.wrong 0) (leb command.help a.command) true
+decided a = cond (eq a.wrong 0) (leb command.help a.command) true
 
 -- ---- an option
 
 -- a form of the input: the same one may be asked for twice
-abbrev pub withForm : ℕ → ℕ → Asked → Asked
-withForm i h a =
-    cond (eqb a.form h) a
-    (cond (eqb a.form form.none) (with a.ended a.json h a.value a.strict a.force a) (but wrong.form i a))
+abbrev pub with_form : ℕ → ℕ → Asked → Asked
+with_form i h a =
+    cond (eq a.form h) a
+    (cond (eq a.form form.none) (with a.ended a.json h a.value a.strict a.force a) (but wrong.form i a))
 
 -- `-o`: the next word names the file that is written
-abbrev pub withPending : ℕ → Asked → Asked
-withPending i a = cond (eqb a.output 0) (into a.output a.front a.dashed true a) (but wrong.output i a)
+abbrev pub with_pending : ℕ → Asked → Asked
+with_pending i a = cond (eq a.output 0) (into a.output a.front a.dashed true a) (but wrong.output i a)
 
 -- its name, in an argument of its own
-abbrev pub withOutput : ℕ → List ℕ → Asked → Asked
-withOutput i w a = into i 0 (isDash w) false a
+abbrev pub with_output : ℕ → List ℕ → Asked → Asked
+with_output i w a = into i 0 (is_dash w) false a
 
 -- `-oFILE`, `--output=FILE`: f octets before the name
 unfoldable pub attached : ℕ → List ℕ → ℕ → Asked → Asked
 attached i w f a =
-    cond (eqb f 0) (but wrong.option i a)
-    (cond (eqb a.output 0)
-    (cond (leb (length w) f) (but wrong.noName i a) (into i f (isDash (drop f w)) a.pending a))
+    cond (eq f 0) (but wrong.option i a)
+    (cond (eq a.output 0)
+    (cond (leb (length w) f) (but wrong.no_name i a) (into i f (is_dash (drop f w)) a.pending a))
     (but wrong.output i a))
 
 -- the option with the number k; the last is `--`
 unfoldable pub chosen : ℕ → ℕ → Asked → Asked
 chosen i k a =
-    cond (leb k form.base64) (withForm i k a)
-    (cond (eqb k option.output) (withPending i a)
-    (cond (eqb k option.json) (withJson a)
-    (cond (eqb k option.value) (with a.ended a.json a.form true a.strict a.force a)
-    (cond (eqb k option.strict) (with a.ended a.json a.form a.value true a.force a)
-    (cond (eqb k option.force) (with a.ended a.json a.form a.value a.strict true a)
-    (cond (eqb k option.help) (asking command.help a)
-    (withEnd a)))))))
+    cond (leb k form.base64) (with_form i k a)
+    (cond (eq k option.output) (with_pending i a)
+    (cond (eq k option.json) (with_json a)
+    (cond (eq k option.value) (with a.ended a.json a.form true a.strict a.force a)
+    (cond (eq k option.strict) (with a.ended a.json a.form a.value true a.force a)
+    (cond (eq k option.force) (with a.ended a.json a.form a.value a.strict true a)
+    (cond (eq k option.help) (asking command.help a)
+    (with_end a)))))))
 
 -- a word that no table has may hold the name of the file that is written
-abbrev pub withOption : ℕ → List ℕ → Asked → Asked
-withOption i w a = cond (eqb (optionOf w) 0) (attached i w (frontOf w) a) (chosen i (optionOf w) a)
+abbrev pub with_option : ℕ → List ℕ → Asked → Asked
+with_option i w a = cond (eq (option_of w) 0) (attached i w (front_of w) a) (chosen i (option_of w) a)
 
 -- ---- a word that is no option
 
 -- the carrier k, or 0
 unfoldable pub carried : ℕ → ℕ → Asked → Asked
-carried i k a = cond (eqb k 0) (but wrong.carrier i a) (from k 1 a.input a)
+carried i k a = cond (eq k 0) (but wrong.carrier i a) (from k 1 a.input a)
 
-abbrev pub withCarrier : ℕ → List ℕ → Asked → Asked
-withCarrier i w a = carried i (carrierOf w) a
+abbrev pub with_carrier : ℕ → List ℕ → Asked → Asked
+with_carrier i w a = carried i (carrier_of w) a
 
 -- the file that is read; `-` is standard input, as no file is
-abbrev pub withInput : ℕ → List ℕ → Asked → Asked
-withInput i w a =
-    cond (eqb a.words 2) (but wrong.file i a)
-    (cond (isDash w) (from a.carrier 2 a.input a) (from a.carrier 2 i a))
+abbrev pub with_input : ℕ → List ℕ → Asked → Asked
+with_input i w a =
+    cond (eq a.words 2) (but wrong.file i a)
+    (cond (is_dash w) (from a.carrier 2 a.input a) (from a.carrier 2 i a))
 
 -- `read` has the carrier first
-abbrev pub withPlain : ℕ → List ℕ → Asked → Asked
-withPlain i w a = cond (eqb a.words 0) (withCarrier i w a) (withInput i w a)
+abbrev pub with_plain : ℕ → List ℕ → Asked → Asked
+with_plain i w a = cond (eq a.words 0) (with_carrier i w a) (with_input i w a)
 
 -- one word more: after `--` none is an option
-abbrev pub withWord : ℕ → List ℕ → Asked → Asked
-withWord i w a = cond a.ended (withPlain i w a) (cond (isOption w) (withOption i w a) (withPlain i w a))
+abbrev pub with_word : ℕ → List ℕ → Asked → Asked
+with_word i w a = cond a.ended (with_plain i w a) (cond (is_option w) (with_option i w a) (with_plain i w a))
 
 -- ---- a line
 
@@ -147,76 +147,76 @@ pub data Argument : Type 0 where
 
 -- a word where no further one matters: `--json` is still heard, unless `--` stood before
 abbrev pub heard : List ℕ → Asked → Asked
-heard w a = cond a.ended a (cond (eqb (optionOf w) option.json) (withJson a) (cond (eqb (optionOf w) option.end) (withEnd a) a))
+heard w a = cond a.ended a (cond (eq (option_of w) option.json) (with_json a) (cond (eq (option_of w) option.end) (with_end a) a))
 
 -- the word at an index; after `-o` it is a name, whatever it looks like
 abbrev pub with_next : ℕ → List ℕ → Asked → Asked
-with_next i w a = cond (decided a) (heard w a) (cond a.pending (withOutput i w a) (withWord i w a))
+with_next i w a = cond (decided a) (heard w a) (cond a.pending (with_output i w a) (with_word i w a))
 
 -- an argument that is too long, also as a name after `-o`
-abbrev pub withLong : ℕ → Asked → Asked
-withLong i a = cond (decided a) a (but wrong.long i (into a.output a.front a.dashed false a))
+abbrev pub with_long : ℕ → Asked → Asked
+with_long i a = cond (decided a) a (but wrong.long i (into a.output a.front a.dashed false a))
 
 -- the argument at an index
-abbrev pub withArgument : ℕ → Argument → Asked → Asked
-withArgument i (word w) a = with_next i w a
-withArgument i long a = withLong i a
+abbrev pub with_argument : ℕ → Argument → Asked → Asked
+with_argument i (word w) a = with_next i w a
+with_argument i long a = with_long i a
 
 -- the arguments from an index on
-unfoldable pub withRest : ℕ → List Argument → Asked → Asked
-withRest i [] a = a
-withRest i (x ∷ xs) a = withRest (i + 1) xs (withArgument i x a)
+unfoldable pub with_rest : ℕ → List Argument → Asked → Asked
+with_rest i [] a = a
+with_rest i (x ∷ xs) a = with_rest (i + 1) xs (with_argument i x a)
 
 -- `--`, and `--json`
 abbrev pub end : Argument
 end = word (ascii "--")
 
-abbrev pub jsonOption : Argument
-jsonOption = word (ascii "--json")
+abbrev pub json_option : Argument
+json_option = word (ascii "--json")
 
 -- a line without its carrier, its file and what is wrong with it: the command and its options (arguments/Ended says what `--` leaves of them)
-abbrev pub optionsOf : Asked → Asked
-optionsOf a = but 0 0 (from 0 0 0 a)
+abbrev pub options_of : Asked → Asked
+options_of a = but 0 0 (from 0 0 0 a)
 
 -- the first word is the command k, or none (0)
 unfoldable pub begun : ℕ → Asked
-begun k = cond (eqb k 0) (but wrong.command 1 (only 0 0)) (cond (eqb k command.read) (only k 0) (only k 1))
+begun k = cond (eq k 0) (but wrong.command 1 (only 0 0)) (cond (eq k command.read) (only k 0) (only k 1))
 
 -- `--json` may stand there too, though no command does then
 abbrev pub first_of : Argument → Asked
-first_of (word w) = heard w (begun (commandOf w))
+first_of (word w) = heard w (begun (command_of w))
 first_of long = but wrong.long 1 (only 0 0)
 
 -- ---- the end of a line
 
 -- `--value`, `--strict` or `--force`, without `read`
 abbrev pub readless : Asked → Bool
-readless a = not (eqb a.command command.read) && (a.value || (a.strict || a.force))
+readless a = not (eq a.command command.read) && (a.value || (a.strict || a.force))
 
 -- `-o` with `show`
-abbrev pub shownInto : Asked → Bool
-shownInto a = eqb a.command command.show && not (eqb a.output 0)
+abbrev pub shown_into : Asked → Bool
+shown_into a = eq a.command command.show && not (eq a.output 0)
 
 -- `--json` with `-o -`: both would write to standard output
-abbrev pub jsonInto : Asked → Bool
-jsonInto a = a.json && a.dashed
+abbrev pub json_into : Asked → Bool
+json_into a = a.json && a.dashed
 
 -- what can only be told at the end is wrong, or 0: the first of these
-unfoldable pub wrongOf : Asked → ℕ
-wrongOf a =
-    cond a.pending wrong.noName
-    (cond (eqb a.words 0) wrong.noCarrier
-    (cond (readless a) wrong.onlyRead
-    (cond (shownInto a) wrong.showOutput
-    (cond (jsonInto a) wrong.jsonOutput
+unfoldable pub wrong_of : Asked → ℕ
+wrong_of a =
+    cond a.pending wrong.no_name
+    (cond (eq a.words 0) wrong.no_carrier
+    (cond (readless a) wrong.only_read
+    (cond (shown_into a) wrong.show_output
+    (cond (json_into a) wrong.json_output
     0))))
 
 abbrev pub settled_of : Asked → Asked
-settled_of a = cond (decided a) a (but (wrongOf a) 0 a)
+settled_of a = cond (decided a) a (but (wrong_of a) 0 a)
 
 -- the first argument, the command word, and those after it
 unfoldable pub asked_of : Argument → List Argument → Asked
-asked_of x xs = settled_of (withRest 2 xs (first_of x))
+asked_of x xs = settled_of (with_rest 2 xs (first_of x))
 
 -- ---- what the system gives
 
@@ -229,7 +229,7 @@ pub record Given (a : Asked) : Type 0 where
 -- a is b with an argument more, at i
 pub record Argued (i : ℕ) (b a : Asked) : Type 0 where
   pub argument : Argument
-  pub is : a ≡ withArgument i argument b
+  pub is : a ≡ with_argument i argument b
 
 -- a is what a first argument asks for
 pub record Begun (a : Asked) : Type 0 where

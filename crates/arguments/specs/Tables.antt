@@ -1,5 +1,5 @@
 -- The words of a command line that have a number (docs/COMMAND.md); several words may have the same. Assumes nothing: these are definitions.
-use Rattle.std.specs.Prelude.{ℕ, Bool, false, cond, List, [], ◌∷◌, ltb, eqb, length, get_or, take}
+use Rattle.std.specs.Prelude.{ℕ, Bool, false, cond, List, [], ◌∷◌, ltb, eq, length, get_or, take}
 use Rattle.octets.specs.Lists.{same}
 use Rattle.chars.specs.Ascii.{ascii}
 use Rattle.words.specs.Words.{Worded, worded, number_in}
@@ -70,28 +70,28 @@ carriers =
     ∷ []
 
 -- the number of a word in each, or 0
-abbrev pub commandOf : List ℕ → ℕ
-commandOf w = number_in commands w
+abbrev pub command_of : List ℕ → ℕ
+command_of w = number_in commands w
 
-abbrev pub optionOf : List ℕ → ℕ
-optionOf w = number_in options w
+abbrev pub option_of : List ℕ → ℕ
+option_of w = number_in options w
 
-abbrev pub carrierOf : List ℕ → ℕ
-carrierOf w = number_in carriers w
+abbrev pub carrier_of : List ℕ → ℕ
+carrier_of w = number_in carriers w
 
 -- ---- words by how they begin
 
 -- an option: a hyphen and more
-abbrev pub isOption : List ℕ → Bool
-isOption w = cond (ltb (length w) 2) false (eqb (get_or w 0 0) 45)
+abbrev pub is_option : List ℕ → Bool
+is_option w = cond (ltb (length w) 2) false (eq (get_or w 0 0) 45)
 
 -- the name `-`: standard input, standard output
-abbrev pub isDash : List ℕ → Bool
-isDash w = same w (ascii "-")
+abbrev pub is_dash : List ℕ → Bool
+is_dash w = same w (ascii "-")
 
 abbrev pub begins : List ℕ → List ℕ → Bool
 begins x w = same (take (length x) w) x
 
 -- how many octets stand before the file's name in `-oFILE` and `--output=FILE`; 0 in any other word
-abbrev pub frontOf : List ℕ → ℕ
-frontOf w = cond (begins (ascii "-o") w) 2 (cond (begins (ascii "--output=") w) 9 0)
+abbrev pub front_of : List ℕ → ℕ
+front_of w = cond (begins (ascii "-o") w) 2 (cond (begins (ascii "--output=") w) 9 0)

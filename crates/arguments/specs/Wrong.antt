@@ -22,12 +22,12 @@ abbrev pub long : ℕ
 long = 5
 
 -- `read` without a carrier
-abbrev pub noCarrier : ℕ
-noCarrier = 6
+abbrev pub no_carrier : ℕ
+no_carrier = 6
 
 -- `-o` without a name
-abbrev pub noName : ℕ
-noName = 7
+abbrev pub no_name : ℕ
+no_name = 7
 
 -- a second `-o`
 abbrev pub output : ℕ
@@ -38,13 +38,13 @@ abbrev pub form : ℕ
 form = 9
 
 -- `--value`, `--strict` or `--force` without `read`
-abbrev pub onlyRead : ℕ
-onlyRead = 10
+abbrev pub only_read : ℕ
+only_read = 10
 
 -- `-o` with `show`
-abbrev pub showOutput : ℕ
-showOutput = 11
+abbrev pub show_output : ℕ
+show_output = 11
 
 -- `--json` with `-o -`: both would write to standard output
-abbrev pub jsonOutput : ℕ
-jsonOutput = 12
+abbrev pub json_output : ℕ
+json_output = 12

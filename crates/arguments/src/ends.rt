@@ -1,6 +1,6 @@
 // What can only be told at the end of a command line: what lacks, and which options do not go with the command or with each other.
 ghost use Rattle.std.specs.Prelude.{◌≡◌};
-ghost use Rattle.arguments.specs.Line.{readless, shownInto, jsonInto, wrongOf};
+ghost use Rattle.arguments.specs.Line.{readless, shown_into, json_into, wrong_of};
 
 use crate::{Asked, Command, Wrong};
 
@@ -22,7 +22,7 @@ fn is_readless(a: Asked) -> bool
 
 // Whether `-o` stands with `show`.
 fn is_shown_into(a: Asked) -> bool
-    ensures { result ≡ shownInto a }
+    ensures { result ≡ shown_into a }
 {
     if a.command == Command::SHOW {
         return a.output != 0;
@@ -32,7 +32,7 @@ fn is_shown_into(a: Asked) -> bool
 
 // Whether `--json` stands with `-o -`.
 fn is_json_into(a: Asked) -> bool
-    ensures { result ≡ jsonInto a }
+    ensures { result ≡ json_into a }
 {
     if a.json {
         return a.dashed;
@@ -42,7 +42,7 @@ fn is_json_into(a: Asked) -> bool
 
 // What is wrong, or 0.
 pub fn wrong_of(a: Asked) -> usize
-    ensures { result ≡ wrongOf a }
+    ensures { result ≡ wrong_of a }
 {
     if a.pending {
         return Wrong::NO_NAME;

@@ -6,9 +6,9 @@ mod output;
 mod tables;
 
 ghost use Rattle.std.specs.Prelude.{◌≡◌};
-ghost use Rattle.arguments.specs.Line.{only, but, decided, withForm, chosen, withOption, withCarrier, withInput, withPlain, withWord};
-ghost use Rattle.arguments.specs.Tables.{commandOf};
-ghost use Rattle.arguments.specs.Line.{heard, with_next, withLong, begun, settled_of, Argued, Begun, Given};
+ghost use Rattle.arguments.specs.Line.{only, but, decided, with_form, chosen, with_option, with_carrier, with_input, with_plain, with_word};
+ghost use Rattle.arguments.specs.Tables.{command_of};
+ghost use Rattle.arguments.specs.Line.{heard, with_next, with_long, begun, settled_of, Argued, Begun, Given};
 
 use tables::Options;
 
@@ -176,7 +176,7 @@ impl Asked {
 
     // With a form of the input.
     fn with_form(mut self, i: usize, form: usize) -> Self
-        ensures { result ≡ withForm i form self }
+        ensures { result ≡ with_form i form self }
     {
         if self.form == form {
             return self;
@@ -224,7 +224,7 @@ impl Asked {
 
     // With an option.
     fn with_option(self, i: usize, word: &[u8]) -> Self
-        ensures { result ≡ withOption i word.now self }
+        ensures { result ≡ with_option i word.now self }
     {
         let option = tables::option_named(word);
         if option == 0 {
@@ -235,7 +235,7 @@ impl Asked {
 
     // With a carrier.
     fn with_carrier(mut self, i: usize, word: &[u8]) -> Self
-        ensures { result ≡ withCarrier i word.now self }
+        ensures { result ≡ with_carrier i word.now self }
     {
         let carrier = tables::carrier_named(word);
         if carrier == 0 {
@@ -248,7 +248,7 @@ impl Asked {
 
     // With the file that is read.
     fn with_input(mut self, i: usize, word: &[u8]) -> Self
-        ensures { result ≡ withInput i word.now self }
+        ensures { result ≡ with_input i word.now self }
     {
         if self.words == 2 {
             return self.but(Wrong::FILE, i);
@@ -263,7 +263,7 @@ impl Asked {
 
     // With a word that is no option.
     fn with_plain(self, i: usize, word: &[u8]) -> Self
-        ensures { result ≡ withPlain i word.now self }
+        ensures { result ≡ with_plain i word.now self }
     {
         if self.words == 0 {
             return self.with_carrier(i, word);
@@ -273,7 +273,7 @@ impl Asked {
 
     // With one word more.
     fn with_word(self, i: usize, word: &[u8]) -> Self
-        ensures { result ≡ withWord i word.now self }
+        ensures { result ≡ with_word i word.now self }
     {
         if self.ended {
             return self.with_plain(i, word);
@@ -305,7 +305,7 @@ impl Asked {
 
     // The first word: the command, or none; `--json` may stand there too.
     fn of_first(word: &[u8]) -> Self
-        ensures { result ≡ heard word.now (begun (commandOf word.now)) }
+        ensures { result ≡ heard word.now (begun (command_of word.now)) }
     {
         let a = Self::begun(tables::command_named(word));
         a.with_heard(word)
@@ -326,7 +326,7 @@ impl Asked {
 
     // With an argument that is too long.
     fn with_long(mut self, i: usize) -> Self
-        ensures { result ≡ withLong i self }
+        ensures { result ≡ with_long i self }
     {
         if self.is_decided() {
             return self;

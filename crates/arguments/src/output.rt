@@ -1,12 +1,12 @@
 // The file that is written: `-o`, and its name in an argument of its own or in one with the option (docs/COMMAND.md).
 ghost use Rattle.std.specs.Prelude.{◌≡◌};
-ghost use Rattle.arguments.specs.Line.{withPending, withOutput, attached};
+ghost use Rattle.arguments.specs.Line.{with_pending, with_output, attached};
 
 use crate::{Asked, Wrong, tables};
 
 // With `-o`.
 pub fn pending(mut a: Asked, i: usize) -> Asked
-    ensures { result ≡ withPending i a }
+    ensures { result ≡ with_pending i a }
 {
     if a.output == 0 {
         a.pending = true;
@@ -17,7 +17,7 @@ pub fn pending(mut a: Asked, i: usize) -> Asked
 
 // With its name, in an argument of its own.
 pub fn named(mut a: Asked, i: usize, word: &[u8]) -> Asked
-    ensures { result ≡ withOutput i word.now a }
+    ensures { result ≡ with_output i word.now a }
 {
     a.output = i;
     a.front = 0;

@@ -1,7 +1,7 @@
 // The words of a command line that have a number, and words by how they begin (docs/COMMAND.md). A table has an entry to a line, as `words` has it: the
 // number as an octet (in hexadecimal), the word and a line break. `arguments/Tables` has the numbers by name, and the tables are proved to be the same.
 ghost use Rattle.std.specs.Prelude.{◌≡◌};
-ghost use Rattle.arguments.specs.Tables.{commandOf, optionOf, carrierOf, isOption, isDash, begins, frontOf};
+ghost use Rattle.arguments.specs.Tables.{command_of, option_of, carrier_of, is_option, is_dash, begins, front_of};
 
 use octets::same;
 use words::number_of;
@@ -29,7 +29,7 @@ impl Options {
 
 // The command that a word names, or 0.
 pub fn command_named(word: &[u8]) -> usize
-    ensures { result ≡ commandOf word.now }
+    ensures { result ≡ command_of word.now }
 {
     number_of(
         b"\x01read\n\
@@ -48,7 +48,7 @@ pub fn command_named(word: &[u8]) -> usize
 
 // The option that a word is, or 0.
 pub fn option_named(word: &[u8]) -> usize
-    ensures { result ≡ optionOf word.now }
+    ensures { result ≡ option_of word.now }
 {
     number_of(
         b"\x01--hex\n\
@@ -69,41 +69,41 @@ pub fn option_named(word: &[u8]) -> usize
 
 // The carrier that a word names by its number or its name, or 0.
 pub fn carrier_named(word: &[u8]) -> usize
-    ensures { result ≡ carrierOf word.now }
+    ensures { result ≡ carrier_of word.now }
 {
     number_of(
         b"\x011\n\
           \x01dhcp4\n\
           \x01dhcpv4\n\
-          \x01DHCP4\n\
-          \x01DHCPv4\n\
-          \x01DHCPV4\n\
+          \x01_dhcp4\n\
+          \x01_dhc_pv4\n\
+          \x01_dhcpv4\n\
           \x022\n\
           \x02dhcp6\n\
           \x02dhcpv6\n\
-          \x02DHCP6\n\
-          \x02DHCPv6\n\
-          \x02DHCPV6\n\
+          \x02_dhcp6\n\
+          \x02_dhc_pv6\n\
+          \x02_dhcpv6\n\
           \x033\n\
           \x03ra\n\
-          \x03RA\n\
+          \x03_ra\n\
           \x044\n\
           \x04ike4\n\
-          \x04IKE4\n\
+          \x04_ike4\n\
           \x04encdns_ip4\n\
-          \x04ENCDNS_IP4\n\
+          \x04_encdns_ip4\n\
           \x055\n\
           \x05ike6\n\
-          \x05IKE6\n\
+          \x05_ike6\n\
           \x05encdns_ip6\n\
-          \x05ENCDNS_IP6\n",
+          \x05_encdns_ip6\n",
         word,
     )
 }
 
 // Whether a word is an option: a hyphen and more.
 pub fn is_option(word: &[u8]) -> bool
-    ensures { result ≡ isOption word.now }
+    ensures { result ≡ is_option word.now }
 {
     if word.len() < 2 {
         return false;
@@ -113,7 +113,7 @@ pub fn is_option(word: &[u8]) -> bool
 
 // Whether a name is `-`: standard input, standard output.
 pub fn is_dash(name: &[u8]) -> bool
-    ensures { result ≡ isDash name.now }
+    ensures { result ≡ is_dash name.now }
 {
     same(name, b"-")
 }
@@ -131,7 +131,7 @@ fn is_begun(start: &[u8], word: &[u8]) -> bool
 
 // How many octets stand before the file's name in a word that holds both an option and the name; 0 in any other.
 pub fn front_of(word: &[u8]) -> usize
-    ensures { result ≡ frontOf word.now }
+    ensures { result ≡ front_of word.now }
 {
     if is_begun(b"-o", word) {
         return 2;

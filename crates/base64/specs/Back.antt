@@ -1,12 +1,12 @@
 -- An encoding is decoded as the octets that it is of, and blanks change nothing of that. Assumes nothing.
-use Rattle.std.specs.Prelude.{◌≡◌, refl, Bool, true, false, cond, List, [], ◌∷◌, ℕ, zero, suc, ◌+◌, ◌*◌, ◌/◌, ◌%◌, ◌<◌, eqb}
+use Rattle.std.specs.Prelude.{◌≡◌, refl, Bool, true, false, cond, List, [], ◌∷◌, ℕ, zero, suc, ◌+◌, ◌*◌, ◌/◌, ◌%◌, ◌<◌, eq}
 use Rattle.std.proofs.Common.{ap, ap₂, ◌∙◌, arith}
-use borrow.Author.Tests.{lt-leb, eq-eqb, ne_eqb, eqb-false}
+use borrow.Author.Tests.{lt-leb, eq-eq, ne_eqb, eq-false}
 use Rattle.octets.specs.Lists.{All}
 use Rattle.octets.specs.ListsLaws.{all_append}
 use Rattle.octets.specs.Numbers.{Bytes}
 use Rattle.base64.specs.declared.Quantum.{Quantum}
-use Rattle.base64.specs.Base64.{blank, quantum, to, octetOf, padded, filled, moved, whole}
+use Rattle.base64.specs.Base64.{blank, quantum, to, octet_of, padded, filled, moved, whole}
 use Rattle.base64.specs.Base64.{End, good, fault, Decoded, none, decoded, onto, arrive, decode_from}
 use Rattle.base64.specs.Encoded.{character, characters, encode, unblanked}
 use Rattle.base64.specs.EncodedLaws.{character-value, character-blank, character-padding, encode_one, encode-two, encode-three}
@@ -19,33 +19,33 @@ unfolding moved
 moved-character v s h = rw (character-blank v h, character-padding v h, character-value v h)
 
 module _ (l o : ℕ) (c : Bool) (i v : ℕ) (t : List ℕ) (h : v < 64) where
-  first : decode_from (quantum 0 l o c) i (character v ∷ t) ≡ decode_from (quantum 1 v (octetOf 0 l v) false) (i + 1) t
+  first : decode_from (quantum 0 l o c) i (character v ∷ t) ≡ decode_from (quantum 1 v (octet_of 0 l v) false) (i + 1) t
   unfolding decode_from filled
   first = rw (moved-character v (quantum 0 l o c) h, lt-leb 64 v h)
 
   second : decode_from (quantum 1 l o c) i (character v ∷ t)
       ≡ onto (l % 64 * 4 + v / 16) (decode_from (quantum 2 v (l % 64 * 4 + v / 16) true) (i + 1) t)
-  unfolding decode_from filled octetOf
+  unfolding decode_from filled octet_of
   second = rw (moved-character v (quantum 1 l o c) h, lt-leb 64 v h)
 
   third : decode_from (quantum 2 l o c) i (character v ∷ t)
       ≡ onto (l % 16 * 16 + v / 4) (decode_from (quantum 3 v (l % 16 * 16 + v / 4) true) (i + 1) t)
-  unfolding decode_from filled octetOf
+  unfolding decode_from filled octet_of
   third = rw (moved-character v (quantum 2 l o c) h, lt-leb 64 v h)
 
   fourth : decode_from (quantum 3 l o c) i (character v ∷ t)
       ≡ onto (l % 4 * 64 + v) (decode_from (quantum 0 v (l % 4 * 64 + v) true) (i + 1) t)
-  unfolding decode_from filled octetOf
+  unfolding decode_from filled octet_of
   fourth = rw (moved-character v (quantum 3 l o c) h, lt-leb 64 v h)
 
 module _ (l o : ℕ) (c : Bool) (i : ℕ) where
   padded-two : l % 16 ≡ 0 → decode_from (quantum 2 l o c) i (61 ∷ 61 ∷ []) ≡ none good
   unfolding decode_from moved padded
-  padded-two e = rw (eq-eqb (l % 16) 0 e)
+  padded-two e = rw (eq-eq (l % 16) 0 e)
 
   padded-one : l % 4 ≡ 0 → decode_from (quantum 3 l o c) i (61 ∷ []) ≡ none good
   unfolding decode_from moved padded
-  padded-one e = rw (eq-eqb (l % 4) 0 e)
+  padded-one e = rw (eq-eq (l % 4) 0 e)
 
 -- ---- an encoding
 
@@ -89,14 +89,14 @@ encoded-back l o c i (a ∷ b ∷ d ∷ bs) h =
 
 -- ---- blanks
 
-abbrev pub isGood : End → Bool
-isGood good = true
-isGood (fault i) = false
+abbrev pub is_good : End → Bool
+is_good good = true
+is_good (fault i) = false
 
 -- the same octets, and both good or neither
 pub record Alike (d e : Decoded) : Type 0 where
   pub octets : d.octets ≡ e.octets
-  pub end : isGood d.end ≡ isGood e.end
+  pub end : is_good d.end ≡ is_good e.end
 
 -- a character is taken alike, whether or not the one before completed an octet
 to-moved : (x : ℕ) (s : Quantum) → moved x (to s.place s) ≡ moved x s
@@ -115,7 +115,7 @@ blank-moved s x b = rw b
 blank-on : (s : Quantum) (i x : ℕ) (t : List ℕ) → (s.place ≡ 6 → ⊥) → blank x ≡ true → decode_from s i (x ∷ t) ≡ decode_from s (i + 1) t
 unfolding decode_from
 blank-on s i x t n b =
-    let e : eqb s.place 6 ≡ false = ne_eqb s.place 6 n in
+    let e : eq s.place 6 ≡ false = ne_eqb s.place 6 n in
     ap (λ (m : Quantum). arrive m i (decode_from m (i + 1) t)) (blank-moved s x b)
     ∙ ap (λ (a : Bool). cond a (none (fault i)) (decode_from (to s.place s) (i + 1) t)) e
     ∙ to-decode s (i + 1) t
@@ -129,13 +129,13 @@ ends-alike s i j = go (whole s)
     go false = record { octets = refl; end = refl }
 
 arrive-alike : (m : Quantum) (i j : ℕ) (d e : Decoded) → ((m.place ≡ 6 → ⊥) → Alike d e) → Alike (arrive m i d) (arrive m j e)
-arrive-alike m i j d e f = go (eqb m.place 6) refl m.complete
+arrive-alike m i j d e f = go (eq m.place 6) refl m.complete
   where
-    go : (b : Bool) → eqb m.place 6 ≡ b → (c : Bool)
+    go : (b : Bool) → eq m.place 6 ≡ b → (c : Bool)
         → Alike (cond b (none (fault i)) (cond c (onto m.octet d) d)) (cond b (none (fault j)) (cond c (onto m.octet e) e))
     go true p c = record { octets = refl; end = refl }
-    go false p true = let a = f (eqb-false m.place 6 p) in record { octets = ap (λ (l : List ℕ). m.octet ∷ l) a.octets; end = a.end }
-    go false p false = f (eqb-false m.place 6 p)
+    go false p true = let a = f (eq-false m.place 6 p) in record { octets = ap (λ (l : List ℕ). m.octet ∷ l) a.octets; end = a.end }
+    go false p false = f (eq-false m.place 6 p)
 
 pub unblanked-alike : (s : Quantum) (i j : ℕ) (t : List ℕ) → (s.place ≡ 6 → ⊥) → Alike (decode_from s i t) (decode_from s j (unblanked t))
 unfolding unblanked decode_from

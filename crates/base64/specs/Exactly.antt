@@ -9,12 +9,12 @@ use Rattle.inputs.specs.declared.Read.{Read}
 use Rattle.inputs.specs.declared.Read.TheVariants.{Octets, Long}
 use Rattle.base64.specs.Base64.{begun, End, good, fault, Decoded, decoded, decode_from, decode, told, answer, Answered}
 use Rattle.base64.specs.Encoded.{encode, unblanked, Encodes}
-use Rattle.base64.specs.Back.{encoded-back, encode-unblanked, isGood, unblanked-alike}
+use Rattle.base64.specs.Back.{encoded-back, encode-unblanked, is_good, unblanked-alike}
 use Rattle.base64.specs.Says.{When, left-says, octets-small}
 
 -- ---- what a text is decoded as
 
-is-good : (e : End) → isGood e ≡ true → e ≡ good
+is-good : (e : End) → is_good e ≡ true → e ≡ good
 is-good good p = refl
 is-good (fault i) p = absurd (false≢true p)
 
@@ -33,7 +33,7 @@ decode-exactly t bs = (to, from)
         let a = unblanked-alike begun 0 0 t (λ z. omega arith) in
         let b : decode_from begun 0 (unblanked t) ≡ decoded bs = ap (decode_from begun 0) h.1 ∙ encoded-back 0 0 false 0 bs h.0 in
         let p : (decode t).octets ≡ bs = a.octets ∙ ap (λ (d : Decoded). d.octets) b in
-        let q : (decode t).end ≡ good = is-good (decode t).end (a.end ∙ ap (λ (d : Decoded). isGood d.end) b) in
+        let q : (decode t).end ≡ good = is-good (decode t).end (a.end ∙ ap (λ (d : Decoded). is_good d.end) b) in
         ap₂ (λ (o : List ℕ) (e : End). record { octets = o; end = e }) p q
 
 -- ---- what is answered, and left in the buffer

@@ -1,7 +1,7 @@
 -- The test vectors of RFC 4648 §10, and texts that are at fault, with the octets before the fault and its place. Assumes nothing.
 use Rattle.std.specs.Prelude.{◌≡◌, refl, List, [], ℕ}
 use Rattle.chars.specs.Ascii.{ascii}
-use Rattle.base64.specs.Base64.{value, octetOf, padded, filled, moved, End, good, fault, decode_from, decode}
+use Rattle.base64.specs.Base64.{value, octet_of, padded, filled, moved, End, good, fault, decode_from, decode}
 use Rattle.base64.specs.Encoded.{character, encode}
 
 pub vectors : (encode (ascii "") ≡ ascii "")
@@ -22,7 +22,7 @@ pub blanks : Case (ascii "") [] good
     × Case (ascii " ") [] good
     × Case (ascii " Z g= =") (ascii "f") good
     × Case (ascii "Zg== ") (ascii "f") good
-unfolding decode decode_from moved padded filled octetOf value
+unfolding decode decode_from moved padded filled octet_of value
 blanks = (refl, refl, refl, refl)
 
 -- a character that is none of the alphabet; padding too early; bits under the padding; characters after it; and characters that are missing
@@ -38,5 +38,5 @@ pub faults : Case (ascii "Zm-v") (ascii "f") (fault 2)
     × Case (ascii "Zg") (ascii "f") (fault 2)
     × Case (ascii "Zm8 ") (ascii "fo") (fault 4)
     × Case (ascii "Zg=") (ascii "f") (fault 3)
-unfolding decode decode_from moved padded filled octetOf value
+unfolding decode decode_from moved padded filled octet_of value
 faults = (refl, refl, refl, refl, refl, refl, refl, refl, refl, refl, refl, refl)

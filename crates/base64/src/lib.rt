@@ -74,7 +74,7 @@ fn value(x: u8) -> u8
 // The octet that a character of value v completes, after one of value `last`.
 fn octet(place: usize, last: u8, v: u8) -> u8
     requires { v < 64 }
-    ensures { result ≡ base64.octetOf place last v }
+    ensures { result ≡ base64.octet_of place last v }
 {
     if place == 1 {
         return last % 64 * 4 + v / 16;

@@ -3,13 +3,13 @@
 -- Assumes nothing: these are definitions.
 use Rattle.std.specs.Prelude.{◌≡◌, Bool, true, false, cond, List, [], ℕ, ◌^◌, ◌≤◌, ◌<◌, length}
 use Rattle.octets.specs.Lists.{All}
-use Rattle.octets.specs.Fields.{putCounted}
+use Rattle.octets.specs.Fields.{put_counted}
 use Rattle.carriers.specs.declared.Carrier.{Carrier}
 use Rattle.carriers.specs.declared.Carrier.TheVariants.{Router}
 use Rattle.carriers.specs.declared.Form.{Form}
 use Rattle.carriers.specs.declared.Form.TheVariants.{Wire, Padded, Text}
-use Rattle.carriers.specs.Carriers.{form_of, lengthWidth, lifetimeWidth}
-use Rattle.blocks.specs.Block.{Fields, putOpening, layout, Tail, Fits}
+use Rattle.carriers.specs.Carriers.{form_of, length_width, lifetime_width}
+use Rattle.blocks.specs.Block.{Fields, put_opening, layout, Tail, Fits}
 
 -- a body is the layout of fields that have room in it (RULES B1)
 abbrev pub Laid : Carrier → List ℕ → Fields → Type 0
@@ -22,8 +22,8 @@ Padding rest = (length rest < 8) × All (λ x. x ≡ 0) rest
 -- ---- carrier 3
 
 -- what follows the name, with `rest` where the padding belongs (RULES B1)
-abbrev pub putTail : Fields → List ℕ → List ℕ
-putTail f rest = cond f.full (putCounted (lengthWidth Router) f.addresses (putCounted (lengthWidth Router) f.parameters rest)) rest
+abbrev pub put_tail : Fields → List ℕ → List ℕ
+put_tail f rest = cond f.full (put_counted (length_width Router) f.addresses (put_counted (length_width Router) f.parameters rest)) rest
 
 -- which form it is, by the octets that follow the name (RULES B5, B6)
 abbrev pub FormBy : Bool → ℕ → Type 0
@@ -32,12 +32,12 @@ FormBy false n = n < 8
 
 -- the body is these fields and then `rest`, the numbers have room, and the form is the one that the octets after the name tell (RULES B1, B5, B6)
 pub record HoldsPadded (body : List ℕ) (f : Fields) (rest : List ℕ) : Type 0 where
-  pub laid : body ≡ putOpening Router f (putTail f rest)
-  pub form : FormBy f.full (length (putTail f rest))
+  pub laid : body ≡ put_opening Router f (put_tail f rest)
+  pub form : FormBy f.full (length (put_tail f rest))
   pub priority : f.priority < 65536
-  pub lifetime : f.lifetime < 256 ^ lifetimeWidth Router
-  pub name : length f.name < 256 ^ lengthWidth Router
-  pub tail : Tail f.full ((length f.addresses < 256 ^ lengthWidth Router) × (length f.parameters < 256 ^ lengthWidth Router)) f
+  pub lifetime : f.lifetime < 256 ^ lifetime_width Router
+  pub name : length f.name < 256 ^ length_width Router
+  pub tail : Tail f.full ((length f.addresses < 256 ^ length_width Router) × (length f.parameters < 256 ^ length_width Router)) f
 
 -- ---- every carrier
 

@@ -4,29 +4,29 @@ use Rattle.std.specs.Prelude.{◌≡◌, refl, Bool, true, false, cond, ◌↔�
 use Rattle.std.proofs.Common.{sym, ap, ◌∙◌, inl, inr, arith, le-ltb, lt-ltb, ltb-true}
 use Rattle.std.proofs.Math.Bool.{and-eq-true_iff}
 use Rattle.octets.specs.Cases.{by-test, by_less}
-use Rattle.octets.specs.Numbers.{be, Bytes, allZero}
+use Rattle.octets.specs.Numbers.{be, Bytes, all_zero}
 use Rattle.octets.specs.NumbersLaws.{zero-exactly}
-use Rattle.octets.specs.Fields.{putCounted}
+use Rattle.octets.specs.Fields.{put_counted}
 use Rattle.octets.specs.FieldsLaws.{counted-read, counted-says}
 use Rattle.numbers.specs.Fault as fault
 use Rattle.carriers.specs.declared.Carrier.{Carrier}
 use Rattle.carriers.specs.declared.Carrier.TheVariants.{Router}
 use Rattle.carriers.specs.declared.Form.{Form}
 use Rattle.carriers.specs.declared.Form.TheVariants.{Wire, Padded, Text}
-use Rattle.carriers.specs.Carriers.{form_of, lifetimeIn, lifetimeWidth}
+use Rattle.carriers.specs.Carriers.{form_of, lifetime_in, lifetime_width}
 use Rattle.carriers.specs.CarriersLaws.{padded-router}
-use Rattle.blocks.specs.Block.{Fields, nameOnly, whole, Tail, Possible}
-use Rattle.blocks.specs.Parse.{Parsed, bad, fields, short, opening, isPadding, padded, afterNamePadded, parse}
+use Rattle.blocks.specs.Block.{Fields, name_only, whole, Tail, Possible}
+use Rattle.blocks.specs.Parse.{Parsed, bad, fields, short, opening, is_padding, padded, after_name_padded, parse}
 use Rattle.blocks.specs.Exactly.{opening-read, opening-says, parse-layout, parse-iff}
 use Rattle.blocks.specs.Faults.{parse-fault}
-use Rattle.blocks.specs.Holding.{Laid, Padding, putTail, FormBy, HoldsPadded, HoldsBy, Holds, Short, Misfilled}
+use Rattle.blocks.specs.Holding.{Laid, Padding, put_tail, FormBy, HoldsPadded, HoldsBy, Holds, Short, Misfilled}
 
 -- ---- padding
 
-padding-exactly : (l : List ℕ) → (isPadding l ≡ true) ↔ Padding l
-unfolding isPadding
+padding-exactly : (l : List ℕ) → (is_padding l ≡ true) ↔ Padding l
+unfolding is_padding
 padding-exactly l =
-    let both = and-eq-true_iff (ltb (length l) 8) (allZero l) in
+    let both = and-eq-true_iff (ltb (length l) 8) (all_zero l) in
     let zero = zero-exactly l in (
       λ e. (omega (arith, ltb-true (length l) 8 (both.0 e).0), zero.0 (both.0 e).1),
       λ h. both.1 (lt-ltb (length l) 8 (omega (arith, h.0)), zero.1 h.1),
@@ -36,21 +36,21 @@ padding-exactly l =
 
 tail-read : (p t : ℕ) (n : List ℕ) (full : Bool) (a q rest : List ℕ)
     → let f : Fields = record { priority = p; lifetime = t; full = full; name = n; addresses = a; parameters = q } in
-    FormBy full (length (putTail f rest)) → Tail full ((length a < 256 ^ 2) × (length q < 256 ^ 2)) f
-    → afterNamePadded p t n (putTail f rest) ≡ padded rest f
+    FormBy full (length (put_tail f rest)) → Tail full ((length a < 256 ^ 2) × (length q < 256 ^ 2)) f
+    → after_name_padded p t n (put_tail f rest) ≡ padded rest f
 tail-read p t n true a q rest h k =
     let ha : length a < 256 ^ 2 = k.0 in
     let hq : length q < 256 ^ 2 = k.1 in
-    rw (le-ltb (length (putCounted 2 a (putCounted 2 q rest))) 8 (omega (arith, h))) (simp counted-read)
+    rw (le-ltb (length (put_counted 2 a (put_counted 2 q rest))) 8 (omega (arith, h))) (simp counted-read)
 tail-read p t n false a q rest h k = rw (k.0, k.1, lt-ltb (length rest) 8 (omega (arith, h)))
 
-router-read : (b : List ℕ) (f : Fields) (rest : List ℕ) → HoldsPadded b f rest → opening Router b afterNamePadded ≡ padded rest f
+router-read : (b : List ℕ) (f : Fields) (rest : List ℕ) → HoldsPadded b f rest → opening Router b after_name_padded ≡ padded rest f
 router-read b f rest h =
     rw h.laid
-    (opening-read Router f (putTail f rest) afterNamePadded h.priority h.lifetime h.name ∙ tail-read _ _ _ f.full _ _ rest h.form h.tail)
+    (opening-read Router f (put_tail f rest) after_name_padded h.priority h.lifetime h.name ∙ tail-read _ _ _ f.full _ _ rest h.form h.tail)
 
 form-read : (k : Form) (c : Carrier) (b : List ℕ) (f : Fields) (rest : List ℕ) → form_of c ≡ k → HoldsBy k c b f rest → parse c b ≡ padded rest f
-unfolding parse isPadding allZero
+unfolding parse is_padding all_zero
 form-read Wire c b f rest e h = rw h.1 (ap (parse c) h.0.0 ∙ parse-layout c f h.0.1)
 form-read Padded c b f rest e h = rw (padded-router c e) (router-read b f rest h)
 form-read Text c b f rest e h = rw h.1 (ap (parse c) h.0.0 ∙ parse-layout c f h.0.1)
@@ -64,14 +64,14 @@ holds_read c b f rest h = form-read (form_of c) c b f rest refl h
 abbrev Held : (Fields → List ℕ → Type 0) → Parsed → Type 0
 Held H r = (r ≡ short) ⊎ ((f : Fields) × (rest : List ℕ) × H f rest)
 
-router-says : (b : List ℕ) → Bytes b → Held (HoldsPadded b) (opening Router b afterNamePadded)
+router-says : (b : List ℕ) → Bytes b → Held (HoldsPadded b) (opening Router b after_name_padded)
 router-says b h =
-    opening-says Router (λ b. Held (HoldsPadded b)) b afterNamePadded h (λ _. inl refl) (λ p t n l hp ht hn h.
-    let Q : List ℕ → Parsed → Type 0 = λ l. Held (HoldsPadded (be 2 p ++ (be 4 t ++ putCounted 2 n l))) in
+    opening-says Router (λ b. Held (HoldsPadded b)) b after_name_padded h (λ _. inl refl) (λ p t n l hp ht hn h.
+    let Q : List ℕ → Parsed → Type 0 = λ l. Held (HoldsPadded (be 2 p ++ (be 4 t ++ put_counted 2 n l))) in
     by_less (Q l) (length l) 8 _ _
-    (λ few. inr (nameOnly p t n, l, record { laid = refl; form = omega (arith, few); priority = hp; lifetime = ht; name = hn; tail = (refl, refl) }))
+    (λ few. inr (name_only p t n, l, record { laid = refl; form = omega (arith, few); priority = hp; lifetime = ht; name = hn; tail = (refl, refl) }))
     (counted-says short 2 (λ l r. 8 ≤ length l → Q l r) l _ h (λ _ _. inl refl) (λ a l ha _ h.
-    counted-says short 2 (λ l r. 8 ≤ length (putCounted 2 a l) → Q (putCounted 2 a l) r) l _ h (λ _ _. inl refl) (λ q l hq _ _ big.
+    counted-says short 2 (λ l r. 8 ≤ length (put_counted 2 a l) → Q (put_counted 2 a l) r) l _ h (λ _ _. inl refl) (λ q l hq _ _ big.
     inr (whole p t n a q, l, record { laid = refl; form = omega (arith, big); priority = hp; lifetime = ht; name = hn; tail = (ha, hq) })))))
 
 -- in the other carriers fields are those of a layout, and 20 is the only fault
@@ -86,14 +86,14 @@ laid-says c b h m n = go (parse c b) refl
     go (bad k) e = fault-says c _ k n (parse-fault c b k e)
     go (fields f) e = inr (f, [], ((parse-iff c b f h m).0 e, refl))
 
-not-router : (c : Carrier) → lifetimeWidth c ≡ 0 → c ≡ Router → ⊥
-not-router c z e = let w : lifetimeWidth c ≡ 4 = ap lifetimeWidth e in omega arith
+not-router : (c : Carrier) → lifetime_width c ≡ 0 → c ≡ Router → ⊥
+not-router c z e = let w : lifetime_width c ≡ 4 = ap lifetime_width e in omega arith
 
 form-says : (k : Form) (c : Carrier) (b : List ℕ) → form_of c ≡ k → Bytes b → Held (HoldsBy k c b) (parse c b)
 unfolding parse
-form-says Wire c b e h = laid-says c b h (rw e tt) (not-router c (ap lifetimeIn e))
+form-says Wire c b e h = laid-says c b h (rw e tt) (not-router c (ap lifetime_in e))
 form-says Padded c b e h = rw (padded-router c e) (router-says b h)
-form-says Text c b e h = laid-says c b h (rw e tt) (not-router c (ap lifetimeIn e))
+form-says Text c b e h = laid-says c b h (rw e tt) (not-router c (ap lifetime_in e))
 
 pub holds-or-short : (c : Carrier) (b : List ℕ) → Bytes b → (parse c b ≡ bad fault.field) ⊎ ((f : Fields) × (rest : List ℕ) × Holds c b f rest)
 holds-or-short c b h = form-says (form_of c) c b refl h
@@ -107,17 +107,17 @@ faults-apart : bad fault.field ≡ bad fault.padding → ⊥
 faults-apart e = let z : fault.field ≡ fault.padding = cc in omega arith
 
 padded-not-short : (l : List ℕ) (f : Fields) → padded l f ≡ bad fault.field → ⊥
-padded-not-short l f = by-test (isPadding l) (λ x. cond x (fields f) (bad fault.padding) ≡ bad fault.field → ⊥) (λ _. fields-bad) (λ _ e. faults-apart (sym e))
+padded-not-short l f = by-test (is_padding l) (λ x. cond x (fields f) (bad fault.padding) ≡ bad fault.field → ⊥) (λ _. fields-bad) (λ _ e. faults-apart (sym e))
 
 padded-bad : (l : List ℕ) (f : Fields) → (padded l f ≡ bad fault.padding) ↔ (Padding l → ⊥)
 padded-bad l f = (
   λ e p. fields-bad (sym (ap (λ x. cond x (fields f) (bad fault.padding)) ((padding-exactly l).1 p)) ∙ e),
-  λ n. by-test (isPadding l) (λ x. cond x (fields f) (bad fault.padding) ≡ bad fault.padding) (λ t. absurd (n ((padding-exactly l).0 t))) (λ _. refl),
+  λ n. by-test (is_padding l) (λ x. cond x (fields f) (bad fault.padding) ≡ bad fault.padding) (λ t. absurd (n ((padding-exactly l).0 t))) (λ _. refl),
 )
 
 padded-good : (l : List ℕ) (f g : Fields) → (padded l f ≡ fields g) ↔ ((f ≡ g) × Padding l)
 padded-good l f g = (
-  by-test (isPadding l) (λ x. cond x (fields f) (bad fault.padding) ≡ fields g → (f ≡ g) × Padding l)
+  by-test (is_padding l) (λ x. cond x (fields f) (bad fault.padding) ≡ fields g → (f ≡ g) × Padding l)
       (λ t e. (cc, (padding-exactly l).0 t)) (λ _ e. absurd (fields-bad (sym e))),
   λ p. rw ((padding-exactly l).1 p.1, p.0),
 )

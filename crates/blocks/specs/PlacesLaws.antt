@@ -6,10 +6,10 @@ use Rattle.std.proofs.Common.{ap, ◌∙◌, add_assoc}
 use Rattle.std.proofs.lemmas.Bool.{false≢true}
 use Rattle.std.proofs.Math.Nat.{sub-add-eq, mul-mod_left}
 use native.Mathlib.Omega.{arith}
-use borrow.Author.Tests.{le-ltb, lt-ltb, eq-eqb, ne_eqb}
+use borrow.Author.Tests.{le-ltb, lt-ltb, eq-eq, ne_eqb}
 use Rattle.std.proofs.Math.ListN.{length, length-drop}
 use Rattle.std.proofs.Math.Seq.{drop-drop}
-use Rattle.octets.specs.Numbers.{val, at16, at32, number_at, allZero}
+use Rattle.octets.specs.Numbers.{val, at16, at32, number_at, all_zero}
 use Rattle.octets.specs.NumbersLaws.{number-none, number-8, number-16, number-32}
 use Rattle.octets.specs.ListsLaws.{take_rest}
 use Rattle.octets.specs.Fields.{number, counted}
@@ -17,26 +17,26 @@ use Rattle.numbers.specs.Fault as fault
 use Rattle.carriers.specs.declared.Carrier.{Carrier}
 use Rattle.carriers.specs.declared.Carrier.TheVariants.{Router}
 use Rattle.carriers.specs.declared.Form.{Form}
-use Rattle.carriers.specs.Carriers.{lengthWidth, form_of, lifetimeWidth, addressWidth, asText}
+use Rattle.carriers.specs.Carriers.{length_width, form_of, lifetime_width, address_width, as_text}
 use Rattle.carriers.specs.CarriersLaws.{text-width, wire-form, text-form}
 use Rattle.blocks.specs.declared.Places.{Places}
 use Rattle.blocks.specs.declared.Places.TheVariants.{Bad, NameOnly, Full}
 use Rattle.blocks.specs.Block.{whole, name_at}
-use Rattle.blocks.specs.Parse.{Parsed, fields, short, opening, afterName, isPadding, padded, afterNamePadded, attribute, parseBy, parse}
+use Rattle.blocks.specs.Parse.{Parsed, fields, short, opening, after_name, is_padding, padded, after_name_padded, attribute, parse_by, parse}
 use Rattle.blocks.specs.Together.{part-is, part-two, part-three}
-use Rattle.blocks.specs.Places.{told, Inside, Numbers, Ranged, Named, pastName}
+use Rattle.blocks.specs.Places.{told, Inside, Numbers, Ranged, Named, past_name}
 
 -- ---- carriers 1 to 3: up to the name, which stands at a, after a lifetime of t octets and a length of w
 
-module _ (c : Carrier) (b : List ℕ) (next : ℕ → ℕ → List ℕ → List ℕ → Parsed) (z : parse c b ≡ opening c b next) {t w a : ℕ} (et : t ≡ lifetimeWidth c)
-    (ew : w ≡ lengthWidth c) (ea : a ≡ 2 + (t + w)) where
+module _ (c : Carrier) (b : List ℕ) (next : ℕ → ℕ → List ℕ → List ℕ → Parsed) (z : parse c b ≡ opening c b next) {t w a : ℕ} (et : t ≡ lifetime_width c)
+    (ew : w ≡ length_width c) (ea : a ≡ 2 + (t + w)) where
   opening-is : let n : ℕ = number_at w (2 + t) b in
       parse c b
       ≡ cond (ltb (length b) a) short
       (cond (ltb (length b - a) n) short
-      (pastName a n b (next (number_at 2 0 b) (number_at t 2 b))))
+      (past_name a n b (next (number_at 2 0 b) (number_at t 2 b))))
   unfolding number_at number counted
-  opening-is = z ∙ rw (ea, et, ew) (part-three short 2 (lifetimeWidth c) (lengthWidth c) b _ ∙ simp (part-is, length-drop, drop-drop))
+  opening-is = z ∙ rw (ea, et, ew) (part-three short 2 (lifetime_width c) (length_width c) b _ ∙ simp (part-is, length-drop, drop-drop))
 
   pub fixed-cut : length b < a → told b (Bad fault.field) ≡ parse c b
   fixed-cut h = simp (opening-is, lt-ltb _ _ h)
@@ -45,40 +45,40 @@ module _ (c : Carrier) (b : List ℕ) (next : ℕ → ℕ → List ℕ → List 
     pub name-cut : length b - a < n → told b (Bad fault.field) ≡ parse c b
     name-cut i = simp (opening-is, le-ltb _ _ h, ← en, lt-ltb _ _ i)
 
-    pub name-there : n ≤ length b - a → {p u : ℕ} → p ≡ at16 b 0 → u ≡ number_at t 2 b → parse c b ≡ pastName a n b (next p u)
+    pub name-there : n ≤ length b - a → {p u : ℕ} → p ≡ at16 b 0 → u ≡ number_at t 2 b → parse c b ≡ past_name a n b (next p u)
     name-there i ep eu = simp (opening-is, le-ltb _ _ h, ← en, le-ltb _ _ i, ep, number-16 b 0 (omega arith), eu)
 
 -- the numbers are in range where there is no lifetime, and the name stands where it should
 pub no-lifetime : (c : Carrier) {p : ℕ} → p < 65536 → Numbers c p 0
 no-lifetime c h = record { priority = h; lifetime = omega arith; none = λ _. refl }
 
-module _ (c : Carrier) (z : asText c ≡ false) {p u t w : ℕ} (n : Numbers c p u) (et : t ≡ lifetimeWidth c) (ew : w ≡ lengthWidth c) where
-  pub alone-ranged : Numbers c p u × (2 + t + w ≡ name_at c 0) × (asText c ≡ false)
+module _ (c : Carrier) (z : as_text c ≡ false) {p u t w : ℕ} (n : Numbers c p u) (et : t ≡ lifetime_width c) (ew : w ≡ length_width c) where
+  pub alone-ranged : Numbers c p u × (2 + t + w ≡ name_at c 0) × (as_text c ≡ false)
   alone-ranged = (n, simp (z, et, ew), z)
 
-  pub whole-ranged : (m : ℕ) → Numbers c p u × (2 + t + w ≡ name_at c m) × (asText c ≡ true → m % addressWidth c ≡ 0)
+  pub whole-ranged : (m : ℕ) → Numbers c p u × (2 + t + w ≡ name_at c m) × (as_text c ≡ true → m % address_width c ≡ 0)
   whole-ranged m = (n, simp (z, et, ew), λ x. absurd (false≢true (sym z ∙ x)))
 
 -- ---- carriers 1 and 2
 
-pub named-opens : (c : Carrier) (b : List ℕ) → Named c → parse c b ≡ opening c b (afterName c)
+pub named-opens : (c : Carrier) (b : List ℕ) → Named c → parse c b ≡ opening c b (after_name c)
 unfolding parse
-named-opens c b h = ap (λ (k : Form). parseBy k c b) (wire-form (form_of c) h.0 h.1)
+named-opens c b h = ap (λ (k : Form). parse_by k c b) (wire-form (form_of c) h.0 h.1)
 
-module _ (c : Carrier) (b : List ℕ) (z : Named c) {w : ℕ} (e : w ≡ lengthWidth c) where
+module _ (c : Carrier) (b : List ℕ) (z : Named c) {w : ℕ} (e : w ≡ length_width c) where
   module _ (h : 2 + w ≤ length b) {p n : ℕ} (ep : p ≡ at16 b 0) (en : n ≡ number_at w 2 b) (i : n ≤ length b - (2 + w)) where
-    named-there : parse c b ≡ pastName (2 + w) n b (afterName c p 0)
-    named-there = name-there c b (afterName c) (named-opens c b z) (sym z.0) e (omega arith) h en i ep (number-none 2 b)
+    named-there : parse c b ≡ past_name (2 + w) n b (after_name c p 0)
+    named-there = name-there c b (after_name c) (named-opens c b z) (sym z.0) e (omega arith) h en i ep (number-none 2 b)
 
     pub named-alone : length b - (2 + w + n) ≡ 0 → told b (NameOnly p 0 (2 + w) n) ≡ parse c b
-    named-alone j = simp (named-there, length-drop, eq-eqb _ _ j)
+    named-alone j = simp (named-there, length-drop, eq-eq _ _ j)
 
-    pub named-followed : (r : Places) → told b r ≡ pastName (2 + lengthWidth c) n b (afterName c p 0) → told b r ≡ parse c b
+    pub named-followed : (r : Places) → told b r ≡ past_name (2 + length_width c) n b (after_name c p 0) → told b r ≡ parse c b
     named-followed r j = j ∙ sym (rw e at named-there)
 
-  module _ (p n : ℕ) (h : 2 + lengthWidth c + n < length b) where
+  module _ (p n : ℕ) (h : 2 + length_width c + n < length b) where
     abbrev rest : Parsed
-    rest = pastName (2 + lengthWidth c) n b (afterName c p 0)
+    rest = past_name (2 + length_width c) n b (after_name c p 0)
 
     rest-is : let a : ℕ = 2 + w + n in let m : ℕ = number_at w a b in
         rest
@@ -104,35 +104,35 @@ module _ (c : Carrier) (b : List ℕ) (z : Named c) {w : ℕ} (e : w ≡ lengthW
 -- ---- carrier 3
 
 module _ (l : List ℕ) where
-  pub padding-few : {x : Bool} → length l < 8 → x ≡ allZero l → x ≡ isPadding l
-  unfolding isPadding
+  pub padding-few : {x : Bool} → length l < 8 → x ≡ all_zero l → x ≡ is_padding l
+  unfolding is_padding
   padding-few h e = rw (lt-ltb (length l) 8 h) e
 
-  pub padding-many : 8 ≤ length l → false ≡ isPadding l
-  unfolding isPadding
+  pub padding-many : 8 ≤ length l → false ≡ is_padding l
+  unfolding is_padding
   padding-many h = rw (le-ltb (length l) 8 h)
 
 -- octets from an offset on, as the code has them
-part-padding : (b : List ℕ) (a : ℕ) {x : Bool} → x ≡ isPadding (take (length b - a) (drop a b)) → isPadding (drop a b) ≡ x
-part-padding b a e = sym (e ∙ ap isPadding (take_rest a b))
+part-padding : (b : List ℕ) (a : ℕ) {x : Bool} → x ≡ is_padding (take (length b - a) (drop a b)) → is_padding (drop a b) ≡ x
+part-padding b a e = sym (e ∙ ap is_padding (take_rest a b))
 
-pub router-opens : (b : List ℕ) → parse Router b ≡ opening Router b afterNamePadded
+pub router-opens : (b : List ℕ) → parse Router b ≡ opening Router b after_name_padded
 unfolding parse
 router-opens b = refl
 
 module _ (b : List ℕ) (h : 8 ≤ length b) {p t n : ℕ} (ep : p ≡ at16 b 0) (et : t ≡ at32 b 2) (en : n ≡ at16 b 6) (i : n ≤ length b - 8) where
-  router-there : parse Router b ≡ pastName 8 n b (afterNamePadded p t)
+  router-there : parse Router b ≡ past_name 8 n b (after_name_padded p t)
   router-there =
-      name-there Router b afterNamePadded (router-opens b) refl refl refl h (en ∙ number-16 b 6 (omega arith)) i ep (et ∙ number-32 b 2 (omega arith))
+      name-there Router b after_name_padded (router-opens b) refl refl refl h (en ∙ number-16 b 6 (omega arith)) i ep (et ∙ number-32 b 2 (omega arith))
 
-  module _ (j : length b - (8 + n) < 8) {x : Bool} (e : x ≡ isPadding (take (length b - (8 + n)) (drop (8 + n) b))) where
+  module _ (j : length b - (8 + n) < 8) {x : Bool} (e : x ≡ is_padding (take (length b - (8 + n)) (drop (8 + n) b))) where
     pub router-alone : x ≡ true → told b (NameOnly p t 8 n) ≡ parse Router b
     router-alone k = simp (router-there, length-drop, lt-ltb _ _ j, part-padding b (8 + n) e, k)
 
     pub router-unpadded : x ≡ false → told b (Bad fault.padding) ≡ parse Router b
     router-unpadded k = simp (router-there, length-drop, lt-ltb _ _ j, part-padding b (8 + n) e, k)
 
-  pub router-followed : (r : Places) → told b r ≡ pastName 8 n b (afterNamePadded p t) → told b r ≡ parse Router b
+  pub router-followed : (r : Places) → told b r ≡ past_name 8 n b (after_name_padded p t) → told b r ≡ parse Router b
   router-followed r e = e ∙ sym router-there
 
 module _ (b : List ℕ) (p t n : ℕ) (h : 8 + n + 8 ≤ length b) {m : ℕ} (em : m ≡ at16 b (8 + n)) where
@@ -141,7 +141,7 @@ module _ (b : List ℕ) (p t n : ℕ) (h : 8 + n + 8 ≤ length b) {m : ℕ} (em
   a = 8 + n
 
   abbrev after : Parsed
-  after = pastName 8 n b (afterNamePadded p t)
+  after = past_name 8 n b (after_name_padded p t)
 
   after_is : let q : ℕ = a + 2 + m + 2 in let k : ℕ = number_at 2 (a + 2 + m) b in
       after
@@ -166,7 +166,7 @@ module _ (b : List ℕ) (p t n : ℕ) (h : 8 + n + 8 ≤ length b) {m : ℕ} (em
     pub padded-parameters-cut : length b - (a + 2 + m + 2) < k → told b (Bad fault.field) ≡ after
     padded-parameters-cut j = simp (after_is, le-ltb _ _ i, here, lt-ltb _ _ j)
 
-    module _ (j : k ≤ length b - (a + 2 + m + 2)) {x : Bool} (e : x ≡ isPadding (take (length b - (a + 2 + m + 2 + k)) (drop (a + 2 + m + 2 + k) b))) where
+    module _ (j : k ≤ length b - (a + 2 + m + 2)) {x : Bool} (e : x ≡ is_padding (take (length b - (a + 2 + m + 2 + k)) (drop (a + 2 + m + 2 + k) b))) where
       pub padded-whole : x ≡ true → told b (Full p t 8 n (a + 2) m (a + 2 + m + 2) k) ≡ after
       padded-whole l = simp (after_is, le-ltb _ _ i, here, le-ltb _ _ j, part-padding b (a + 2 + m + 2 + k) e, l)
 
@@ -178,12 +178,12 @@ router-numbers h i = record { priority = h; lifetime = i; none = λ e. absurd (o
 
 -- ---- carriers 4 and 5
 
-attribute-parse : (c : Carrier) (b : List ℕ) → asText c ≡ true → parse c b ≡ attribute c b
+attribute-parse : (c : Carrier) (b : List ℕ) → as_text c ≡ true → parse c b ≡ attribute c b
 unfolding parse
-attribute-parse c b h = ap (λ (k : Form). parseBy k c b) (text-form (form_of c) h)
+attribute-parse c b h = ap (λ (k : Form). parse_by k c b) (text-form (form_of c) h)
 
-module _ (c : Carrier) (b : List ℕ) (z : asText c ≡ true) where
-  attribute-is : let k : ℕ = number_at 1 2 b * addressWidth c in let n : ℕ = number_at 1 3 b in
+module _ (c : Carrier) (b : List ℕ) (z : as_text c ≡ true) where
+  attribute-is : let k : ℕ = number_at 1 2 b * address_width c in let n : ℕ = number_at 1 3 b in
       parse c b
       ≡ cond (ltb (length b) 4) short
       (cond (ltb (length b - 4) (k + n)) short
@@ -194,7 +194,7 @@ module _ (c : Carrier) (b : List ℕ) (z : asText c ≡ true) where
   pub attribute-fixed-cut : length b < 4 → told b (Bad fault.field) ≡ parse c b
   attribute-fixed-cut h = simp (attribute-is, lt-ltb _ _ h)
 
-  module _ (h : 4 ≤ length b) {p k n : ℕ} (ep : p ≡ at16 b 0) (ek : k ≡ get_or b 2 0) (en : n ≡ get_or b 3 0) {w : ℕ} (e : w ≡ addressWidth c) where
+  module _ (h : 4 ≤ length b) {p k n : ℕ} (ep : p ≡ at16 b 0) (ek : k ≡ get_or b 2 0) (en : n ≡ get_or b 3 0) {w : ℕ} (e : w ≡ address_width c) where
     -- the counts as the code has them
     read_is :
         parse c b
@@ -209,8 +209,8 @@ module _ (c : Carrier) (b : List ℕ) (z : asText c ≡ true) where
     pub attribute-whole : k * w + n ≤ length b - 4 → told b (Full p 0 (4 + k * w) n 4 (k * w) (4 + k * w + n) (length b - (4 + k * w + n))) ≡ parse c b
     attribute-whole i = simp (read_is, le-ltb _ _ i, take_rest)
 
-pub attribute-whole-ranged : (c : Carrier) {p w : ℕ} (k : ℕ) → asText c ≡ true → w ≡ addressWidth c → p < 65536
-    → Numbers c p 0 × (4 + k * w ≡ name_at c (k * w)) × (asText c ≡ true → k * w % addressWidth c ≡ 0)
+pub attribute-whole-ranged : (c : Carrier) {p w : ℕ} (k : ℕ) → as_text c ≡ true → w ≡ address_width c → p < 65536
+    → Numbers c p 0 × (4 + k * w ≡ name_at c (k * w)) × (as_text c ≡ true → k * w % address_width c ≡ 0)
 attribute-whole-ranged c {p} {w} k z e h = (no-lifetime c h, simp z, λ _. rw (← e) (mul-mod_left k w))
 
 -- ---- split

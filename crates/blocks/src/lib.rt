@@ -2,10 +2,10 @@
 // A body is split where it lies: the answer holds offsets and lengths, and nothing is copied. The faults given here are those of the
 // layout: a field past the end, and what is no padding. What priority, name, addresses and parameters may be is not looked at here.
 ghost use Rattle.std.specs.Prelude.{◌≡◌, true, ◌+◌, ◌≤◌, ◌<◌, length};
-ghost use Rattle.carriers.specs.Carriers.{lengthWidth, asText};
+ghost use Rattle.carriers.specs.Carriers.{length_width, as_text};
 ghost use Rattle.carriers.specs.declared.Carrier.TheVariants.{Router};
-ghost use Rattle.blocks.specs.Parse.{isPadding, afterName, afterNamePadded, parse};
-ghost use Rattle.blocks.specs.Places.{Named, pastName, told, Inside, Ranged};
+ghost use Rattle.blocks.specs.Parse.{is_padding, after_name, after_name_padded, parse};
+ghost use Rattle.blocks.specs.Places.{Named, past_name, told, Inside, Ranged};
 
 use carriers::Carrier;
 
@@ -69,7 +69,7 @@ const UNPADDED: Places = Places::Bad {
 
 // Whether the octets are padding: 0 to 7 zeros.
 fn padding(rest: &[u8]) -> bool
-    ensures { result ≡ isPadding rest.now }
+    ensures { result ≡ is_padding rest.now }
 {
     if rest.len() < Carrier::UNIT {
         return octets::zeros(rest);
@@ -111,9 +111,9 @@ fn named(carrier: Carrier, body: &[u8]) -> Places
 // The full form in carriers 1 and 2, from the address length on.
 fn after_name(carrier: Carrier, body: &[u8], priority: usize, nlen: usize) -> Places
     requires named { Named carrier }
-    requires nlen_in_bounds { 2 + lengthWidth carrier + nlen < length body.now }
+    requires nlen_in_bounds { 2 + length_width carrier + nlen < length body.now }
     requires priority_bound { priority < 65536 }
-    ensures result_value { told body.now result ≡ pastName (2 + lengthWidth carrier) nlen body.now (afterName carrier priority 0) }
+    ensures result_value { told body.now result ≡ past_name (2 + length_width carrier) nlen body.now (after_name carrier priority 0) }
     ensures inside { Inside body.now result }
     ensures ranged { Ranged carrier result }
 {
@@ -181,7 +181,7 @@ fn router(body: &[u8]) -> Places
 fn after_name_padded(body: &[u8], priority: usize, lifetime: usize, nlen: usize) -> Places
     requires nlen_in_bounds { 8 + nlen + 8 ≤ length body.now }
     requires priority_bound { (priority < 65536) × (lifetime < 4294967296) }
-    ensures result_value { told body.now result ≡ pastName 8 nlen body.now (afterNamePadded priority lifetime) }
+    ensures result_value { told body.now result ≡ past_name 8 nlen body.now (after_name_padded priority lifetime) }
     ensures inside { Inside body.now result }
     ensures ranged { Ranged Router result }
 {
@@ -217,7 +217,7 @@ fn after_name_padded(body: &[u8], priority: usize, lifetime: usize, nlen: usize)
 
 // A body of carrier 4 or 5.
 fn attribute(carrier: Carrier, body: &[u8]) -> Places
-    requires { asText carrier ≡ true }
+    requires { as_text carrier ≡ true }
     ensures result_value { told body.now result ≡ parse carrier body.now }
     ensures inside { Inside body.now result }
     ensures ranged { Ranged carrier result }

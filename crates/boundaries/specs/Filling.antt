@@ -1,7 +1,7 @@
 -- What a buffer holds before a call: 165 at each index. Assumes nothing: these are definitions.
-use Rattle.std.specs.Prelude.{Bool, true, ◌&&◌, List, [], ◌∷◌, ℕ, eqb}
+use Rattle.std.specs.Prelude.{Bool, true, ◌&&◌, List, [], ◌∷◌, ℕ, eq}
 
 -- whether each octet is 165
-unfoldable pub allFilled : List ℕ → Bool
-allFilled [] = true
-allFilled (x ∷ xs) = eqb x 165 && allFilled xs
+unfoldable pub all_filled : List ℕ → Bool
+all_filled [] = true
+all_filled (x ∷ xs) = eq x 165 && all_filled xs

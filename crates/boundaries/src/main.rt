@@ -7,8 +7,8 @@
 // 1,048,576 octets are read.
 ghost use Rattle.std.specs.Prelude.{◌≡◌, true, ◌+◌, ◌≤◌, ◌<◌, length};
 ghost use Rattle.io.specs.Counts.{IsPrefixLen};
-ghost use Rattle.boundaries.specs.Filling.{allFilled};
-ghost use Rattle.boundaries.specs.Cases.{end_of, readEnd, caseEnd, Past};
+ghost use Rattle.boundaries.specs.Filling.{all_filled};
+ghost use Rattle.boundaries.specs.Cases.{end_of, read_end, case_end, Past};
 
 use answers::Result;
 use libc::{STDIN_FILENO, STDOUT_FILENO};
@@ -37,7 +37,7 @@ enum End {
 // ---- buffers
 
 fn fill(out: &mut [u8])
-    ensures { allFilled out.new ≡ true }
+    ensures { all_filled out.new ≡ true }
 {
     let mut i: usize = 0;
     while i < out.len() {
@@ -48,7 +48,7 @@ fn fill(out: &mut [u8])
 
 // Whether each octet is as `fill` leaves it.
 fn is_filled(s: &[u8]) -> bool
-    ensures { result ≡ allFilled s.now }
+    ensures { result ≡ all_filled s.now }
 {
     let mut i: usize = 0;
     while i < s.len() {
@@ -168,7 +168,7 @@ fn end_of(s: &[u8], at: usize) -> End
 // Runs the case of reading that stands from its carrier, at `at`, on.
 fn read_case(s: &[u8], at: usize, out: &mut [u8]) -> End
     requires { at ≤ length s.now }
-    ensures value { result ≡ readEnd s.now at }
+    ensures value { result ≡ read_end s.now at }
     ensures past { Past at s.now result }
 {
     if s.len() == at {
@@ -202,7 +202,7 @@ fn write_case(s: &[u8], at: usize, out: &mut [u8]) -> End
 // Runs the case that stands from its letter, at `at`, on.
 fn run_case(s: &[u8], at: usize, out: &mut [u8]) -> End
     requires { at < length s.now }
-    ensures value { result ≡ caseEnd s.now at }
+    ensures value { result ≡ case_end s.now at }
     ensures past { Past (at + 1) s.now result }
 {
     if s[at] == b'r' {

@@ -17,7 +17,7 @@ use Rattle.reading.specs.Result.{Done, done}
 use Rattle.reading.specs.Result as reading
 use Rattle.taking.specs.Taking.{Taken, take_of}
 use Rattle.taking.specs.Taking as taking
-use Rattle.written.specs.Writing.{writeOf}
+use Rattle.written.specs.Writing.{write_of}
 use Rattle.answers.specs.Answers.{written}
 use Rattle.answers.specs.Answers as writing
 
@@ -33,8 +33,8 @@ pub data Back : Type 0 where
 pub data Claim : Type 0 where
   -- "52 octets"; "Sheet, 60 octets"; of a part: N is "18 octets"
   octets : ℕ → Claim
-  sheetOctets : ℕ → Claim
-  partOctets : List ℕ → ℕ → Claim
+  sheet_octets : ℕ → Claim
+  part_octets : List ℕ → ℕ → Claim
   -- "length octet 7", "ADN length 16": a number in so many octets of the area, from a place on
   number : (width place n : ℕ) → Claim
   -- "no padding": the last octets of the area
@@ -60,8 +60,8 @@ pub record Piece : Type 0 where
   pub says : List Claim
 
 -- a sheet and one block found, which is discarded for a fault other than 22
-abbrev pub oneDiscarded : List ℕ → ℕ → Done
-oneDiscarded sheet fault = record { sheet = sheet; found = 1; discarded = 1; fault = fault; place = 0 }
+abbrev pub one_discarded : List ℕ → ℕ → Done
+one_discarded sheet fault = record { sheet = sheet; found = 1; discarded = 1; fault = fault; place = 0 }
 
 -- ---- what a sentence means
 
@@ -79,8 +79,8 @@ last_of n l = drop (length l - n) l
 
 abbrev pub Means : Piece → Claim → Type 0
 Means p (octets n) = length p.area ≡ n
-Means p (sheetOctets n) = length p.gives.sheet ≡ n
-Means p (partOctets l n) = length l ≡ n
+Means p (sheet_octets n) = length p.gives.sheet ≡ n
+Means p (part_octets l n) = length l ≡ n
 Means p (number w i n) = number_at w i p.area ≡ n
 Means p (ends l) = last_of (length l) p.area ≡ l
 Means p (joined n) = length (flat (data_of p)) ≡ n
@@ -98,25 +98,25 @@ pub record IsRead (p : Piece) : Type 0 where
 
 -- writing its sheet with the room for these octets, or more, gives them; with less it is refusal 5
 pub record IsWritten (p : Piece) (bs : List ℕ) : Type 0 where
-  pub enough : (room : ℕ) → length bs ≤ room → writeOf p.gives.sheet room ≡ written bs
-  pub short : (room : ℕ) → room < length bs → writeOf p.gives.sheet room ≡ writing.refuse refusal.room 0
+  pub enough : (room : ℕ) → length bs ≤ room → write_of p.gives.sheet room ≡ written bs
+  pub short : (room : ℕ) → room < length bs → write_of p.gives.sheet room ≡ writing.refuse refusal.room 0
 
 -- writing its sheet gives its octets in no room
 abbrev pub IsOther : Piece → Type 0
-IsOther p = (room : ℕ) → writeOf p.gives.sheet room ≡ written p.area → ⊥
+IsOther p = (room : ℕ) → write_of p.gives.sheet room ≡ written p.area → ⊥
 
 abbrev pub Returns : Piece → Back → Type 0
 Returns p again = IsWritten p p.area
 Returns p (others bs) = IsWritten p bs × IsOther p
 
 -- a sheet of the carrier with this number, with these records
-abbrev pub sheetIn : Chosen → List Fields → Taken
-sheetIn Unknown rs = taking.refuse refusal.sheetCarrier
-sheetIn (Known c) rs = taking.sheet c rs
+abbrev pub sheet_in : Chosen → List Fields → Taken
+sheet_in Unknown rs = taking.refuse refusal.sheet_carrier
+sheet_in (Known c) rs = taking.sheet c rs
 
 -- reading, writing, the records of the sheet, and each sentence
 pub record Holds (p : Piece) : Type 0 where
   pub read : IsRead p
   pub returns : Returns p p.back
-  pub taken : take_of p.gives.sheet ≡ sheetIn (chosen_of p.carrier) p.records
+  pub taken : take_of p.gives.sheet ≡ sheet_in (chosen_of p.carrier) p.records
   pub said : All (Means p) p.says

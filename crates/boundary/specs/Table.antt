@@ -2,9 +2,9 @@
 -- written out, and further sentences are claims. Assumes nothing: these are definitions.
 use Rattle.std.specs.Prelude.{List, [], ◌∷◌, ◌++◌, ℕ}
 use Rattle.octets.specs.Numbers.{be, zeros}
-use Rattle.blocks.specs.Block.{nameOnly, whole}
+use Rattle.blocks.specs.Block.{name_only, whole}
 use Rattle.reading.specs.Result.{faultless}
-use Rattle.boundary.specs.Piece.{again, others, octets, sheetOctets, partOctets, number, ends, joined, options, replaced, short, enough, Piece, oneDiscarded}
+use Rattle.boundary.specs.Piece.{again, others, octets, sheet_octets, part_octets, number, ends, joined, options, replaced, short, enough, Piece, one_discarded}
 
 -- ---- parts
 
@@ -57,7 +57,7 @@ k1 = record {
       1;
   records = whole 1 0 N A P ∷ [];
   back = again;
-  says = octets 52 ∷ sheetOctets 60 ∷ partOctets N 18 ∷ partOctets A 16 ∷ short 59 ∷ enough 60 ∷ [];
+  says = octets 52 ∷ sheet_octets 60 ∷ part_octets N 18 ∷ part_octets A 16 ∷ short 59 ∷ enough 60 ∷ [];
 }
 
 -- K2 carrier 1, name only: a2 17 00 15 00 01 12, N. 25 octets.
@@ -71,7 +71,7 @@ k2 = record {
       (0x52 ∷ 0x53 ∷ 0x56 ∷ 0x00 ∷ 0x01 ∷ 0x01 ∷ 0x01
       ∷ 0x00 ∷ 0x01 ∷ 0x00 ∷ 0x00 ∷ 0x00 ∷ 0x00 ∷ 0x00 ∷ 0x12 ∷ N)
       1;
-  records = nameOnly 1 0 N ∷ [];
+  records = name_only 1 0 N ∷ [];
   back = again;
   says = octets 25 ∷ [];
 }
@@ -89,7 +89,7 @@ k3 = record {
       (0x52 ∷ 0x53 ∷ 0x56 ∷ 0x00 ∷ 0x01 ∷ 0x03 ∷ 0x01
       ∷ 0x00 ∷ 0x01 ∷ 0x00 ∷ 0x00 ∷ 0x0e ∷ 0x10 ∷ 0x00 ∷ 0x12 ∷ N)
       1;
-  records = nameOnly 1 3600 N ∷ [];
+  records = name_only 1 3600 N ∷ [];
   back = again;
   says = octets 32 ∷ [];
 }
@@ -130,7 +130,7 @@ k5 = record {
       1;
   records = whole 1 0 N A P ∷ [];
   back = again;
-  says = number 2 2 44 ∷ number 1 7 16 ∷ partOctets T 16 ∷ [];
+  says = number 2 2 44 ∷ number 1 7 16 ∷ part_octets T 16 ∷ [];
 }
 
 -- K6 the empty area: a sheet of 7 octets with count 0, found 0; in any carrier, so the table has all five.
@@ -142,7 +142,7 @@ k6 carrier = record {
   gives = faultless (0x52 ∷ 0x53 ∷ 0x56 ∷ 0x00 ∷ 0x01 ∷ carrier ∷ 0x00 ∷ []) 0;
   records = [];
   back = again;
-  says = octets 0 ∷ sheetOctets 7 ∷ [];
+  says = octets 0 ∷ sheet_octets 7 ∷ [];
 }
 
 -- K7 K1 with priority 0: done, count 0, found 1, discarded 1, fault 21.
@@ -154,7 +154,7 @@ k7 = record {
       0x00 ∷ 0x90 ∷ 0x00 ∷ 0x30 ∷ 0x00 ∷ 0x00 ∷ 0x00 ∷ 0x12 ∷ N
       ++ 0x00 ∷ 0x10 ∷ A
       ++ P;
-  gives = oneDiscarded (0x52 ∷ 0x53 ∷ 0x56 ∷ 0x00 ∷ 0x01 ∷ 0x02 ∷ 0x00 ∷ []) 21;
+  gives = one_discarded (0x52 ∷ 0x53 ∷ 0x56 ∷ 0x00 ∷ 0x01 ∷ 0x02 ∷ 0x00 ∷ []) 21;
   records = [];
   back = others [];
   says = replaced k1.area 4 (0x00 ∷ 0x01 ∷ []) (0x00 ∷ 0x00 ∷ []) ∷ [];
@@ -180,7 +180,7 @@ k8 = record {
       1;
   records = whole 1 0 N A4 (zeroed 268) ∷ [];
   back = again;
-  says = joined 300 ∷ options (255 ∷ 45 ∷ []) ∷ sheetOctets 312 ∷ [];
+  says = joined 300 ∷ options (255 ∷ 45 ∷ []) ∷ sheet_octets 312 ∷ [];
 }
 
 -- K9 the same with 223 zeros: joined data of 255 octets, one option.
@@ -213,7 +213,7 @@ k10 = record {
       0x00 ∷ 0x90 ∷ 0x00 ∷ 0x30 ∷ 0x00 ∷ 0x01 ∷ 0x00 ∷ 0x12 ∷ N
       ++ 0x00 ∷ 0x10 ∷ zeros 15
       ++ 0x01 ∷ P;
-  gives = oneDiscarded (0x52 ∷ 0x53 ∷ 0x56 ∷ 0x00 ∷ 0x01 ∷ 0x02 ∷ 0x00 ∷ []) 25;
+  gives = one_discarded (0x52 ∷ 0x53 ∷ 0x56 ∷ 0x00 ∷ 0x01 ∷ 0x02 ∷ 0x00 ∷ []) 25;
   records = [];
   back = others [];
   says = replaced k1.area 28 A (zeros 15 ++ (0x01 ∷ [])) ∷ [];
@@ -227,13 +227,13 @@ k11 = record {
   area =
       0x90 ∷ 0x04 ∷ 0x00 ∷ 0x01 ∷ 0x00 ∷ 0x00 ∷ 0x0e ∷ 0x10 ∷ 0x00 ∷ 0x12 ∷ N
       ++ 0x00 ∷ 0x00 ∷ 0x00 ∷ 0x01 ∷ [];
-  gives = oneDiscarded (0x52 ∷ 0x53 ∷ 0x56 ∷ 0x00 ∷ 0x01 ∷ 0x03 ∷ 0x00 ∷ []) 29;
+  gives = one_discarded (0x52 ∷ 0x53 ∷ 0x56 ∷ 0x00 ∷ 0x01 ∷ 0x03 ∷ 0x00 ∷ []) 29;
   records = [];
   back = others [];
   says = replaced k3.area 31 (0x00 ∷ []) (0x01 ∷ []) ∷ [];
 }
 
--- K12 carrier 2, name-only options for a.example, b.example, c.example with priorities 5, 1, 5 read as 1, first 5, second 5.
+-- K12 carrier 2, name_only options for a.example, b.example, c.example with priorities 5, 1, 5 read as 1, first 5, second 5.
 abbrev pub k12 : Piece
 k12 = record {
   k = 12;
@@ -249,7 +249,7 @@ k12 = record {
       ++ 0x00 ∷ 0x05 ∷ 0x00 ∷ 0x00 ∷ 0x00 ∷ 0x00 ∷ 0x00 ∷ 0x0b ∷ example 0x61
       ++ 0x00 ∷ 0x05 ∷ 0x00 ∷ 0x00 ∷ 0x00 ∷ 0x00 ∷ 0x00 ∷ 0x0b ∷ example 0x63)
       3;
-  records = nameOnly 1 0 (example 0x62) ∷ nameOnly 5 0 (example 0x61) ∷ nameOnly 5 0 (example 0x63) ∷ [];
+  records = name_only 1 0 (example 0x62) ∷ name_only 5 0 (example 0x61) ∷ name_only 5 0 (example 0x63) ∷ [];
   back =
       others
       (0x00 ∷ 0x90 ∷ 0x00 ∷ 0x0f ∷ 0x00 ∷ 0x01 ∷ 0x00 ∷ 0x0b ∷ example 0x62

@@ -1,5 +1,5 @@
 -- What is said of each carrier (RULES C1, W1 to W7, B1): one table. Assumes nothing: these are definitions.
-use Rattle.std.specs.Prelude.{Bool, true, false, cond, ℕ, ◌+◌, ◌*◌, ◌/◌, ◌%◌, eqb}
+use Rattle.std.specs.Prelude.{Bool, true, false, cond, ℕ, ◌+◌, ◌*◌, ◌/◌, ◌%◌, eq}
 use Rattle.carriers.specs.declared.Carrier.{Carrier}
 use Rattle.carriers.specs.declared.Carrier.TheVariants.{Dhcp4, Dhcp6, Router, Ike4, Ike6}
 use Rattle.carriers.specs.declared.Chosen.{Chosen}
@@ -13,11 +13,11 @@ use Rattle.carriers.specs.declared.Eights.{Eights}
 -- the carrier of a number (RULES C1)
 unfoldable pub chosen_of : ℕ → Chosen
 chosen_of n =
-    cond (eqb n 1) (Known Dhcp4)
-    (cond (eqb n 2) (Known Dhcp6)
-    (cond (eqb n 3) (Known Router)
-    (cond (eqb n 4) (Known Ike4)
-    (cond (eqb n 5) (Known Ike6) Unknown))))
+    cond (eq n 1) (Known Dhcp4)
+    (cond (eq n 2) (Known Dhcp6)
+    (cond (eq n 3) (Known Router)
+    (cond (eq n 4) (Known Ike4)
+    (cond (eq n 5) (Known Ike6) Unknown))))
 
 -- ---- the table
 
@@ -44,15 +44,15 @@ abbrev pub code_of : Carrier → ℕ
 code_of c = (facts_of c).code
 
 -- octets of the code in an option's header, of the length, and of the header (RULES C1)
-abbrev pub headWidth : Carrier → ℕ
-headWidth c = (facts_of c).width
+abbrev pub head_width : Carrier → ℕ
+head_width c = (facts_of c).width
 
-abbrev pub headerOf : Carrier → ℕ
-headerOf c = headWidth c + headWidth c
+abbrev pub header_of : Carrier → ℕ
+header_of c = head_width c + head_width c
 
 -- whether the highest bit of a 16-bit code is reserved, and the code with that bit taken off (RULES W7)
-abbrev pub hasReserved : Carrier → Bool
-hasReserved c = (facts_of c).reserved
+abbrev pub has_reserved : Carrier → Bool
+has_reserved c = (facts_of c).reserved
 
 abbrev pub bare_code : Bool → ℕ → ℕ
 bare_code reserved n = cond reserved (n % 32768) n
@@ -62,8 +62,8 @@ abbrev pub in_eights : Carrier → Bool
 in_eights c = (facts_of c).eights
 
 -- whether an area has padding and an end, and the data of its own options are one (RULES W2 to W4)
-abbrev pub isJoined : Carrier → Bool
-isJoined c = (facts_of c).joined
+abbrev pub is_joined : Carrier → Bool
+is_joined c = (facts_of c).joined
 
 -- carriers 2 to 5, whose options are not joined and whose areas end with their last octet, not with a code
 abbrev pub Apart : Bool → Type 0
@@ -71,37 +71,37 @@ Apart true = ⊥
 Apart false = Unit {0}
 
 abbrev pub Plain : Carrier → Type 0
-Plain c = Apart (isJoined c)
+Plain c = Apart (is_joined c)
 
 -- octets of an address (RULES C1)
-abbrev pub addressWidth : Carrier → ℕ
-addressWidth c = (facts_of c).address
+abbrev pub address_width : Carrier → ℕ
+address_width c = (facts_of c).address
 
 -- octets of the ADN length, of the address length in carriers 1 to 3, and of the parameter length in carrier 3 (RULES C1)
-abbrev pub lengthWidth : Carrier → ℕ
-lengthWidth c = (facts_of c).length
+abbrev pub length_width : Carrier → ℕ
+length_width c = (facts_of c).length
 
 -- the form of its bodies (RULES B1)
 abbrev pub form_of : Carrier → Form
 form_of c = (facts_of c).form
 
 -- octets of a lifetime: only carrier 3 has one (RULES B1)
-abbrev pub lifetimeIn : Form → ℕ
-lifetimeIn Wire = 0
-lifetimeIn Padded = 4
-lifetimeIn Text = 0
+abbrev pub lifetime_in : Form → ℕ
+lifetime_in Wire = 0
+lifetime_in Padded = 4
+lifetime_in Text = 0
 
-abbrev pub lifetimeWidth : Carrier → ℕ
-lifetimeWidth c = lifetimeIn (form_of c)
+abbrev pub lifetime_width : Carrier → ℕ
+lifetime_width c = lifetime_in (form_of c)
 
--- whether the name stands as text (RULES N4), and there is no name-only form (RULES B5)
-abbrev pub textIn : Form → Bool
-textIn Wire = false
-textIn Padded = false
-textIn Text = true
+-- whether the name stands as text (RULES N4), and there is no name_only form (RULES B5)
+abbrev pub text_in : Form → Bool
+text_in Wire = false
+text_in Padded = false
+text_in Text = true
 
-abbrev pub asText : Carrier → Bool
-asText c = textIn (form_of c)
+abbrev pub as_text : Carrier → Bool
+as_text c = text_in (form_of c)
 
 -- ---- lengths
 
@@ -113,8 +113,8 @@ abbrev pub eights : ℕ → Eights
 eights n = record { 0 = n }
 
 -- units of eight as octets, and how many whole units octets are (RULES B3)
-abbrev pub octetsOf : Eights → Octets
-octetsOf e = octets (8 * e.0)
+abbrev pub octets_of : Eights → Octets
+octets_of e = octets (8 * e.0)
 
-abbrev pub eightsOf : Octets → Eights
-eightsOf o = eights (o.0 / 8)
+abbrev pub eights_of : Octets → Eights
+eights_of o = eights (o.0 / 8)

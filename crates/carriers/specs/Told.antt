@@ -8,22 +8,22 @@ use Rattle.carriers.specs.declared.Chosen.TheVariants.{Known, Unknown}
 use Rattle.carriers.specs.Carriers.{number_of}
 
 -- the number of the answer, where `none` refuses
-abbrev pub chosenNumber : ℕ → Chosen → ℕ
-chosenNumber none (Known c) = 0
-chosenNumber none Unknown = none
+abbrev pub chosen_number : ℕ → Chosen → ℕ
+chosen_number none (Known c) = 0
+chosen_number none Unknown = none
 
 -- when an area is read, and where a sheet says it
-abbrev pub readNumber : Chosen → ℕ
-readNumber r = chosenNumber refusal.carrier r
+abbrev pub read_number : Chosen → ℕ
+read_number r = chosen_number refusal.carrier r
 
-abbrev pub sheetNumber : Chosen → ℕ
-sheetNumber r = chosenNumber refusal.sheetCarrier r
+abbrev pub sheet_number : Chosen → ℕ
+sheet_number r = chosen_number refusal.sheet_carrier r
 
 -- its value: the carrier's own number, and 0 where there is no carrier
-abbrev pub carrierIn : Chosen → ℕ
-carrierIn (Known c) = number_of c
-carrierIn Unknown = 0
+abbrev pub carrier_in : Chosen → ℕ
+carrier_in (Known c) = number_of c
+carrier_in Unknown = 0
 
 -- what an answer says of the number n, where `none` refuses: 0, and the carrier has this number; or `none`, and no carrier has it
 abbrev pub Chooses : ℕ → ℕ → Chosen → Type 0
-Chooses none n r = ((chosenNumber none r ≡ 0) × (carrierIn r ≡ n)) ⊎ ((chosenNumber none r ≡ none) × ((c : Carrier) → number_of c ≡ n → ⊥))
+Chooses none n r = ((chosen_number none r ≡ 0) × (carrier_in r ≡ n)) ⊎ ((chosen_number none r ≡ none) × ((c : Carrier) → number_of c ≡ n → ⊥))

@@ -1,9 +1,9 @@
 // The five carriers (RULES C1) and what differs between them as data: one table, with a row for each carrier. Lengths in octets and in
 // units of eight are two types that are never mixed (RULES B3); they are converted here alone, each way in one function.
-ghost use Rattle.std.specs.Prelude.{◌≡◌, ◌<◌, eqb};
+ghost use Rattle.std.specs.Prelude.{◌≡◌, ◌<◌, eq};
 ghost use Rattle.numbers.specs.Refusal as refusal;
 ghost use Rattle.carriers.specs.Told.{Chooses};
-ghost use Rattle.carriers.specs.Carriers.{octetsOf, eightsOf, chosen_of, facts_of, number_of, code_of, headerOf, addressWidth, lengthWidth, form_of, lifetimeWidth, asText};
+ghost use Rattle.carriers.specs.Carriers.{octets_of, eights_of, chosen_of, facts_of, number_of, code_of, header_of, address_width, length_width, form_of, lifetime_width, as_text};
 
 #[derive(Drop)]
 pub enum Carrier {
@@ -33,7 +33,7 @@ pub enum Form {
     Wire,
     // Carrier 3: the same with a lifetime before it, a length before the parameters, and padding.
     Padded,
-    // Carriers 4 and 5: addresses, the name as text, parameters; there is no name-only form.
+    // Carriers 4 and 5: addresses, the name as text, parameters; there is no name_only form.
     Text,
 }
 
@@ -65,7 +65,7 @@ pub struct Octets(pub usize);
 impl Octets {
     // Whether it is 0.
     pub fn none(self) -> bool
-        ensures { result ≡ eqb self.0 0 }
+        ensures { result ≡ eq self.0 0 }
     {
         let n = self.0;
         n == 0
@@ -79,7 +79,7 @@ pub struct Eights(pub usize);
 // The one place where units of eight become octets.
 pub fn octets_of(e: Eights) -> Octets
     requires { e.0 < 65536 }
-    ensures { result ≡ octetsOf e }
+    ensures { result ≡ octets_of e }
 {
     let units = e.0;
     Octets(Carrier::UNIT * units)
@@ -87,7 +87,7 @@ pub fn octets_of(e: Eights) -> Octets
 
 // The one place where octets become units of eight.
 pub fn eights_of(o: Octets) -> Eights
-    ensures { result ≡ eightsOf o }
+    ensures { result ≡ eights_of o }
 {
     let n = o.0;
     Eights(n / Carrier::UNIT)
@@ -113,7 +113,7 @@ impl Carrier {
     // The carrier of a number.
     pub fn of(number: usize) -> Chosen
         ensures value { result ≡ chosen_of number }
-        ensures chooses { Chooses refusal.carrier number result × Chooses refusal.sheetCarrier number result }
+        ensures chooses { Chooses refusal.carrier number result × Chooses refusal.sheet_carrier number result }
     {
         if number == 1 {
             return Chosen::Known(Carrier::Dhcp4);
@@ -213,7 +213,7 @@ impl Carrier {
 
     // Octets of an option's header.
     pub fn header_size(self) -> usize
-        ensures { result ≡ headerOf self }
+        ensures { result ≡ header_of self }
     {
         let f = self.facts();
         let width = f.width;
@@ -222,7 +222,7 @@ impl Carrier {
 
     // Octets of an address.
     pub fn address_width(self) -> usize
-        ensures { result ≡ addressWidth self }
+        ensures { result ≡ address_width self }
     {
         let f = self.facts();
         f.address
@@ -230,7 +230,7 @@ impl Carrier {
 
     // Octets of the ADN length, of the address length in carriers 1 to 3, and of the parameter length in carrier 3.
     pub fn length_width(self) -> usize
-        ensures { result ≡ lengthWidth self }
+        ensures { result ≡ length_width self }
     {
         let f = self.facts();
         f.length
@@ -246,7 +246,7 @@ impl Carrier {
 
     // Octets of a lifetime: only carrier 3 has one.
     pub fn lifetime_width(self) -> usize
-        ensures { result ≡ lifetimeWidth self }
+        ensures { result ≡ lifetime_width self }
     {
         match self.form() {
             Form::Wire => 0,
@@ -255,9 +255,9 @@ impl Carrier {
         }
     }
 
-    // Whether the name stands as text, and there is no name-only form.
+    // Whether the name stands as text, and there is no name_only form.
     pub fn as_text(self) -> bool
-        ensures { result ≡ asText self }
+        ensures { result ≡ as_text self }
     {
         match self.form() {
             Form::Wire => false,

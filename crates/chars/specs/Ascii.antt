@@ -10,5 +10,5 @@ ascii [] = none
 ascii (c ∷ s) = code c then ascii s
 
 -- a number below 10²⁰ in decimal, without leading zeros
-abbrev pub decimalOf : ℕ → List ℕ
-decimalOf n = numeral 10 19 n
+abbrev pub decimal_of : ℕ → List ℕ
+decimal_of n = numeral 10 19 n

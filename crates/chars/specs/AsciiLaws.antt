@@ -4,7 +4,7 @@ use Rattle.std.proofs.Common.{sym, ap, ap₂, ◌∙◌, arith, lt-ltb, ltb-true
 use Rattle.std.proofs.Math.Nat.{pow-succ', one-le-pow}
 use Rattle.io.specs.Digits.{hex_digit_ascii, last_digits, IsDigitCount}
 use Rattle.ips.specs.Ips.{digit, numeral}
-use Rattle.chars.specs.Ascii.{decimalOf}
+use Rattle.chars.specs.Ascii.{decimal_of}
 
 same-digit : (d : ℕ) → d < 10 → digit d ≡ hex_digit_ascii d
 unfolding digit
@@ -53,5 +53,5 @@ numeral-digits (suc more) k n h f = go (λ j g. numeral-digits more j (n / 10) (
     go next true t = sym (one-digit k n (ltb-true _ _ t) f)
     go next false t = two_digits (numeral 10 more (n / 10)) k n (ltb-false _ _ t) f next
 
-pub decimal-digits : (k n : ℕ) → n < 100000000000000000000 → IsDigitCount 10 1 n k → decimalOf n ≡ last_digits 10 k n
+pub decimal-digits : (k n : ℕ) → n < 100000000000000000000 → IsDigitCount 10 1 n k → decimal_of n ≡ last_digits 10 k n
 decimal-digits k n h f = numeral-digits 19 k n h f

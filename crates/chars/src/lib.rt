@@ -3,7 +3,7 @@
 ghost use Rattle.std.specs.Prelude.{◌≡◌, [], ◌∷◌};
 ghost use Rattle.io.specs.Counts.{IsPrefixLen};
 ghost use Rattle.chars.specs.Puts.{Puts};
-ghost use Rattle.chars.specs.Ascii.{decimalOf};
+ghost use Rattle.chars.specs.Ascii.{decimal_of};
 
 // Writes b, if there is room.
 pub fn put(out: &mut [u8], at: usize, b: u8) -> usize
@@ -34,7 +34,7 @@ pub fn put_all(out: &mut [u8], at: usize, s: &[u8]) -> usize
 // Writes n in decimal.
 pub fn put_number(out: &mut [u8], at: usize, n: usize) -> usize
     ensures prefix_len { IsPrefixLen result out.new }
-    ensures puts { Puts at (decimalOf n) out.old result out.new }
+    ensures puts { Puts at (decimal_of n) out.old result out.new }
 {
     let mut digits = [0u8; 20];
     let k = io::decimal(n as u64, &mut digits);

@@ -1,6 +1,6 @@
 -- By which number the command refuses octets, what it takes its input for (docs/COMMAND.md, "Input"), and the exit status of each. Assumes nothing:
 -- these are definitions.
-use Rattle.std.specs.Prelude.{◌≡◌, Bool, true, false, cond, ◌&&◌, List, ℕ, eqb, ℤ, pos, take}
+use Rattle.std.specs.Prelude.{◌≡◌, Bool, true, false, cond, ◌&&◌, List, ℕ, eq, ℤ, pos, take}
 use Rattle.numbers.specs.Limit as limit
 use Rattle.carriers.specs.declared.Chosen.{Chosen}
 use Rattle.carriers.specs.declared.Chosen.TheVariants.{Known, Unknown}
@@ -10,9 +10,9 @@ use Rattle.reading.specs.Result as reading
 use Rattle.reading.specs.Reading.{read_of}
 use Rattle.vetting.specs.declared.Vetted.{Vetted}
 use Rattle.vetting.specs.declared.Vetted.TheVariants.{Refused, Sheet}
-use Rattle.vetting.specs.Vetting.{vetOf}
+use Rattle.vetting.specs.Vetting.{vet_of}
 use Rattle.vetting.specs.Vetting as vetting
-use Rattle.written.specs.Writing.{writeOf}
+use Rattle.written.specs.Writing.{write_of}
 use Rattle.answers.specs.Answers as answers
 use Rattle.inputs.specs.declared.Read.{Read}
 use Rattle.inputs.specs.declared.Read.TheVariants.{Octets, Bad, Long}
@@ -26,11 +26,11 @@ use Rattle.files.specs.Status.{Delivered, Denied, Answers, refused, failed}
 
 -- what reading an area answers, with room for any sheet
 abbrev pub reading_of : ℕ → List ℕ → Reading
-reading_of carrier area = reading.told (read_of carrier area limit.sheetSize)
+reading_of carrier area = reading.told (read_of carrier area limit.sheet_size)
 
 -- nothing was found, or something was discarded
 abbrev pub less : Reading → Bool
-less r = cond (eqb r.found 0) true (cond (eqb r.discarded 0) false true)
+less r = cond (eq r.found 0) true (cond (eq r.discarded 0) false true)
 
 -- what was asked for was given, or with the answer no
 abbrev pub Gives : Bool → ℤ → Type 0
@@ -45,8 +45,8 @@ pub record ReadAs (strict : Bool) (r : Reading) (x : ℤ) : Type 0 where
 -- ---- writing and showing
 
 -- the number that writing a sheet answers, with room for 40,960 octets
-abbrev pub writeNumber : List ℕ → ℕ
-writeNumber sheet = (answers.told (writeOf sheet limit.input)).number
+abbrev pub write_number : List ℕ → ℕ
+write_number sheet = (answers.told (write_of sheet limit.input)).number
 
 -- a sheet is shown when writing would accept it: one that passes, and of which no record is large (44)
 abbrev pub Fitting : Bool → ℤ → Type 0
@@ -62,12 +62,12 @@ Shows (Sheet c n large size) r = Fitting large r
 -- by whether it is `read`, or else `write`, or else `show`
 abbrev pub performing : Bool → Bool → Bool → Asked → List ℕ → ℤ → Type 0
 performing true w h a s r = ReadAs a.strict (reading_of a.carrier s) r
-performing false true h a s r = Answers (writeNumber s) r
-performing false false true a s r = Shows (vetting.told (vetOf s)) r
+performing false true h a s r = Answers (write_number s) r
+performing false false true a s r = Shows (vetting.told (vet_of s)) r
 performing false false false a s r = Delivered r
 
 abbrev pub Performs : Asked → List ℕ → ℤ → Type 0
-Performs a s r = performing (eqb a.command command.read) (eqb a.command command.write) (eqb a.command command.show) a s r
+Performs a s r = performing (eq a.command command.read) (eq a.command command.write) (eq a.command command.show) a s r
 
 -- ---- the input
 

@@ -1,7 +1,7 @@
 -- What a call's number, and what vetting a sheet, say of the exit status. Assumes nothing.
-use Rattle.std.specs.Prelude.{◌≡◌, refl, Bool, true, false, ◌&&◌, List, [], ◌∷◌, ℕ, eqb, length, ℤ, pos}
-use Rattle.std.proofs.Common.{ap, subst, ◌∙◌, sym, eq-eqb, ne_eqb, eqb-true}
-use Rattle.std.proofs.lemmas.Bool.{eqb-false}
+use Rattle.std.specs.Prelude.{◌≡◌, refl, Bool, true, false, ◌&&◌, List, [], ◌∷◌, ℕ, eq, length, ℤ, pos}
+use Rattle.std.proofs.Common.{ap, subst, ◌∙◌, sym, eq-eq, ne_eqb, eq-true}
+use Rattle.std.proofs.lemmas.Bool.{eq-false}
 use Rattle.numbers.specs.Limit as limit
 use Rattle.carriers.specs.declared.Carrier.{Carrier}
 use Rattle.reading.specs.declared.Reading.{Reading}
@@ -10,13 +10,13 @@ use Rattle.reading.specs.Result.{Reads}
 use Rattle.reading.specs.Result as reading
 use Rattle.vetting.specs.declared.Vetted.{Vetted}
 use Rattle.vetting.specs.declared.Vetted.TheVariants.{Refused, Sheet}
-use Rattle.written.specs.Writing.{writeOf}
+use Rattle.written.specs.Writing.{write_of}
 use Rattle.answers.specs.declared.Result.{Result}
 use Rattle.answers.specs.Answers.{Writes}
 use Rattle.answers.specs.Answers as answers
 use Rattle.files.specs.Status.{one_of, Delivered, Exited, Answers, done, refused, failed, no}
 use Rattle.files.specs.StatusLaws.{failed-delivered, delivered-exited, denied-exited, refused-exited, answers-done, answers-refused}
-use Rattle.command.specs.Numbers.{reading_of, less, Gives, ReadAs, writeNumber, Fitting, Shows}
+use Rattle.command.specs.Numbers.{reading_of, less, Gives, ReadAs, write_number, Fitting, Shows}
 
 answers-as : {m n : ℕ} {x : ℤ} → m ≡ n → Answers m x → Answers n x
 answers-as {m} {n} {x} e a = subst (λ (k : ℕ). Answers k x) e a
@@ -31,7 +31,7 @@ module _ (strict : Bool) {r s : Reading} (e : r ≡ s) where
   as-done z x g = subst (λ (t : Reading). ReadAs strict t x) e (record { done = λ _. g; refuses = λ n. absurd (n z) })
 
 module _ (carrier : ℕ) (area out : List ℕ) {out' : List ℕ} {r : Reading} (h : Reads (read_of carrier area (length out)) out r out')
-    (e : length out ≡ limit.sheetSize) where
+    (e : length out ≡ limit.sheet_size) where
   pub reading-is : r ≡ reading_of carrier area
   reading-is = h.numbers ∙ ap (λ (n : ℕ). reading.told (read_of carrier area n)) e
 
@@ -48,36 +48,36 @@ module _ (r : Reading) where
   gives-plain x e = ap (one_of (done ∷ failed ∷ [])) e
 
   pub gives_nothing : r.found ≡ 0 → (x : ℤ) → x ≡ pos no → Gives (true && less r) x
-  gives_nothing f x e = rw (eq-eqb r.found 0 f) (ap (one_of (failed ∷ no ∷ [])) e)
+  gives_nothing f x e = rw (eq-eq r.found 0 f) (ap (one_of (failed ∷ no ∷ [])) e)
 
   module _ (f : r.found ≡ 0 → ⊥) where
     pub gives-fewer : (r.discarded ≡ 0 → ⊥) → (x : ℤ) → x ≡ pos no → Gives (true && less r) x
     gives-fewer d x e = rw (ne_eqb r.found 0 f, ne_eqb r.discarded 0 d) (ap (one_of (failed ∷ no ∷ [])) e)
 
     pub gives_all : r.discarded ≡ 0 → (x : ℤ) → x ≡ pos done → Gives (true && less r) x
-    gives_all d x e = rw (ne_eqb r.found 0 f, eq-eqb r.discarded 0 d) (ap (one_of (done ∷ failed ∷ [])) e)
+    gives_all d x e = rw (ne_eqb r.found 0 f, eq-eq r.discarded 0 d) (ap (one_of (done ∷ failed ∷ [])) e)
 
 gives-exited : (b : Bool) (x : ℤ) → Gives b x → Exited x
 gives-exited true x g = denied-exited x g
 gives-exited false x g = delivered-exited x g
 
 pub read-exited : (strict : Bool) (r : Reading) (x : ℤ) → ReadAs strict r x → Exited x
-read-exited strict r x a = go (eqb r.number 0) refl
+read-exited strict r x a = go (eq r.number 0) refl
   where
-    go : (b : Bool) → eqb r.number 0 ≡ b → Exited x
-    go true t = gives-exited (strict && less r) x (a.done (eqb-true r.number 0 t))
-    go false t = refused-exited x (a.refuses (eqb-false r.number 0 t))
+    go : (b : Bool) → eq r.number 0 ≡ b → Exited x
+    go true t = gives-exited (strict && less r) x (a.done (eq-true r.number 0 t))
+    go false t = refused-exited x (a.refuses (eq-false r.number 0 t))
 
 -- ---- writing
 
-module _ (sheet out : List ℕ) {out' : List ℕ} {r : Result} (h : Writes (writeOf sheet (length out)) out r out') (e : length out ≡ limit.input) where
-  write-number : r.number ≡ writeNumber sheet
-  write-number = ap (λ (x : Result). x.number) h.numbers ∙ ap (λ (n : ℕ). (answers.told (writeOf sheet n)).number) e
+module _ (sheet out : List ℕ) {out' : List ℕ} {r : Result} (h : Writes (write_of sheet (length out)) out r out') (e : length out ≡ limit.input) where
+  write-number : r.number ≡ write_number sheet
+  write-number = ap (λ (x : Result). x.number) h.numbers ∙ ap (λ (n : ℕ). (answers.told (write_of sheet n)).number) e
 
-  pub write-refused : (r.number ≡ 0 → ⊥) → (x : ℤ) → x ≡ pos refused → Answers (writeNumber sheet) x
+  pub write-refused : (r.number ≡ 0 → ⊥) → (x : ℤ) → x ≡ pos refused → Answers (write_number sheet) x
   write-refused z x i = answers-as write-number (answers-refused r.number x z i)
 
-  pub write_done : r.number ≡ 0 → (x : ℤ) → Delivered x → Answers (writeNumber sheet) x
+  pub write_done : r.number ≡ 0 → (x : ℤ) → Delivered x → Answers (write_number sheet) x
   write_done z x w = answers-as write-number (answers-done r.number x z w)
 
 -- ---- showing

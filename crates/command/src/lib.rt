@@ -4,14 +4,14 @@
 // say; the work itself is that of `reading`, `writing` and `showing`.
 mod help;
 
-ghost use Rattle.vetting.specs.Vetting.{vetOf};
+ghost use Rattle.vetting.specs.Vetting.{vet_of};
 ghost use Rattle.vetting.specs.Vetting as vetting;
 ghost use Rattle.std.specs.Prelude.{◌≡◌, ◌&&◌, ◌<◌, length, pos};
 ghost use Rattle.decoding.specs.Decoding.{Answered, room};
 ghost use Rattle.files.specs.Status as status;
 ghost use Rattle.files.specs.Status.{Delivered, Exited, Answers};
-ghost use Rattle.command.specs.Hints.{findsIn, suitsIn, hintOf};
-ghost use Rattle.command.specs.Numbers.{reading_of, less, Gives, ReadAs, writeNumber, Shows, Performs, input_of, Takes};
+ghost use Rattle.command.specs.Hints.{finds_in, suits_in, hint_of};
+ghost use Rattle.command.specs.Numbers.{reading_of, less, Gives, ReadAs, write_number, Shows, Performs, input_of, Takes};
 
 use arguments::{Asked, Command};
 use carriers::{Carrier, Chosen};
@@ -35,7 +35,7 @@ const OCTETS: usize = Limit::INPUT;
 
 // Whether a carrier would find records in an area.
 fn finds(carrier: usize, area: &[u8]) -> bool
-    ensures { result ≡ findsIn carrier area.now }
+    ensures { result ≡ finds_in carrier area.now }
 {
     let mut sheet = [0u8; Limit::SHEET];
     let r = reading::read(carrier, area, &mut sheet);
@@ -47,7 +47,7 @@ fn finds(carrier: usize, area: &[u8]) -> bool
 
 // Whether a carrier other than the one that was asked for would.
 fn suits(k: usize, carrier: usize, area: &[u8]) -> bool
-    ensures { result ≡ suitsIn k carrier area.now }
+    ensures { result ≡ suits_in k carrier area.now }
 {
     if k == carrier {
         return false;
@@ -57,7 +57,7 @@ fn suits(k: usize, carrier: usize, area: &[u8]) -> bool
 
 // The first other carrier that would, or 0.
 fn hint(carrier: usize, area: &[u8]) -> usize
-    ensures { result ≡ hintOf carrier area.now }
+    ensures { result ≡ hint_of carrier area.now }
 {
     let mut k = 1;
     while k < 6 {
@@ -218,7 +218,7 @@ fn refuse_sheet(a: Asked, name: &[u8], sheet: &[u8], number: usize, place: usize
 
 // Writes the octets of a sheet.
 fn write(a: Asked, name: &[u8], sheet: &[u8], text: &mut [u8]) -> i32
-    ensures { Answers (writeNumber sheet.now) result }
+    ensures { Answers (write_number sheet.now) result }
 {
     let mut octets = [0u8; OCTETS];
     let w = writing::write(sheet, &mut octets);
@@ -239,7 +239,7 @@ fn print_sheet(sheet: &[u8], json: bool, text: &mut [u8]) -> i32
 
 // Shows a sheet that writing accepts: one that passes, and of which no record is large (44).
 fn show(a: Asked, name: &[u8], sheet: &[u8], text: &mut [u8]) -> i32
-    ensures { Shows (vetting.told (vetOf sheet.now)) result }
+    ensures { Shows (vetting.told (vet_of sheet.now)) result }
 {
     match vetting::vet(sheet) {
         Vetted::Refused { number, place } => refuse_sheet(a, name, sheet, number, place),

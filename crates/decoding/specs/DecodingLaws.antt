@@ -1,54 +1,54 @@
 -- The laws of inputs: what each outcome answers and leaves, and the lines of a text one after another. Assumes nothing.
-use Rattle.std.specs.Prelude.{◌≡◌, refl, Bool, true, false, cond, List, [], ◌∷◌, ℕ, suc, ◌+◌, ◌-◌, ◌≤◌, ◌<◌, min, leb, eqb, length, take, drop}
+use Rattle.std.specs.Prelude.{◌≡◌, refl, Bool, true, false, cond, List, [], ◌∷◌, ℕ, suc, ◌+◌, ◌-◌, ◌≤◌, ◌<◌, min, leb, eq, length, take, drop}
 use Rattle.std.proofs.Common.{sym, ◌∙◌, subst, arith, length-take, length-drop, drop_of_length-le, take_all, drop-drop}
 use Rattle.std.proofs.Math.Path.{ap}
-use borrow.Author.Tests.{leb-true, leb-false, lt-ltb, le-ltb, eq-eqb, ne_eqb}
+use borrow.Author.Tests.{leb-true, leb-false, lt-ltb, le-ltb, eq-eq, ne_eqb}
 use Rattle.octets.specs.Over.{Wrote}
 use Rattle.arguments.specs.Form as form
 use Rattle.carriers.specs.declared.Carrier.{Carrier}
 use Rattle.inputs.specs.declared.Read.{Read}
 use Rattle.inputs.specs.declared.Read.TheVariants.{Octets, Bad, Long}
 use Rattle.base64.specs.Base64 as base64
-use Rattle.forms.specs.Places.{blank, textualOf, place_of, beginOf}
+use Rattle.forms.specs.Places.{blank, textual_of, place_of, begin_of}
 use Rattle.forms.specs.Forms.{list_of}
 use Rattle.forms.specs.Forms as forms
 use Rattle.decoding.specs.Bounds.{list-within}
 use Rattle.headers.specs.Headers as headers
 use Rattle.headers.specs.HeadersLaws.{Sound, add-sound}
-use Rattle.decoding.specs.Decoding.{Answer, Answered, answer, rawOf, read_of, room, addedOf, listed_of, atValue, line_of, onto, linesIn}
-use Rattle.decoding.specs.Decoding.{afterLine, lines_from, lines_of, isLines, values_of}
+use Rattle.decoding.specs.Decoding.{Answer, Answered, answer, raw_of, read_of, room, added_of, listed_of, at_value, line_of, onto, lines_in}
+use Rattle.decoding.specs.Decoding.{after_line, lines_from, lines_of, is_lines, values_of}
 
 -- ---- octets
 
 module _ (s out : List ℕ) where
-  pub raw-long : length out < length s → Answered (rawOf s out) Long out
+  pub raw-long : length out < length s → Answered (raw_of s out) Long out
   raw-long h = rw (lt-ltb (length out) (length s) h) (record { answered = refl; leaves = refl })
 
-  pub raw-taken : {r : ℕ} {out' : List ℕ} → length s ≤ length out → Wrote 0 s out r out' → Answered (rawOf s out) (Octets r) out'
+  pub raw-taken : {r : ℕ} {out' : List ℕ} → length s ≤ length out → Wrote 0 s out r out' → Answered (raw_of s out) (Octets r) out'
   raw-taken h w = rw (le-ltb (length out) (length s) h) (record { answered = ap Octets (omega (arith, w.next)); leaves = w.laid })
 
 -- the tests one after another
 module _ (f : ℕ) (text out : List ℕ) where
-  pub as-raw : f ≡ form.raw → read_of f text out ≡ rawOf text out
+  pub as-raw : f ≡ form.raw → read_of f text out ≡ raw_of text out
   unfolding read_of
-  as-raw e = rw (eq-eqb f form.raw e)
+  as-raw e = rw (eq-eq f form.raw e)
 
   module _ (a : f ≡ form.raw → ⊥) where
     pub as-base64 : {r : Read} {out' : List ℕ} → f ≡ form.base64 → base64.Answered text out r out' → Answered (read_of f text out) r out'
     unfolding read_of
-    as-base64 e w = rw (ne_eqb f form.raw a, eq-eqb f form.base64 e) (record { answered = w.answered; leaves = w.leaves })
+    as-base64 e w = rw (ne_eqb f form.raw a, eq-eq f form.base64 e) (record { answered = w.answered; leaves = w.leaves })
 
     module _ (b : f ≡ form.base64 → ⊥) where
       pub as-hex : f ≡ form.hex → read_of f text out ≡ forms.read_of text out
       unfolding read_of
-      as-hex e = rw (ne_eqb f form.raw a, ne_eqb f form.base64 b, eq-eqb f form.hex e)
+      as-hex e = rw (ne_eqb f form.raw a, ne_eqb f form.base64 b, eq-eq f form.hex e)
 
       module _ (d : f ≡ form.hex → ⊥) where
-        pub as-text : textualOf text ≡ true → read_of f text out ≡ forms.read_of text out
+        pub as-text : textual_of text ≡ true → read_of f text out ≡ forms.read_of text out
         unfolding read_of
         as-text e = rw (ne_eqb f form.raw a, ne_eqb f form.base64 b, ne_eqb f form.hex d, e)
 
-        pub as-octets : textualOf text ≡ false → read_of f text out ≡ rawOf text out
+        pub as-octets : textual_of text ≡ false → read_of f text out ≡ raw_of text out
         unfolding read_of
         as-octets e = rw (ne_eqb f form.raw a, ne_eqb f form.base64 b, ne_eqb f form.hex d, e)
 
@@ -64,54 +64,54 @@ take-some k e l m = go (leb k (length l)) refl
 
 module _ (c : Carrier) (value out : List ℕ) (n : ℕ) where
   pub added-octets : {k e : ℕ} {p r : Read} {out' : List ℕ} → p ≡ Octets k → e ≡ min k (length value)
-      → headers.Adds (headers.addOf out n c (take e value)) r out' → Answered (addedOf c p value out n) r out'
+      → headers.Adds (headers.add_of out n c (take e value)) r out' → Answered (added_of c p value out n) r out'
   added-octets {k} {e} {p} {r} {out'} q m w =
-      let u : headers.Adds (headers.addOf out n c (take k value)) r out' =
-      subst (λ (l : List ℕ). headers.Adds (headers.addOf out n c l) r out') (take-some k e value m) w in
+      let u : headers.Adds (headers.add_of out n c (take k value)) r out' =
+      subst (λ (l : List ℕ). headers.Adds (headers.add_of out n c l) r out') (take-some k e value m) w in
       rw q (record { answered = u.answered; leaves = u.leaves })
 
-  pub added-bad : {at w : ℕ} {p : Read} → p ≡ Bad at w → Answered (addedOf c p value out n) (Bad at w) out
+  pub added-bad : {at w : ℕ} {p : Read} → p ≡ Bad at w → Answered (added_of c p value out n) (Bad at w) out
   added-bad q = rw q (record { answered = refl; leaves = refl })
 
-  pub added-long : {p : Read} → p ≡ Long → Answered (addedOf c p value out n) Long out
+  pub added-long : {p : Read} → p ≡ Long → Answered (added_of c p value out n) Long out
   added-long q = rw q (record { answered = refl; leaves = refl })
 
   -- by what was read, and how the buffer was left
-  pub added-by : {a : Answer} {p r : Read} {out' : List ℕ} → Answered a p value → Answered (addedOf c p value out n) r out'
-      → Answered (addedOf c a.read a.out out n) r out'
+  pub added-by : {a : Answer} {p r : Read} {out' : List ℕ} → Answered a p value → Answered (added_of c p value out n) r out'
+      → Answered (added_of c a.read a.out out n) r out'
   added-by {a} {p} {r} {out'} w u =
-      subst (λ (v : List ℕ). Answered (addedOf c a.read v out n) r out') w.leaves
-      (subst (λ (q : Read). Answered (addedOf c q value out n) r out') w.answered u)
+      subst (λ (v : List ℕ). Answered (added_of c a.read v out n) r out') w.leaves
+      (subst (λ (q : Read). Answered (added_of c q value out n) r out') w.answered u)
 
 -- ---- a line
 
 -- its first character that is no blank stands in it, or there is none
-begin-within : (i : ℕ) (l : List ℕ) → beginOf i l ≤ i + length l
-unfolding beginOf
+begin-within : (i : ℕ) (l : List ℕ) → begin_of i l ≤ i + length l
+unfolding begin_of
 begin-within i [] = omega arith
 begin-within i (x ∷ xs) = go (blank x) (begin-within (i + 1) xs)
   where
-    go : (b : Bool) → beginOf (i + 1) xs ≤ i + 1 + length xs → cond b (beginOf (i + 1) xs) i ≤ i + suc (length xs)
+    go : (b : Bool) → begin_of (i + 1) xs ≤ i + 1 + length xs → cond b (begin_of (i + 1) xs) i ≤ i + suc (length xs)
     go true h = omega arith
     go false h = omega arith
 
-pub value-octets : (line : List ℕ) (r : Read) {m : ℕ} → atValue line r ≡ Octets m → r ≡ Octets m
+pub value-octets : (line : List ℕ) (r : Read) {m : ℕ} → at_value line r ≡ Octets m → r ≡ Octets m
 value-octets line (Octets k) e = e
 value-octets line (Bad at w) e = let z : ◌≡◌ {A = ℕ} 0 1 = cc in absurd (omega arith)
 value-octets line Long e = e
 
 module _ (c : Carrier) (line out : List ℕ) (n : ℕ) where
-  pub line-told : {value : List ℕ} {p q r : Read} {out' : List ℕ} → Answered (list_of line room) p value → Answered (addedOf c p value out n) q out'
-      → r ≡ atValue line q → Answered (line_of c line out n) r out'
+  pub line-told : {value : List ℕ} {p q r : Read} {out' : List ℕ} → Answered (list_of line room) p value → Answered (added_of c p value out n) q out'
+      → r ≡ at_value line q → Answered (line_of c line out n) r out'
   unfolding line_of
   line-told {value} w u e =
       let a : Answered (listed_of c line out n) _ _ = added-by c value out n w u in
-      record { answered = e ∙ ap (atValue line) a.answered; leaves = a.leaves }
+      record { answered = e ∙ ap (at_value line) a.answered; leaves = a.leaves }
 
   listed-sound : n ≤ length out → Sound (length out) (length line) (listed_of c line out n).read
   listed-sound h = go (list_of line room).read refl
     where
-      go : (p : Read) → (list_of line room).read ≡ p → Sound (length out) (length line) (addedOf c p (list_of line room).out out n).read
+      go : (p : Read) → (list_of line room).read ≡ p → Sound (length out) (length line) (added_of c p (list_of line room).out out n).read
       go (Octets k) e = add-sound (length line) out n c (take k (list_of line room).out) h
       go (Bad at w) e = list-within line room e
       go Long e = tt
@@ -120,7 +120,7 @@ module _ (c : Carrier) (line out : List ℕ) (n : ℕ) where
   unfolding line_of
   line-sound h = go (listed_of c line out n).read (listed-sound h)
     where
-      go : (r : Read) → Sound (length out) (length line) r → Sound (length out) (length line) (atValue line r)
+      go : (r : Read) → Sound (length out) (length line) r → Sound (length out) (length line) (at_value line r)
       go (Octets m) s = s
       go (Bad at w) s = omega (arith, begin-within 0 line)
       go Long s = tt
@@ -131,48 +131,48 @@ module _ (c : Carrier) (line out : List ℕ) (n : ℕ) where
 place-from : (x i : ℕ) (l : List ℕ) → place_of x i l ≡ i + place_of x 0 l
 unfolding place_of
 place-from x i [] = omega arith
-place-from x i (y ∷ ys) = go (eqb y x) (place-from x (i + 1) ys) (place-from x 1 ys)
+place-from x i (y ∷ ys) = go (eq y x) (place-from x (i + 1) ys) (place-from x 1 ys)
   where
     go : (b : Bool) → place_of x (i + 1) ys ≡ i + 1 + place_of x 0 ys → place_of x 1 ys ≡ 1 + place_of x 0 ys
         → cond b i (place_of x (i + 1) ys) ≡ i + cond b 0 (place_of x 1 ys)
     go true p q = omega arith
     go false p q = omega arith
 
-place-break : (x : ℕ) (xs : List ℕ) → eqb x 10 ≡ true → place_of 10 0 (x ∷ xs) ≡ 0
+place-break : (x : ℕ) (xs : List ℕ) → eq x 10 ≡ true → place_of 10 0 (x ∷ xs) ≡ 0
 unfolding place_of
 place-break x xs e = rw e
 
-place_after : (x : ℕ) (xs : List ℕ) → eqb x 10 ≡ false → place_of 10 0 (x ∷ xs) ≡ suc (place_of 10 0 xs)
+place_after : (x : ℕ) (xs : List ℕ) → eq x 10 ≡ false → place_of 10 0 (x ∷ xs) ≡ suc (place_of 10 0 xs)
 unfolding place_of
 place_after x xs e = rw e (place-from 10 1 xs ∙ omega arith)
 
-lines-break : (x : ℕ) (xs : List ℕ) → eqb x 10 ≡ true → linesIn (x ∷ xs) ≡ [] ∷ linesIn xs
-unfolding linesIn
+lines-break : (x : ℕ) (xs : List ℕ) → eq x 10 ≡ true → lines_in (x ∷ xs) ≡ [] ∷ lines_in xs
+unfolding lines_in
 lines-break x xs e = rw e
 
-lines_after : (x : ℕ) (xs : List ℕ) → eqb x 10 ≡ false → linesIn (x ∷ xs) ≡ onto x (linesIn xs)
-unfolding linesIn
+lines_after : (x : ℕ) (xs : List ℕ) → eq x 10 ≡ false → lines_in (x ∷ xs) ≡ onto x (lines_in xs)
+unfolding lines_in
 lines_after x xs e = rw e
 
 -- the first line, and those after its break
 abbrev cut_at : ℕ → List ℕ → List (List ℕ)
-cut_at k l = take k l ∷ linesIn (drop (suc k) l)
+cut_at k l = take k l ∷ lines_in (drop (suc k) l)
 
-onto-cut : (x : ℕ) (xs : List ℕ) → (0 < length xs → linesIn xs ≡ cut_at (place_of 10 0 xs) xs) → onto x (linesIn xs) ≡ cut_at (suc (place_of 10 0 xs)) (x ∷ xs)
-unfolding linesIn place_of
+onto-cut : (x : ℕ) (xs : List ℕ) → (0 < length xs → lines_in xs ≡ cut_at (place_of 10 0 xs) xs) → onto x (lines_in xs) ≡ cut_at (suc (place_of 10 0 xs)) (x ∷ xs)
+unfolding lines_in place_of
 onto-cut x [] h = refl
 onto-cut x (y ∷ ys) h = ap (onto x) (h (omega arith))
 
-lines_cut : (l : List ℕ) → 0 < length l → linesIn l ≡ cut_at (place_of 10 0 l) l
+lines_cut : (l : List ℕ) → 0 < length l → lines_in l ≡ cut_at (place_of 10 0 l) l
 lines_cut [] h = absurd (omega arith)
-lines_cut (x ∷ xs) h = go (eqb x 10) refl (lines_cut xs)
+lines_cut (x ∷ xs) h = go (eq x 10) refl (lines_cut xs)
   where
-    go : (b : Bool) → eqb x 10 ≡ b → (0 < length xs → linesIn xs ≡ cut_at (place_of 10 0 xs) xs) → linesIn (x ∷ xs) ≡ cut_at (place_of 10 0 (x ∷ xs)) (x ∷ xs)
+    go : (b : Bool) → eq x 10 ≡ b → (0 < length xs → lines_in xs ≡ cut_at (place_of 10 0 xs) xs) → lines_in (x ∷ xs) ≡ cut_at (place_of 10 0 (x ∷ xs)) (x ∷ xs)
     go true e q = lines-break x xs e ∙ sym (ap (λ (k : ℕ). cut_at k (x ∷ xs)) (place-break x xs e))
     go false e q = lines_after x xs e ∙ onto-cut x xs q ∙ sym (ap (λ (k : ℕ). cut_at k (x ∷ xs)) (place_after x xs e))
 
-lines_none : linesIn [] ≡ []
-unfolding linesIn
+lines_none : lines_in [] ≡ []
+unfolding lines_in
 lines_none = refl
 
 -- ---- the loop over lines
@@ -182,14 +182,14 @@ unfolding lines_from
 from-none c i n out = refl
 
 from-line : (c : Carrier) (i n : ℕ) (out l : List ℕ) (ls : List (List ℕ)) → lines_from c i n out (l ∷ ls)
-    ≡ afterLine i (line_of c l out n).read (line_of c l out n).out (λ m out'. lines_from c (i + (length l + 1)) m out' ls)
+    ≡ after_line i (line_of c l out n).read (line_of c l out n).out (λ m out'. lines_from c (i + (length l + 1)) m out' ls)
 unfolding lines_from
 from-line c i n out l ls = refl
 
 -- the lines from the i-th character on are left, with n octets of options so far
 pub record Lining (c : Carrier) (text out₀ : List ℕ) (n i : ℕ) (out : List ℕ) : Type 0 where
   pub few : n ≤ length out
-  pub left : lines_from c i n out (linesIn (drop i text)) ≡ lines_of c text out₀
+  pub left : lines_from c i n out (lines_in (drop i text)) ≡ lines_of c text out₀
   pub size : length out ≡ length out₀
 
 pub lining-start : (c : Carrier) (text out : List ℕ) → Lining c text out 0 0 out
@@ -198,7 +198,7 @@ lining-start c text out = record { few = omega arith; left = refl; size = refl }
 module _ {c : Carrier} {text out₀ : List ℕ} {n i : ℕ} {out : List ℕ} (w : Lining c text out₀ n i out) where
   pub lining-done : length text ≤ i → Answered (lines_of c text out₀) (Octets n) out
   lining-done h =
-      let none : linesIn (drop i text) ≡ [] = ap linesIn (drop_of_length-le text {i = i} h) ∙ lines_none in
+      let none : lines_in (drop i text) ≡ [] = ap lines_in (drop_of_length-le text {i = i} h) ∙ lines_none in
       let e : answer (Octets n) out ≡ lines_of c text out₀ = sym (ap (lines_from c i n out) none ∙ from-none c i n out) ∙ w.left in
       subst (λ (a : Answer). Answered a (Octets n) out) e (record { answered = refl; leaves = refl })
 
@@ -209,22 +209,22 @@ module _ {c : Carrier} {text out₀ : List ℕ} {n i : ℕ} {out : List ℕ} (w 
     line-length : length line ≡ end - i
     line-length = simp (length-take, length-drop) (omega arith)
 
-    next-lines : linesIn (drop i text) ≡ line ∷ linesIn (drop (end + 1) text)
+    next-lines : lines_in (drop i text) ≡ line ∷ lines_in (drop (end + 1) text)
     next-lines =
         let k : place_of 10 0 (drop i text) ≡ end - i = omega (arith, place-from 10 i (drop i text), stands.0) in
         let some : 0 < length (drop i text) = rw (length-drop i text) (omega arith) in
         let past : i + suc (end - i) ≡ end + 1 = omega arith in
         lines_cut (drop i text) some ∙ ap (λ (k : ℕ). cut_at k (drop i text)) k
-        ∙ ap (λ (l : List ℕ). line ∷ linesIn l) (drop-drop (suc (end - i)) i text ∙ ap (λ (m : ℕ). drop m text) past)
+        ∙ ap (λ (l : List ℕ). line ∷ lines_in l) (drop-drop (suc (end - i)) i text ∙ ap (λ (m : ℕ). drop m text) past)
 
     turn : (r : Read) (out' : List ℕ) → Answered (line_of c line out n) r out'
-        → afterLine i r out' (λ m l. lines_from c (end + 1) m l (linesIn (drop (end + 1) text))) ≡ lines_of c text out₀
+        → after_line i r out' (λ m l. lines_from c (end + 1) m l (lines_in (drop (end + 1) text))) ≡ lines_of c text out₀
     turn r out' a =
-        let ls : List (List ℕ) = linesIn (drop (end + 1) text) in
+        let ls : List (List ℕ) = lines_in (drop (end + 1) text) in
         let past : i + (length line + 1) ≡ end + 1 = omega (arith, line-length) in
-        ap (λ (r : Read). afterLine i r out' (λ m l. lines_from c (end + 1) m l ls)) a.answered
-        ∙ ap (λ (o : List ℕ). afterLine i (line_of c line out n).read o (λ m l. lines_from c (end + 1) m l ls)) a.leaves
-        ∙ ap (λ (j : ℕ). afterLine i (line_of c line out n).read (line_of c line out n).out (λ m l. lines_from c j m l ls)) (sym past)
+        ap (λ (r : Read). after_line i r out' (λ m l. lines_from c (end + 1) m l ls)) a.answered
+        ∙ ap (λ (o : List ℕ). after_line i (line_of c line out n).read o (λ m l. lines_from c (end + 1) m l ls)) a.leaves
+        ∙ ap (λ (j : ℕ). after_line i (line_of c line out n).read (line_of c line out n).out (λ m l. lines_from c j m l ls)) (sym past)
         ∙ sym (ap (lines_from c i n out) next-lines ∙ from-line c i n out line ls) ∙ w.left
 
     sound : {r : Read} {out' : List ℕ} → Answered (line_of c line out n) r out' → Sound (length out) (length line) r
@@ -236,7 +236,7 @@ module _ {c : Carrier} {text out₀ : List ℕ} {n i : ℕ} {out : List ℕ} (w 
           let few : m ≤ length out = subst (Sound (length out) (length line)) e (sound a) in
           record {
             few = omega arith;
-            left = ap (λ (r : Read). afterLine i r out' (λ m l. lines_from c (end + 1) m l (linesIn (drop (end + 1) text)))) (sym e) ∙ turn r out' a;
+            left = ap (λ (r : Read). after_line i r out' (λ m l. lines_from c (end + 1) m l (lines_in (drop (end + 1) text)))) (sym e) ∙ turn r out' a;
             size = s ∙ w.size;
           }
 
@@ -248,23 +248,23 @@ module _ {c : Carrier} {text out₀ : List ℕ} {n i : ℕ} {out : List ℕ} (w 
       pub lining-bad : {at why : ℕ} → r ≡ Bad at why → Answered (lines_of c text out₀) (Bad (i + at) why) out'
       lining-bad {at} {why} e =
           let q : answer (Bad (i + at) why) out' ≡ lines_of c text out₀ =
-          ap (λ (r : Read). afterLine i r out' (λ m l. lines_from c (end + 1) m l (linesIn (drop (end + 1) text)))) (sym e) ∙ turn r out' a in
+          ap (λ (r : Read). after_line i r out' (λ m l. lines_from c (end + 1) m l (lines_in (drop (end + 1) text)))) (sym e) ∙ turn r out' a in
           subst (λ (a : Answer). Answered a (Bad (i + at) why) out') q (record { answered = refl; leaves = refl })
 
       pub lining-long : r ≡ Long → Answered (lines_of c text out₀) Long out'
       lining-long e =
           let q : answer Long out' ≡ lines_of c text out₀ =
-          ap (λ (r : Read). afterLine i r out' (λ m l. lines_from c (end + 1) m l (linesIn (drop (end + 1) text)))) (sym e) ∙ turn r out' a in
+          ap (λ (r : Read). after_line i r out' (λ m l. lines_from c (end + 1) m l (lines_in (drop (end + 1) text)))) (sym e) ∙ turn r out' a in
           subst (λ (a : Answer). Answered a Long out') q (record { answered = refl; leaves = refl })
 
 -- ---- values
 
 module _ (f : ℕ) (c : Carrier) (text out : List ℕ) where
-  pub values-lines : isLines f text ≡ true → values_of f c text out ≡ lines_of c text out
+  pub values-lines : is_lines f text ≡ true → values_of f c text out ≡ lines_of c text out
   unfolding values_of
   values-lines e = rw e
 
-  pub values-whole : {value : List ℕ} {p r : Read} {out' : List ℕ} → isLines f text ≡ false → Answered (read_of f text room) p value
-      → Answered (addedOf c p value out 0) r out' → Answered (values_of f c text out) r out'
+  pub values-whole : {value : List ℕ} {p r : Read} {out' : List ℕ} → is_lines f text ≡ false → Answered (read_of f text room) p value
+      → Answered (added_of c p value out 0) r out' → Answered (values_of f c text out) r out'
   unfolding values_of
   values-whole {value} e w u = rw e (added-by c value out 0 w u)

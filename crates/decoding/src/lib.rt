@@ -1,6 +1,6 @@
 // The octets of an input (docs/COMMAND.md, "Input"): as they are, or spelled by a text; and the options that hold the values which an input has.
 ghost use Rattle.std.specs.Prelude.{◌≡◌, ◌≤◌, ◌<◌, max, length};
-ghost use Rattle.decoding.specs.Decoding.{Answered, rawOf, read_of, addedOf, atValue, line_of, lines_of, isLines, values_of};
+ghost use Rattle.decoding.specs.Decoding.{Answered, raw_of, read_of, added_of, at_value, line_of, lines_of, is_lines, values_of};
 
 use arguments::Form;
 use carriers::Carrier;
@@ -13,7 +13,7 @@ use octets::lesser;
 
 // Takes octets as they are.
 fn read_raw(s: &[u8], out: &mut [u8]) -> Read
-    ensures { Answered (rawOf s.now out.old) result out.new }
+    ensures { Answered (raw_of s.now out.old) result out.new }
 {
     if out.len() < s.len() {
         return Read::Long;
@@ -45,7 +45,7 @@ pub fn read(form: usize, text: &[u8], out: &mut [u8]) -> Read
 
 // Whether an input is lines of values: text, but for base64.
 fn is_lines(form: usize, text: &[u8]) -> bool
-    ensures { result ≡ isLines form text.now }
+    ensures { result ≡ is_lines form text.now }
 {
     if form == Form::HEX {
         return true;
@@ -59,7 +59,7 @@ fn is_lines(form: usize, text: &[u8]) -> bool
 // Adds the options of what was read to `value` after the first n octets of `out`.
 fn add_read(c: Carrier, read: Read, value: &[u8], out: &mut [u8], n: usize) -> Read
     requires { n ≤ length out.old }
-    ensures { Answered (addedOf c read value.now out.old n) result out.new }
+    ensures { Answered (added_of c read value.now out.old n) result out.new }
 {
     match read {
         Read::Octets(k) => {
@@ -80,7 +80,7 @@ fn greater(a: usize, b: usize) -> usize
 
 // A fault in the blanks before a value is at the value's first character: a blank belongs to the line of what stands before it (`places::line`).
 fn at_value(line: &[u8], read: Read) -> Read
-    ensures { result ≡ atValue line.now read }
+    ensures { result ≡ at_value line.now read }
 {
     match read {
         Read::Octets(n) => Read::Octets(n),

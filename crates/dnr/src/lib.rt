@@ -4,7 +4,7 @@
 ghost use Rattle.std.specs.Prelude.{length};
 ghost use Rattle.reading.specs.Reading.{read_of};
 ghost use Rattle.reading.specs.Result.{Reads};
-ghost use Rattle.written.specs.Writing.{writeOf};
+ghost use Rattle.written.specs.Writing.{write_of};
 ghost use Rattle.answers.specs.Answers.{Writes};
 ghost use Rattle.words.specs.Words.{words_of};
 ghost use Rattle.words.specs.Strings.{PutsString};
@@ -32,7 +32,7 @@ pub extern "C" fn dnr_read(carrier: usize, area: &[u8], sheet: &mut [u8]) -> Rea
 // Writes the octets of a record sheet: its options, or its attributes.
 #[unsafe(no_mangle)]
 pub extern "C" fn dnr_write(sheet: &[u8], octets: &mut [u8]) -> Result
-    ensures { Writes (writeOf sheet.now (length octets.old)) octets.old result octets.new }
+    ensures { Writes (write_of sheet.now (length octets.old)) octets.old result octets.new }
 {
     writing::write(sheet, octets)
 }

@@ -26,7 +26,7 @@ module _ {f : Style} {size m : ℕ} {bs : List ℕ} {x : ℕ} {xs : List ℕ} {s
         → Lines f stood star os last (pre ++ (x ∷ xs)) bs
     from-ended v q l =
         by-class x
-        (λ k y. line_on here s n out (still (shows.line-break y)) (λ _. tt) (moves-to here s (at class.Break k) g u (λ z. absurd (omega arith))))
+        (λ k y. line_on here s n out (still (shows.line_break y)) (λ _. tt) (moves-to here s (at class.Break k) g u (λ z. absurd (omega arith))))
         (λ k y h. keep here s (at class.Blank k) g u (λ z. absurd (omega arith)) h (still (shows.blank y)))
         (λ k _ _. bad here (states.but why.offset s) (moves.first_ended f x s d ∙ at class.Digit k) (λ z. absurd (omega arith)))
         (λ k h _.

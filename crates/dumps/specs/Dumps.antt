@@ -1,6 +1,6 @@
 -- What a text is read as that is to be a dump: its characters one after the other, and a line break after the last. Assumes nothing: these are
 -- definitions.
-use Rattle.std.specs.Prelude.{◌≡◌, cond, List, [], ◌∷◌, ◌++◌, ℕ, zero, suc, ◌+◌, ◌-◌, ◌%◌, ltb, leb, eqb, length, get_or, set}
+use Rattle.std.specs.Prelude.{◌≡◌, cond, List, [], ◌∷◌, ◌++◌, ℕ, zero, suc, ◌+◌, ◌-◌, ◌%◌, ltb, leb, eq, length, get_or, set}
 use Rattle.inputs.specs.Why as why
 use Rattle.inputs.specs.declared.Read.{Read}
 use Rattle.inputs.specs.declared.Read.TheVariants.{Octets, Bad, Long}
@@ -16,9 +16,9 @@ use Rattle.dumps.specs.States.{begun, moved}
 -- ---- the octets
 
 -- k octets from n on are those from `from` on
-unfoldable pub repeatedOf : ℕ → ℕ → ℕ → List ℕ → List ℕ
-repeatedOf zero from n out = out
-repeatedOf (suc k) from n out = repeatedOf k (from + 1) (n + 1) (set out n (get_or out from 0))
+unfoldable pub repeated_of : ℕ → ℕ → ℕ → List ℕ → List ℕ
+repeated_of zero from n out = out
+repeated_of (suc k) from n out = repeated_of k (from + 1) (n + 1) (set out n (get_or out from 0))
 
 -- What comes of a character, and the buffer then
 pub record After : Type 0 where
@@ -29,9 +29,9 @@ abbrev after : Turn → List ℕ → After
 after t out = record { turn = t; out = out }
 
 -- an octet that is complete is laid at n
-unfoldable pub layOf : State → ℕ → List ℕ → After
-layOf s n out =
-    cond (eqb s.mode mode.low)
+unfoldable pub lay_of : State → ℕ → List ℕ → After
+lay_of s n out =
+    cond (eq s.mode mode.low)
     (cond (leb (length out) n) (after turns.Long out) (after (turns.Go s (n + 1)) (set out n s.octet)))
     (after (turns.Go s n) out)
 
@@ -40,32 +40,32 @@ pub record FilledTo : Type 0 where
   pub fill : Reach
   pub out : List ℕ
 
-abbrev filledTo : Reach → List ℕ → FilledTo
-filledTo r out = record { fill = r; out = out }
+abbrev filled_to : Reach → List ℕ → FilledTo
+filled_to r out = record { fill = r; out = out }
 
-unfoldable pub fillOf : ℕ → ℕ → ℕ → List ℕ → FilledTo
-fillOf from n upto out =
-    cond (leb upto n) (filledTo (reach.To n) out)
-    (cond (leb n from) (filledTo reach.No out)
-    (cond (eqb ((upto - n) % (n - from)) 0)
-    (cond (ltb (length out) upto) (filledTo reach.Long out) (filledTo (reach.To upto) (repeatedOf (upto - n) from n out)))
-    (filledTo reach.No out)))
+unfoldable pub fill_of : ℕ → ℕ → ℕ → List ℕ → FilledTo
+fill_of from n upto out =
+    cond (leb upto n) (filled_to (reach.To n) out)
+    (cond (leb n from) (filled_to reach.No out)
+    (cond (eq ((upto - n) % (n - from)) 0)
+    (cond (ltb (length out) upto) (filled_to reach.Long out) (filled_to (reach.To upto) (repeated_of (upto - n) from n out)))
+    (filled_to reach.No out)))
 
 pub record Filled (from n upto : ℕ) (out : List ℕ) (r : Reach) (out' : List ℕ) : Type 0 where
-  pub answered : r ≡ (fillOf from n upto out).fill
-  pub leaves : out' ≡ (fillOf from n upto out).out
+  pub answered : r ≡ (fill_of from n upto out).fill
+  pub leaves : out' ≡ (fill_of from n upto out).out
 
 -- ---- a character
 
-abbrev pub layBy : Reach → State → List ℕ → After
-layBy (reach.To m) s out = layOf s m out
-layBy reach.No s out = after (turns.Bad why.offset) out
-layBy reach.Long s out = after turns.Long out
+abbrev pub lay_by : Reach → State → List ℕ → After
+lay_by (reach.To m) s out = lay_of s m out
+lay_by reach.No s out = after (turns.Bad why.offset) out
+lay_by reach.Long s out = after turns.Long out
 
 unfoldable pub settled : State → ℕ → List ℕ → After
 settled s n out =
-    cond (eqb s.why 0)
-    (layBy (fillOf s.before n s.upto out).fill s (fillOf s.before n s.upto out).out)
+    cond (eq s.why 0)
+    (lay_by (fill_of s.before n s.upto out).fill s (fill_of s.before n s.upto out).out)
     (after (turns.Bad s.why) out)
 
 unfoldable pub take_of : Style → State → ℕ → ℕ → List ℕ → After
@@ -94,13 +94,13 @@ onward (turns.Bad w) i out next = ended (Bad i w) out
 onward turns.Long i out next = ended Long out
 
 -- the characters from the i-th on of a text of `size`
-unfoldable pub readFrom : Style → State → ℕ → ℕ → ℕ → List ℕ → List ℕ → Ended
-readFrom f s n size i out [] = end_of s n size out
-readFrom f s n size i out (x ∷ xs) =
-    onward (take_of f s x n out).turn i (take_of f s x n out).out (λ t m. readFrom f t m size (i + 1) (take_of f s x n out).out xs)
+unfoldable pub read_from : Style → State → ℕ → ℕ → ℕ → List ℕ → List ℕ → Ended
+read_from f s n size i out [] = end_of s n size out
+read_from f s n size i out (x ∷ xs) =
+    onward (take_of f s x n out).turn i (take_of f s x n out).out (λ t m. read_from f t m size (i + 1) (take_of f s x n out).out xs)
 
 unfoldable pub read_of : Style → List ℕ → List ℕ → Ended
-read_of f text out = readFrom f begun 0 (length text) 0 out (text ++ (10 ∷ []))
+read_of f text out = read_from f begun 0 (length text) 0 out (text ++ (10 ∷ []))
 
 pub record Dumped (f : Style) (text out : List ℕ) (r : Read) (out' : List ℕ) : Type 0 where
   pub answered : r ≡ (read_of f text out).read

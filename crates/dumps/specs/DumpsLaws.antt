@@ -1,8 +1,8 @@
 -- The laws of reading a dump: the octets that stars stand for, a character, and the text that is left. Assumes nothing.
-use Rattle.std.specs.Prelude.{◌≡◌, refl, Bool, true, false, List, [], ◌∷◌, ◌++◌, ℕ, zero, suc, ◌+◌, ◌-◌, ◌%◌, ◌≤◌, ◌<◌, ltb, leb, eqb, length, get_or, set, drop}
+use Rattle.std.specs.Prelude.{◌≡◌, refl, Bool, true, false, List, [], ◌∷◌, ◌++◌, ℕ, zero, suc, ◌+◌, ◌-◌, ◌%◌, ◌≤◌, ◌<◌, ltb, leb, eq, length, get_or, set, drop}
 use Rattle.std.proofs.Common.{sym, subst, ◌∙◌, arith, length-set}
 use Rattle.std.proofs.Math.Path.{ap}
-use borrow.Author.Tests.{lt-ltb, le-ltb, le-leb, lt-leb, eq-eqb, ne_eqb, ltb-false, leb-false}
+use borrow.Author.Tests.{lt-ltb, le-ltb, le-leb, lt-leb, eq-eq, ne_eqb, ltb-false, leb-false}
 use Rattle.inputs.specs.Why as why
 use Rattle.inputs.specs.TextLaws.{closed-cons, closed-end}
 use Rattle.inputs.specs.declared.Read.{Read}
@@ -15,26 +15,26 @@ use Rattle.dumps.specs.declared.Turn.TheVariants as turns
 use Rattle.dumps.specs.declared.state.State.{State}
 use Rattle.dumps.specs.Mode as mode
 use Rattle.dumps.specs.States.{begun, moved}
-use Rattle.dumps.specs.Dumps.{repeatedOf, After, layOf, fillOf, Filled, layBy, settled, take_of, Turned}
-use Rattle.dumps.specs.Dumps.{Ended, ended, readFrom, read_of, Dumped}
+use Rattle.dumps.specs.Dumps.{repeated_of, After, lay_of, fill_of, Filled, lay_by, settled, take_of, Turned}
+use Rattle.dumps.specs.Dumps.{Ended, ended, read_from, read_of, Dumped}
 
 -- ---- octets that are repeated
 
 repeated-turn : (from n upto : ℕ) (out : List ℕ) → n < upto
-    → repeatedOf (upto - (n + 1)) (from + 1) (n + 1) (set out n (get_or out from 0)) ≡ repeatedOf (upto - n) from n out
-unfolding repeatedOf
+    → repeated_of (upto - (n + 1)) (from + 1) (n + 1) (set out n (get_or out from 0)) ≡ repeated_of (upto - n) from n out
+unfolding repeated_of
 repeated-turn from n upto out h =
     let e : upto - n ≡ suc (upto - (n + 1)) = omega arith in
-    sym (ap (λ (k : ℕ). repeatedOf k from n out) e)
+    sym (ap (λ (k : ℕ). repeated_of k from n out) e)
 
-repeated-end : (from n upto : ℕ) (out : List ℕ) → upto ≤ n → repeatedOf (upto - n) from n out ≡ out
-unfolding repeatedOf
+repeated-end : (from n upto : ℕ) (out : List ℕ) → upto ≤ n → repeated_of (upto - n) from n out ≡ out
+unfolding repeated_of
 repeated-end from n upto out h =
     let e : upto - n ≡ zero = omega arith in
-    ap (λ (k : ℕ). repeatedOf k from n out) e
+    ap (λ (k : ℕ). repeated_of k from n out) e
 
-pub repeated-length : (k from n : ℕ) (out : List ℕ) → length (repeatedOf k from n out) ≡ length out
-unfolding repeatedOf
+pub repeated-length : (k from n : ℕ) (out : List ℕ) → length (repeated_of k from n out) ≡ length out
+unfolding repeated_of
 repeated-length zero from n out = refl
 repeated-length (suc k) from n out = repeated-length k (from + 1) (n + 1) (set out n (get_or out from 0)) ∙ length-set out n (get_or out from 0)
 
@@ -42,7 +42,7 @@ repeated-length (suc k) from n out = repeated-length k (from + 1) (n + 1) (set o
 pub record Repeating (before : List ℕ) (from n upto : ℕ) (out : List ℕ) (source i : ℕ) : Type 0 where
   pub apart : source < i
   pub size : length out ≡ length before
-  pub rest : repeatedOf (upto - i) source i out ≡ repeatedOf (upto - n) from n before
+  pub rest : repeated_of (upto - i) source i out ≡ repeated_of (upto - n) from n before
 
 pub repeat-start : {out : List ℕ} {from n upto : ℕ} → from < n → Repeating out from n upto out from n
 repeat-start h = record { apart = h; size = refl; rest = refl }
@@ -55,24 +55,24 @@ module _ {before out : List ℕ} {from n upto source i : ℕ} (r : Repeating bef
     rest = repeated-turn source i upto out h ∙ r.rest;
   }
 
-  pub repeat-done : upto ≤ i → out ≡ repeatedOf (upto - n) from n before
+  pub repeat-done : upto ≤ i → out ≡ repeated_of (upto - n) from n before
   repeat-done h = sym (repeated-end source i upto out h) ∙ r.rest
 
 -- ---- what stars stand for
 
 module _ (from n upto : ℕ) (out : List ℕ) where
   pub fill_none : upto ≤ n → Filled from n upto out (reach.To n) out
-  unfolding fillOf
+  unfolding fill_of
   fill_none h = let e = le-leb upto n h in record { answered = rw e; leaves = rw e }
 
   module _ (h : n < upto) where
     pub fill-early : n ≤ from → Filled from n upto out reach.No out
-    unfolding fillOf
+    unfolding fill_of
     fill-early l = let e = lt-leb upto n h in let g = le-leb n from l in record { answered = rw (e, g); leaves = rw (e, g) }
 
     module _ (l : from < n) where
       pub fill-part : ((upto - n) % (n - from) ≡ 0 → ⊥) → Filled from n upto out reach.No out
-      unfolding fillOf
+      unfolding fill_of
       fill-part d =
           let e = lt-leb upto n h in
           let g = lt-leb n from l in
@@ -81,38 +81,38 @@ module _ (from n upto : ℕ) (out : List ℕ) where
 
       module _ (d : (upto - n) % (n - from) ≡ 0) where
         pub fill-long : length out < upto → Filled from n upto out reach.Long out
-        unfolding fillOf
+        unfolding fill_of
         fill-long m =
             let e = lt-leb upto n h in
             let g = lt-leb n from l in
-            let k = eq-eqb ((upto - n) % (n - from)) 0 d in
+            let k = eq-eq ((upto - n) % (n - from)) 0 d in
             let j = lt-ltb (length out) upto m in
             record { answered = rw (e, g, k, j); leaves = rw (e, g, k, j) }
 
-        pub fill-whole : {out' : List ℕ} → upto ≤ length out → out' ≡ repeatedOf (upto - n) from n out → Filled from n upto out (reach.To upto) out'
-        unfolding fillOf
+        pub fill-whole : {out' : List ℕ} → upto ≤ length out → out' ≡ repeated_of (upto - n) from n out → Filled from n upto out (reach.To upto) out'
+        unfolding fill_of
         fill-whole m p =
             let e = lt-leb upto n h in
             let g = lt-leb n from l in
-            let k = eq-eqb ((upto - n) % (n - from)) 0 d in
+            let k = eq-eq ((upto - n) % (n - from)) 0 d in
             let j = le-ltb (length out) upto m in
             record { answered = rw (e, g, k, j); leaves = rw (e, g, k, j) p }
 
 -- ---- an octet that is complete
 
 module _ (s : State) (n : ℕ) (out : List ℕ) where
-  pub lay-none : (s.mode ≡ mode.low → ⊥) → Turned (layOf s n out) (turns.Go s n) out
-  unfolding layOf
+  pub lay-none : (s.mode ≡ mode.low → ⊥) → Turned (lay_of s n out) (turns.Go s n) out
+  unfolding lay_of
   lay-none h = let e = ne_eqb s.mode mode.low h in record { answered = rw e; leaves = rw e }
 
   module _ (h : s.mode ≡ mode.low) where
-    pub lay-long : length out ≤ n → Turned (layOf s n out) turns.Long out
-    unfolding layOf
-    lay-long l = let e = eq-eqb s.mode mode.low h in let g = le-leb (length out) n l in record { answered = rw (e, g); leaves = rw (e, g) }
+    pub lay-long : length out ≤ n → Turned (lay_of s n out) turns.Long out
+    unfolding lay_of
+    lay-long l = let e = eq-eq s.mode mode.low h in let g = le-leb (length out) n l in record { answered = rw (e, g); leaves = rw (e, g) }
 
-    pub lay-one : n < length out → Turned (layOf s n out) (turns.Go s (n + 1)) (set out n s.octet)
-    unfolding layOf
-    lay-one l = let e = eq-eqb s.mode mode.low h in let g = lt-leb (length out) n l in record { answered = rw (e, g); leaves = rw (e, g) }
+    pub lay-one : n < length out → Turned (lay_of s n out) (turns.Go s (n + 1)) (set out n s.octet)
+    unfolding lay_of
+    lay-one l = let e = eq-eq s.mode mode.low h in let g = lt-leb (length out) n l in record { answered = rw (e, g); leaves = rw (e, g) }
 
 -- ---- a character
 
@@ -124,10 +124,10 @@ unfolding settled
 settled-bad t n out h = let e = ne_eqb t.why 0 h in record { answered = rw e; leaves = rw e }
 
 settled-filled : (t : State) (n : ℕ) (out : List ℕ) {r : Reach} {out' : List ℕ} → t.why ≡ 0 → Filled t.before n t.upto out r out'
-    → layBy r t out' ≡ settled t n out
+    → lay_by r t out' ≡ settled t n out
 unfolding settled
 settled-filled t n out {r} {out'} h p =
-    rw (eq-eqb t.why 0 h) (ap (λ (q : Reach). layBy q t out') p.answered ∙ ap (layBy (fillOf t.before n t.upto out).fill t) p.leaves)
+    rw (eq-eq t.why 0 h) (ap (λ (q : Reach). lay_by q t out') p.answered ∙ ap (lay_by (fill_of t.before n t.upto out).fill t) p.leaves)
 
 module _ (f : Style) (s : State) (x n : ℕ) (out : List ℕ) {t : State} {b : ℕ} (e : t ≡ moved f x n b s) (g : b ≡ get_or out s.beside 0) where
   take-is : settled t n out ≡ take_of f s x n out
@@ -138,16 +138,16 @@ module _ (f : Style) (s : State) (x n : ℕ) (out : List ℕ) {t : State} {b : �
   take-bad h = turned_as take-is (settled-bad t n out h)
 
   module _ {r : Reach} {out' : List ℕ} (h : t.why ≡ 0) (p : Filled t.before n t.upto out r out') where
-    pub take-laid : {m : ℕ} {q : Turn} {out'' : List ℕ} → r ≡ reach.To m → Turned (layOf t m out') q out'' → Turned (take_of f s x n out) q out''
-    take-laid {m} k l = turned_as (sym (ap (λ (r : Reach). layBy r t out') k) ∙ settled-filled t n out h p ∙ take-is) l
+    pub take-laid : {m : ℕ} {q : Turn} {out'' : List ℕ} → r ≡ reach.To m → Turned (lay_of t m out') q out'' → Turned (take_of f s x n out) q out''
+    take-laid {m} k l = turned_as (sym (ap (λ (r : Reach). lay_by r t out') k) ∙ settled-filled t n out h p ∙ take-is) l
 
     pub take_no : r ≡ reach.No → Turned (take_of f s x n out) (turns.Bad why.offset) out'
     take_no k =
-        turned_as (sym (ap (λ (r : Reach). layBy r t out') k) ∙ settled-filled t n out h p ∙ take-is) (record { answered = refl; leaves = refl })
+        turned_as (sym (ap (λ (r : Reach). lay_by r t out') k) ∙ settled-filled t n out h p ∙ take-is) (record { answered = refl; leaves = refl })
 
     pub take_long : r ≡ reach.Long → Turned (take_of f s x n out) turns.Long out'
     take_long k =
-        turned_as (sym (ap (λ (r : Reach). layBy r t out') k) ∙ settled-filled t n out h p ∙ take-is) (record { answered = refl; leaves = refl })
+        turned_as (sym (ap (λ (r : Reach). lay_by r t out') k) ∙ settled-filled t n out h p ∙ take-is) (record { answered = refl; leaves = refl })
 
 -- ---- there are no more octets than the buffer holds
 
@@ -165,11 +165,11 @@ pub record Kept (a : After) (k : ℕ) : Type 0 where
   pub size : length a.out ≡ k
   pub few : Within a.turn k
 
-lay-kept : (s : State) (n : ℕ) (out : List ℕ) → n ≤ length out → Kept (layOf s n out) (length out)
-unfolding layOf
-lay-kept s n out h = go (eqb s.mode mode.low) refl (leb (length out) n) refl
+lay-kept : (s : State) (n : ℕ) (out : List ℕ) → n ≤ length out → Kept (lay_of s n out) (length out)
+unfolding lay_of
+lay-kept s n out h = go (eq s.mode mode.low) refl (leb (length out) n) refl
   where
-    go : (a : Bool) → eqb s.mode mode.low ≡ a → (b : Bool) → leb (length out) n ≡ b → Kept (layOf s n out) (length out)
+    go : (a : Bool) → eq s.mode mode.low ≡ a → (b : Bool) → leb (length out) n ≡ b → Kept (lay_of s n out) (length out)
     go false p b q = rw p (record { size = refl; few = h })
     go true p true q = rw (p, q) (record { size = refl; few = tt })
     go true p false q =
@@ -178,33 +178,33 @@ lay-kept s n out h = go (eqb s.mode mode.low) refl (leb (length out) n) refl
         rw (p, q) (record { size = length-set out n s.octet; few = m })
 
 fill-kept : (from n upto : ℕ) (out : List ℕ) → n ≤ length out
-    → (length (fillOf from n upto out).out ≡ length out) × Reaches (fillOf from n upto out).fill (length out)
-unfolding fillOf
-fill-kept from n upto out h = go (leb upto n) refl (leb n from) refl (eqb ((upto - n) % (n - from)) 0) refl (ltb (length out) upto) refl
+    → (length (fill_of from n upto out).out ≡ length out) × Reaches (fill_of from n upto out).fill (length out)
+unfolding fill_of
+fill-kept from n upto out h = go (leb upto n) refl (leb n from) refl (eq ((upto - n) % (n - from)) 0) refl (ltb (length out) upto) refl
   where
-    go : (a : Bool) → leb upto n ≡ a → (b : Bool) → leb n from ≡ b → (c : Bool) → eqb ((upto - n) % (n - from)) 0 ≡ c
+    go : (a : Bool) → leb upto n ≡ a → (b : Bool) → leb n from ≡ b → (c : Bool) → eq ((upto - n) % (n - from)) 0 ≡ c
         → (d : Bool) → ltb (length out) upto ≡ d
-        → (length (fillOf from n upto out).out ≡ length out) × Reaches (fillOf from n upto out).fill (length out)
+        → (length (fill_of from n upto out).out ≡ length out) × Reaches (fill_of from n upto out).fill (length out)
     go true p b q c r d u = rw p (refl, h)
     go false p true q c r d u = rw (p, q) (refl, tt)
     go false p false q false r d u = rw (p, q, r) (refl, tt)
     go false p false q true r true u = rw (p, q, r, u) (refl, tt)
     go false p false q true r false u = rw (p, q, r, u) (repeated-length (upto - n) from n out, ltb-false (length out) upto u)
 
-by-kept : (r : Reach) (t : State) (out : List ℕ) (k : ℕ) → length out ≡ k → Reaches r k → Kept (layBy r t out) k
-by-kept (reach.To m) t out k e h = subst (Kept (layOf t m out)) e (lay-kept t m out (subst (λ (j : ℕ). m ≤ j) (sym e) h))
+by-kept : (r : Reach) (t : State) (out : List ℕ) (k : ℕ) → length out ≡ k → Reaches r k → Kept (lay_by r t out) k
+by-kept (reach.To m) t out k e h = subst (Kept (lay_of t m out)) e (lay-kept t m out (subst (λ (j : ℕ). m ≤ j) (sym e) h))
 by-kept reach.No t out k e h = record { size = e; few = tt }
 by-kept reach.Long t out k e h = record { size = e; few = tt }
 
 settled-kept : (t : State) (n : ℕ) (out : List ℕ) → n ≤ length out → Kept (settled t n out) (length out)
 unfolding settled
-settled-kept t n out h = go (eqb t.why 0) refl
+settled-kept t n out h = go (eq t.why 0) refl
   where
-    go : (a : Bool) → eqb t.why 0 ≡ a → Kept (settled t n out) (length out)
+    go : (a : Bool) → eq t.why 0 ≡ a → Kept (settled t n out) (length out)
     go false p = rw p (record { size = refl; few = tt })
     go true p =
         let k = fill-kept t.before n t.upto out h in
-        rw p (by-kept (fillOf t.before n t.upto out).fill t (fillOf t.before n t.upto out).out (length out) k.0 k.1)
+        rw p (by-kept (fill_of t.before n t.upto out).fill t (fill_of t.before n t.upto out).out (length out) k.0 k.1)
 
 pub take-kept : (f : Style) (s : State) (x n : ℕ) (out : List ℕ) → n ≤ length out → Kept (take_of f s x n out) (length out)
 unfolding take_of
@@ -214,16 +214,16 @@ take-kept f s x n out h = settled-kept (moved f x n (get_or out s.beside 0) s) n
 
 module _ (f : Style) (s : State) (x n size i : ℕ) (out xs : List ℕ) where
   pub from-go : (t : State) (m : ℕ) → (take_of f s x n out).turn ≡ turns.Go t m
-      → readFrom f s n size i out (x ∷ xs) ≡ readFrom f t m size (i + 1) (take_of f s x n out).out xs
-  unfolding readFrom
+      → read_from f s n size i out (x ∷ xs) ≡ read_from f t m size (i + 1) (take_of f s x n out).out xs
+  unfolding read_from
   from-go t m e = rw e
 
-  pub from-bad : (w : ℕ) → (take_of f s x n out).turn ≡ turns.Bad w → readFrom f s n size i out (x ∷ xs) ≡ ended (Bad i w) (take_of f s x n out).out
-  unfolding readFrom
+  pub from-bad : (w : ℕ) → (take_of f s x n out).turn ≡ turns.Bad w → read_from f s n size i out (x ∷ xs) ≡ ended (Bad i w) (take_of f s x n out).out
+  unfolding read_from
   from-bad w e = rw e
 
-  pub from-long : (take_of f s x n out).turn ≡ turns.Long → readFrom f s n size i out (x ∷ xs) ≡ ended Long (take_of f s x n out).out
-  unfolding readFrom
+  pub from-long : (take_of f s x n out).turn ≡ turns.Long → read_from f s n size i out (x ∷ xs) ≡ ended Long (take_of f s x n out).out
+  unfolding read_from
   from-long e = rw e
 
 -- i characters are read, and with what is left they decide
@@ -231,7 +231,7 @@ pub record Reading (f : Style) (text before out : List ℕ) (s : State) (n i : �
   pub within : i ≤ length text + 1
   pub few : n ≤ length out
   pub size : length out ≡ length before
-  pub rest : readFrom f s n (length text) i out (drop i (text ++ (10 ∷ []))) ≡ read_of f text before
+  pub rest : read_from f s n (length text) i out (drop i (text ++ (10 ∷ []))) ≡ read_of f text before
 
 pub read-start : {f : Style} {text out : List ℕ} {s : State} → s ≡ begun → Reading f text out out s 0 0
 unfolding read_of
@@ -239,7 +239,7 @@ read-start {f} {text} {out} {s} e = record {
   within = omega arith;
   few = omega arith;
   size = refl;
-  rest = ap (λ (t : State). readFrom f t 0 (length text) 0 out (text ++ (10 ∷ []))) e;
+  rest = ap (λ (t : State). read_from f t 0 (length text) 0 out (text ++ (10 ∷ []))) e;
 }
 
 dumped : {f : Style} {text before out : List ℕ} {r : Read} → ended r out ≡ read_of f text before → Dumped f text before r out
@@ -247,10 +247,10 @@ dumped e = record { answered = ap (λ (d : Ended). d.read) e; leaves = ap (λ (d
 
 module _ {f : Style} {text before out : List ℕ} {s : State} {n i : ℕ} (r : Reading f text before out s n i) where
   module _ (h : i ≤ length text) {x : ℕ} (e : x ≡ get_or text i 10) {q : Turn} {out' : List ℕ} (t : Turned (take_of f s x n out) q out') where
-    next : readFrom f s n (length text) i out (x ∷ drop (i + 1) (text ++ (10 ∷ []))) ≡ read_of f text before
+    next : read_from f s n (length text) i out (x ∷ drop (i + 1) (text ++ (10 ∷ []))) ≡ read_of f text before
     next =
-        ap (λ (y : ℕ). readFrom f s n (length text) i out (y ∷ drop (i + 1) (text ++ (10 ∷ [])))) e
-        ∙ sym (ap (readFrom f s n (length text) i out) (closed-cons text i h))
+        ap (λ (y : ℕ). read_from f s n (length text) i out (y ∷ drop (i + 1) (text ++ (10 ∷ [])))) e
+        ∙ sym (ap (read_from f s n (length text) i out) (closed-cons text i h))
         ∙ r.rest
 
     pub read_kept : length out' ≡ length before
@@ -265,7 +265,7 @@ module _ {f : Style} {text before out : List ℕ} {s : State} {n i : ℕ} (r : R
           within = omega arith;
           few = omega (arith, read_kept, r.size, w);
           size = read_kept;
-          rest = ap (λ (o : List ℕ). readFrom f u m (length text) (i + 1) o (drop (i + 1) (text ++ (10 ∷ [])))) t.leaves
+          rest = ap (λ (o : List ℕ). read_from f u m (length text) (i + 1) o (drop (i + 1) (text ++ (10 ∷ [])))) t.leaves
               ∙ sym (from-go f s x n (length text) i out (drop (i + 1) (text ++ (10 ∷ []))) u m a)
               ∙ next;
         }
@@ -285,13 +285,13 @@ module _ {f : Style} {text before out : List ℕ} {s : State} {n i : ℕ} (r : R
         ∙ next)
 
   module _ (h : length text < i) where
-    last : readFrom f s n (length text) i out [] ≡ read_of f text before
-    last = sym (ap (readFrom f s n (length text) i out) (closed-end text i h)) ∙ r.rest
+    last : read_from f s n (length text) i out [] ≡ read_of f text before
+    last = sym (ap (read_from f s n (length text) i out) (closed-end text i h)) ∙ r.rest
 
     pub read-star : s.star ≡ true → Dumped f text before (Bad (length text) why.form) out
-    unfolding readFrom
+    unfolding read_from
     read-star p = dumped (sym (rw p at (sym last)))
 
     pub read_done : s.star ≡ false → Dumped f text before (Octets n) out
-    unfolding readFrom
+    unfolding read_from
     read_done p = dumped (sym (rw p at (sym last)))

@@ -9,7 +9,7 @@ use Rattle.dumps.specs.declared.Turn.{Turn}
 use Rattle.dumps.specs.declared.Turn.TheVariants as turns
 use Rattle.dumps.specs.declared.state.State.{State}
 use Rattle.dumps.specs.States.{begun}
-use Rattle.dumps.specs.Dumps.{take_of, ended, end_of, onward, readFrom, read_of}
+use Rattle.dumps.specs.Dumps.{take_of, ended, end_of, onward, read_from, read_of}
 
 abbrev Inside : ℕ → Read → Type 0
 Inside k (Octets n) = Unit
@@ -23,14 +23,14 @@ inside-end k s n out = go s.star
     go true = omega arith
     go false = tt
 
-inside-from : (f : Style) (k : ℕ) (s : State) (n i : ℕ) (out l : List ℕ) → i + length l ≤ k + 1 → Inside k (readFrom f s n k i out l).read
-unfolding readFrom
+inside-from : (f : Style) (k : ℕ) (s : State) (n i : ℕ) (out l : List ℕ) → i + length l ≤ k + 1 → Inside k (read_from f s n k i out l).read
+unfolding read_from
 inside-from f k s n i out [] h = inside-end k s n out
 inside-from f k s n i out (x ∷ xs) h =
     go (take_of f s x n out).turn (take_of f s x n out).out (λ t m out'. inside-from f k t m (i + 1) out' xs (omega arith))
   where
-    go : (r : Turn) (out' : List ℕ) → ((t : State) (m : ℕ) (out'' : List ℕ) → Inside k (readFrom f t m k (i + 1) out'' xs).read)
-        → Inside k (onward r i out' (λ t m. readFrom f t m k (i + 1) out' xs)).read
+    go : (r : Turn) (out' : List ℕ) → ((t : State) (m : ℕ) (out'' : List ℕ) → Inside k (read_from f t m k (i + 1) out'' xs).read)
+        → Inside k (onward r i out' (λ t m. read_from f t m k (i + 1) out' xs)).read
     go (turns.Go t m) out' q = q t m out'
     go (turns.Bad w) out' q = omega arith
     go turns.Long out' q = tt

@@ -11,7 +11,7 @@ use Rattle.dumps.specs.declared.state.State.{State}
 use Rattle.dumps.specs.States.{begun}
 use Rattle.dumps.specs.declared.Turn.{Turn}
 use Rattle.dumps.specs.declared.Turn.TheVariants as turns
-use Rattle.dumps.specs.Dumps.{Ended, end_of, take_of, readFrom, read_of}
+use Rattle.dumps.specs.Dumps.{Ended, end_of, take_of, read_from, read_of}
 use Rattle.dumps.specs.DumpsLaws.{Within, take-kept, from-go, from-bad, from-long}
 use Rattle.dumps.specs.Shows.{Lines, done, Shows, Told}
 use Rattle.dumps.specs.Steps.{Result}
@@ -38,9 +38,9 @@ end-octets s n size m out bs e r =
     ap (λ (k : ℕ). take k out) w ∙ o
 
 module _ (f : Style) (size m : ℕ) (bs : List ℕ) where
-  at-end : Claim f size m bs []
-  unfolding readFrom
-  at-end stood s n i out pre os last star (places.start v a b) c r = rest star refl
+  at_end : Claim f size m bs []
+  unfolding read_from
+  at_end stood s n i out pre os last star (places.start v a b) c r = rest star refl
     where
       rest : (g : Bool) → star ≡ g → Lines f stood star os last (pre ++ []) bs
       rest true e = absurd (star-bad s n size m out bs (a.pending ∙ e) r)
@@ -48,23 +48,23 @@ module _ (f : Style) (size m : ℕ) (bs : List ℕ) where
           let w : os ≡ bs = sym a.octets ∙ end-octets s n size m out bs (a.pending ∙ e) r in
           subst (λ (p : List ℕ). Lines f stood star os last (p ++ []) bs) (sym (c refl))
           (subst (λ (g : Bool). Lines f stood g os last [] bs) (sym e) (subst (Lines f stood false os last []) w done))
-  at-end stood s n i out pre os last star (places.ended v g u d q l) c r =
+  at_end stood s n i out pre os last star (places.ended v g u d q l) c r =
       subst (Lines f stood star os last (pre ++ [])) (end-octets s n size m out bs q r) (l [] tt)
-  at-end stood s n i out pre os last star (places.prefix _ _ _ _ _ _) c r = absurd (c refl)
-  at-end stood s n i out pre os last star (places.offset _ _ _ _ _ _ _ _ _ _) c r = absurd (c refl)
-  at-end stood s n i out pre os last star (places.stars _ _ _ _ _ _ _ _ _) c r = absurd (c refl)
-  at-end stood s n i out pre os last star (places.gap _ _ _ _ _) c r = absurd (c refl)
-  at-end stood s n i out pre os last star (places.after _ _ _ _ _ _) c r = absurd (c refl)
-  at-end stood s n i out pre os last star (places.high _ _ _ _ _ _ _ _ _ _ _) c r = absurd (c refl)
-  at-end stood s n i out pre os last star (places.low _ _ _ _ _) c r = absurd (c refl)
-  at-end stood s n i out pre os last star (places.one _ _ _ _ _ _) c r = absurd (c refl)
-  at-end stood s n i out pre os last star (places.more _ _ _ _ _ _ _) c r = absurd (c refl)
-  at-end stood s n i out pre os last star (places.text _ _ _ _ _ _ _ _) c r = absurd (c refl)
-  at-end stood s n i out pre os last star (places.closed _ _ _ _ _) c r = absurd (c refl)
+  at_end stood s n i out pre os last star (places.prefix _ _ _ _ _ _) c r = absurd (c refl)
+  at_end stood s n i out pre os last star (places.offset _ _ _ _ _ _ _ _ _ _) c r = absurd (c refl)
+  at_end stood s n i out pre os last star (places.stars _ _ _ _ _ _ _ _ _) c r = absurd (c refl)
+  at_end stood s n i out pre os last star (places.gap _ _ _ _ _) c r = absurd (c refl)
+  at_end stood s n i out pre os last star (places.after _ _ _ _ _ _) c r = absurd (c refl)
+  at_end stood s n i out pre os last star (places.high _ _ _ _ _ _ _ _ _ _ _) c r = absurd (c refl)
+  at_end stood s n i out pre os last star (places.low _ _ _ _ _) c r = absurd (c refl)
+  at_end stood s n i out pre os last star (places.one _ _ _ _ _ _) c r = absurd (c refl)
+  at_end stood s n i out pre os last star (places.more _ _ _ _ _ _ _) c r = absurd (c refl)
+  at_end stood s n i out pre os last star (places.text _ _ _ _ _ _ _ _) c r = absurd (c refl)
+  at_end stood s n i out pre os last star (places.closed _ _ _ _ _) c r = absurd (c refl)
 
   -- one character, at any place
   one_on : (x : ℕ) (xs : List ℕ) → Claim f size m bs xs → (xs ≡ [] → x ≡ 10) → (stood : Bool) (s : State) (n i : ℕ) (out pre os last : List ℕ) (star : Bool)
-      → Place f stood s n out pre os last star → Result (readFrom f s n size i out (x ∷ xs)) m bs → Lines f stood star os last (pre ++ (x ∷ xs)) bs
+      → Place f stood s n out pre os last star → Result (read_from f s n size i out (x ∷ xs)) m bs → Lines f stood star os last (pre ++ (x ∷ xs)) bs
   one_on x xs on end stood s n i out pre os last star p r = by p
     where
       here : Next f stood size m bs x xs s n i out pre os last star
@@ -87,7 +87,7 @@ module _ (f : Style) (size m : ℕ) (bs : List ℕ) where
 
   -- a text with a line break after it
   all-on : (t : List ℕ) → Claim f size m bs (t ++ (10 ∷ []))
-  all-on [] stood s n i out pre os last star p c r = one_on 10 [] at-end (λ _. refl) stood s n i out pre os last star p r
+  all-on [] stood s n i out pre os last star p c r = one_on 10 [] at_end (λ _. refl) stood s n i out pre os last star p r
   all-on (x ∷ t) stood s n i out pre os last star p c r =
       one_on x (t ++ (10 ∷ [])) (all-on t) (more t) stood s n i out pre os last star p r
     where
@@ -117,8 +117,8 @@ read-shows f text out m e =
 -- ---- what is a dump is read
 
 -- reading leaves the buffer as long as it was
-kept : (f : Style) (size : ℕ) (xs : List ℕ) (s : State) (n i : ℕ) (out : List ℕ) → n ≤ length out → length (readFrom f s n size i out xs).out ≡ length out
-unfolding readFrom
+kept : (f : Style) (size : ℕ) (xs : List ℕ) (s : State) (n i : ℕ) (out : List ℕ) → n ≤ length out → length (read_from f s n size i out xs).out ≡ length out
+unfolding read_from
 kept f size [] s n i out h = go s.star refl
   where
     go : (g : Bool) → s.star ≡ g → length (end_of s n size out).out ≡ length out
@@ -128,8 +128,8 @@ kept f size (x ∷ xs) s n i out h = go (take_of f s x n out).turn refl (λ t k.
   where
     go : (q : Turn) → (take_of f s x n out).turn ≡ q
         → ((t : State) (k : ℕ) → k ≤ length (take_of f s x n out).out
-        → length (readFrom f t k size (i + 1) (take_of f s x n out).out xs).out ≡ length (take_of f s x n out).out)
-        → length (readFrom f s n size i out (x ∷ xs)).out ≡ length out
+        → length (read_from f t k size (i + 1) (take_of f s x n out).out xs).out ≡ length (take_of f s x n out).out)
+        → length (read_from f s n size i out (x ∷ xs)).out ≡ length out
     go (turns.Go t k) e ih =
         let a = take-kept f s x n out h in
         let b : k ≤ length out = subst (λ (q : Turn). Within q (length out)) e a.few in

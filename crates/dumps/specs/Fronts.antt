@@ -13,7 +13,7 @@ use Rattle.dumps.specs.declared.state.Class.TheVariants as class
 use Rattle.dumps.specs.Mode as mode
 use Rattle.dumps.specs.States as states
 use Rattle.dumps.specs.States.{class_of}
-use Rattle.dumps.specs.Dumps.{readFrom, repeatedOf}
+use Rattle.dumps.specs.Dumps.{read_from, repeated_of}
 use Rattle.dumps.specs.DumpsLaws.{repeated-length}
 use Rattle.dumps.specs.Shows as shows
 use Rattle.dumps.specs.Shows.{Blank, Blanks, Bare, Number, Prefix, Mark, Offset, pair, times, Before, Front, Lines}
@@ -89,18 +89,18 @@ module _ {f : Style} {size m : ℕ} {bs : List ℕ} {x : ℕ} {xs : List ℕ} {s
       (subst (λ (l : List ℕ). Lines f stood star os last l bs) (sym (ap (λ (l : List ℕ). l ++ (10 ∷ xs)) e ∙ append_assoc p (42 ∷ q) (10 ∷ xs)))
       (subst (λ (t : Bool). Lines f stood t os last (p ++ (42 ∷ (q ++ (10 ∷ xs)))) bs) (sym w)
       (shows.star p q b d l
-      (here.on stood (states.starredBy class.Break s) n (i + 1) out [] os last true (places.start refl starred tt) (λ _. refl)
-      (moves-to here (states.starredBy class.Break s) (at class.Break c) a.good a.filled (λ z. absurd (omega arith))))))))
+      (here.on stood (states.starred_by class.Break s) n (i + 1) out [] os last true (places.start refl starred tt) (λ _. refl)
+      (moves-to here (states.starred_by class.Break s) (at class.Break c) a.good a.filled (λ z. absurd (omega arith))))))))
       (λ c z y.
       keep here s (at class.Blank c) a.good a.filled (λ z. absurd (omega arith)) y
       (places.stars v a w l p (q ++ (x ∷ [])) b (blanks-more q x d z) (snoc-two p (42 ∷ q) x e)))
       (λ c z y. bad-form here (at class.Digit c))
       (λ c z y. bad-form here (at class.Other c))
     where
-      at : (k : Class) → class_of x ≡ k → states.starredBy k s ≡ then f s x n out
+      at : (k : Class) → class_of x ≡ k → states.starred_by k s ≡ then f s x n out
       at k c = moves.at-star f x n (get_or out s.beside 0) s k c v
 
-      starred : FrontOf stood (states.starredBy class.Break s) n out os last true
+      starred : FrontOf stood (states.starred_by class.Break s) n out os last true
       starred = record {
         good = a.good;
         filled = a.filled;
@@ -134,7 +134,7 @@ module _ {f : Style} {size m : ℕ} {bs : List ℕ} {x : ℕ} {xs : List ℕ} {s
   counting : (wrap : State → State) → ((u : State) → (wrap u).why ≡ u.why) → ((u : State) → (wrap u).upto ≡ u.upto)
       → ((u : State) → (wrap u).before ≡ u.before) → ((u : State) → u.mode ≡ mode.after → (wrap u).mode ≡ mode.low → ⊥)
       → wrap (states.counted f n s) ≡ then f s x n out → FrontOf stood s n out os last star
-      → ((u : State) (k : ℕ) (o : List ℕ) → Counted u k o → Result (readFrom f (wrap u) k size (i + 1) o xs) m bs
+      → ((u : State) (k : ℕ) (o : List ℕ) → Counted u k o → Result (read_from f (wrap u) k size (i + 1) o xs) m bs
       → Lines f stood star os last (pre ++ (x ∷ xs)) bs)
       → Lines f stood star os last (pre ++ (x ∷ xs)) bs
   counting wrap w v b l e a go =
@@ -173,7 +173,7 @@ module _ {f : Style} {size m : ℕ} {bs : List ℕ} {x : ℕ} {xs : List ℕ} {s
           let found : Facts t s.value s.before =
           subst (λ (k : ℕ). Facts t s.value k) (b t) (subst (λ (j : ℕ). Facts t j (wrap t).before) (v t) facts)
           in
-          let o : List ℕ = repeatedOf (s.value - n) s.before n out in
+          let o : List ℕ = repeated_of (s.value - n) s.before n out in
           let lines = copies s.before n s.value out found.0 h found.2 found.1 in
           let now : take s.value o ≡ os ++ times (suc lines.number) last =
           lines.is
@@ -201,7 +201,7 @@ module _ {f : Style} {size m : ℕ} {bs : List ℕ} {x : ℕ} {xs : List ℕ} {s
         where
           Facts : State → ℕ → ℕ → Type 0
           Facts t j k =
-              (k < n) × ((j - n) % (n - k) ≡ 0) × (j ≤ length out) × Result (readFrom f (wrap t) j size (i + 1) (repeatedOf (j - n) k n out) xs) m bs
+              (k < n) × ((j - n) % (n - k) ≡ 0) × (j ≤ length out) × Result (read_from f (wrap t) j size (i + 1) (repeated_of (j - n) k n out) xs) m bs
 
   lined-counted : {u : State} {k : ℕ} {o : List ℕ} → Counted u k o → LineOf f stood u k o (take k o) []
   lined-counted {u} {k} {o} c =
@@ -228,7 +228,7 @@ module _ {f : Style} {size m : ℕ} {bs : List ℕ} {x : ℕ} {xs : List ℕ} {s
 
   module _ (v : s.mode ≡ mode.offset) (a : FrontOf stood s n out os last star) (p u ds : List ℕ) (b : Blanks p) (q : Prefix f u) (d : Number ds s.value)
       (z : length ds ≡ s.digits) (e : pre ≡ p ++ (u ++ ds)) where
-    at_offset : (k : Class) → class_of x ≡ k → states.offsetBy k f x n s ≡ then f s x n out
+    at_offset : (k : Class) → class_of x ≡ k → states.offset_by k f x n s ≡ then f s x n out
     at_offset k c = moves.at_offset f x n (get_or out s.beside 0) s k c v
 
     counts : {t : State} {k : ℕ} {o : List ℕ} → Counted t k o → Offset f (length (take k o)) (u ++ ds)
@@ -302,8 +302,8 @@ module _ {f : Style} {size m : ℕ} {bs : List ℕ} {x : ℕ} {xs : List ℕ} {s
   -- ---- after it
 
   module _ (now : List ℕ) (a : LineOf f stood s n out now []) (c : Aside f s.beside now []) (w : Front f star os last now pre) where
-    abbrev front-more : Blank x → Front f star os last now (pre ++ (x ∷ []))
-    front-more b = record {
+    abbrev front_more : Blank x → Front f star os last now (pre ++ (x ∷ []))
+    front_more b = record {
       first = w.first;
       offset = w.offset;
       mark = w.mark;
@@ -337,11 +337,11 @@ module _ {f : Style} {size m : ℕ} {bs : List ℕ} {x : ℕ} {xs : List ℕ} {s
         (λ k y. alone-here y (at class.Break k))
         (λ k y h.
         keep here (states.to mode.after s) (at class.Blank k) a.good a.filled (λ z. absurd (omega arith)) h
-        (places.after refl now a c (front-more y) (omega (arith, length-append w.then (x ∷ [])))))
+        (places.after refl now a c (front_more y) (omega (arith, length-append w.then (x ∷ [])))))
         (λ k _ _. bad-form here (at class.Digit k))
         (λ k _ _. bad-form here (at class.Other k))
       where
-        at : (k : Class) → class_of x ≡ k → states.gapBy k f s ≡ then f s x n out
+        at : (k : Class) → class_of x ≡ k → states.gap_by k f s ≡ then f s x n out
         at k c = moves.at_gap f x n (get_or out s.beside 0) s k c v
 
     pub from-after : s.mode ≡ mode.after → 1 ≤ length w.then → Lines f stood star os last (pre ++ (x ∷ xs)) bs
@@ -350,12 +350,12 @@ module _ {f : Style} {size m : ℕ} {bs : List ℕ} {x : ℕ} {xs : List ℕ} {s
         (λ k y. alone-here y (at class.Break k))
         (λ k y h.
         keep here s (at class.Blank k) a.good a.filled (λ z. absurd (omega arith)) h
-        (places.after v now a c (front-more y) (omega (arith, length-append w.then (x ∷ [])))))
+        (places.after v now a c (front_more y) (omega (arith, length-append w.then (x ∷ [])))))
         (λ k y h.
         keep here (states.high false x s) (at class.Digit k) a.good a.filled (λ z. absurd (omega arith)) h
         (places.high refl now [] pre (x ∷ []) a c w j
         (λ g q d. let l = digit-small x y in shows.first (pair (digit-says x y) d (omega arith))) refl))
         (λ k _ _. bad-form here (at class.Other k))
       where
-        at : (k : Class) → class_of x ≡ k → states.afterBy k f x s ≡ then f s x n out
+        at : (k : Class) → class_of x ≡ k → states.after_by k f x s ≡ then f s x n out
         at k c = moves.at_after f x n (get_or out s.beside 0) s k c v

@@ -12,8 +12,8 @@ use Rattle.dumps.specs.declared.state.Class.{Class}
 use Rattle.dumps.specs.declared.state.Class.TheVariants as class
 use Rattle.dumps.specs.Mode as mode
 use Rattle.dumps.specs.States as states
-use Rattle.dumps.specs.States.{class_of, shownOf}
-use Rattle.dumps.specs.Dumps.{readFrom}
+use Rattle.dumps.specs.States.{class_of, shown_of}
+use Rattle.dumps.specs.Dumps.{read_from}
 use Rattle.dumps.specs.Shows as shows
 use Rattle.dumps.specs.Shows.{Blank, Blanks, Shown, Faint, pair, Gap, Octets, Text, Column, Without, End, Front, Lines}
 use Rattle.dumps.specs.Moves as moves
@@ -52,7 +52,7 @@ module _ {f : Style} {size m : ℕ} {bs : List ℕ} {x : ℕ} {xs : List ℕ} {s
         } in
         line_on here t (n + 1) (set out n (whole x s)) (places.low v b (sym z) aside (snoc-two h u x e))
         (λ y. let r = here.end y in absurd (digit-no-break x d r))
-        (subst (λ (b : ℕ). Result (readFrom f t (n + 1) size (i + 1) (set out n b) xs) m bs) o k.1)
+        (subst (λ (b : ℕ). Result (read_from f t (n + 1) size (i + 1) (set out n b) xs) m bs) o k.1)
 
     pub from-high : s.mode ≡ mode.high → Lines f stood star os last (pre ++ (x ∷ xs)) bs
     from-high v =
@@ -160,7 +160,7 @@ module _ {f : Style} {size m : ℕ} {bs : List ℕ} {x : ℕ} {xs : List ℕ} {s
         (snoc-two b.h b.u x p))))
         (λ k _ _. bad-form here (at class.Other k))
       where
-        at : (k : Class) → class_of x ≡ k → states.octetBy k f x n s ≡ then f s x n out
+        at : (k : Class) → class_of x ≡ k → states.octet_by k f x n s ≡ then f s x n out
         at k c = moves.at_low f x n (get_or out s.beside 0) s k c v
 
     pub from_one : s.mode ≡ mode.one → Aside f s.beside b.now b.cs → (z : ℕ) → Blank z → pre ≡ b.h ++ (b.u ++ (z ∷ []))
@@ -174,7 +174,7 @@ module _ {f : Style} {size m : ℕ} {bs : List ℕ} {x : ℕ} {xs : List ℕ} {s
         (λ k d y. spaced c (z ∷ []) (record { blank = (g, tt); some = omega arith; one = λ _. refl }) p d y (at class.Digit k))
         (λ k _ _. bad-form here (at class.Other k))
       where
-        at : (k : Class) → class_of x ≡ k → states.oneBy k f x n s ≡ then f s x n out
+        at : (k : Class) → class_of x ≡ k → states.one_by k f x n s ≡ then f s x n out
         at k c = moves.at_one f x n (get_or out s.beside 0) s k c v
 
     -- ---- its text column
@@ -219,7 +219,7 @@ module _ {f : Style} {size m : ℕ} {bs : List ℕ} {x : ℕ} {xs : List ℕ} {s
         further : (t : List ℕ) → Text f (drop k b.cs) (x ∷ t) → End f b.cs stood true (c ++ (x ∷ []) ++ t)
         further t v = subst (End f b.cs stood true) (sym (append_snoc c x t)) (l (x ∷ t) v)
 
-        one_more : x ≡ shownOf f.prefix (get_or out s.beside 0) → k < length b.cs → {o : List ℕ} → Text f (drop (k + 1) b.cs) o
+        one_more : x ≡ shown_of f.prefix (get_or out s.beside 0) → k < length b.cs → {o : List ℕ} → Text f (drop (k + 1) b.cs) o
             → Text f (drop k b.cs) (x ∷ o)
         one_more z a {o} v =
             let d : get_or out s.beside 0 ≡ get_or b.cs k 0 = ap (λ (i : ℕ). get_or out i 0) w ∙ lined-at b.lined k a in
@@ -227,7 +227,7 @@ module _ {f : Style} {size m : ℕ} {bs : List ℕ} {x : ℕ} {xs : List ℕ} {s
             drop-cons b.cs k 0 a ∙ ap (λ (i : ℕ). get_or b.cs k 0 ∷ drop i b.cs) (sym (add-one k))
             in
             subst (λ (r : List ℕ). Text f r (x ∷ o)) (sym q)
-            (shows.shows (shown-says f (get_or b.cs k 0) x (z ∙ ap (shownOf f.prefix) d)) v)
+            (shows.shows (shown-says f (get_or b.cs k 0) x (z ∙ ap (shown_of f.prefix) d)) v)
 
     pub from-text : s.mode ≡ mode.text → (k : ℕ) → s.beside ≡ length b.now + k → k ≤ length b.cs → (c : List ℕ)
         → ((t : List ℕ) → Text f (drop k b.cs) t → End f b.cs stood true (c ++ t)) → pre ≡ b.h ++ (b.u ++ c)
@@ -279,7 +279,7 @@ module _ {f : Style} {size m : ℕ} {bs : List ℕ} {x : ℕ} {xs : List ℕ} {s
         (λ k _ _. bad-form here (at class.Digit k))
         (λ k _ _. bad-form here (at class.Other k))
       where
-        at : (k : Class) → class_of x ≡ k → states.restBy k n s ≡ then f s x n out
+        at : (k : Class) → class_of x ≡ k → states.rest_by k n s ≡ then f s x n out
         at k c = moves.at-closed f x n (get_or out s.beside 0) s k c v
 
     pub from_more : s.mode ≡ mode.more → Aside f s.beside b.now b.cs → (q : List ℕ) → Blanks q → 2 ≤ length q → pre ≡ b.h ++ (b.u ++ q)
@@ -309,7 +309,7 @@ module _ {f : Style} {size m : ℕ} {bs : List ℕ} {x : ℕ} {xs : List ℕ} {s
         (shows.beside q g two (subst (λ (y : ℕ). Column f b.cs (y ∷ t)) (sym w) (shows.fenced o j))))
         (snoc-three b.h b.u q x p)))))
       where
-        at : (k : Class) → class_of x ≡ k → states.moreBy k f x n (get_or out s.beside 0) s ≡ then f s x n out
+        at : (k : Class) → class_of x ≡ k → states.more_by k f x n (get_or out s.beside 0) s ≡ then f s x n out
         at k c = moves.at_more f x n (get_or out s.beside 0) s k c v
 
         free : f.opening ≡ 0 → (t : List ℕ) → Text f (drop c.index b.cs) t → End f b.cs stood true (q ++ t)

@@ -8,7 +8,7 @@ use Rattle.dumps.specs.declared.state.State.{State}
 use Rattle.dumps.specs.Mode as mode
 use Rattle.dumps.specs.States as states
 use Rattle.dumps.specs.States.{moved}
-use Rattle.dumps.specs.Dumps.{readFrom}
+use Rattle.dumps.specs.Dumps.{read_from}
 use Rattle.dumps.specs.Shows.{Lines}
 use Rattle.dumps.specs.Steps.{Result, step-bad, step-on}
 use Rattle.dumps.specs.Places.{Place, Rests}
@@ -17,14 +17,14 @@ module _ (f : Style) (size m : ℕ) (bs : List ℕ) where
   -- from any place, the rest of the text shows the octets
   abbrev pub Claim : List ℕ → Type 0
   Claim xs = (stood : Bool) (s : State) (n i : ℕ) (out pre os last : List ℕ) (star : Bool) (p : Place f stood s n out pre os last star) → (xs ≡ [] → Rests p)
-      → Result (readFrom f s n size i out xs) m bs → Lines f stood star os last (pre ++ xs) bs
+      → Result (read_from f s n size i out xs) m bs → Lines f stood star os last (pre ++ xs) bs
 
 -- the character x comes next; after it the rest is shown, and only a line break is the last
 pub record Next (f : Style) (stood : Bool) (size m : ℕ) (bs : List ℕ) (x : ℕ) (xs : List ℕ) (s : State) (n i : ℕ)
     (out pre os last : List ℕ) (star : Bool) : Type 0 where
   pub on : Claim f size m bs xs
   pub end : xs ≡ [] → x ≡ 10
-  pub result : Result (readFrom f s n size i out (x ∷ xs)) m bs
+  pub result : Result (read_from f s n size i out (x ∷ xs)) m bs
 
 -- the state then
 abbrev pub then : Style → State → ℕ → ℕ → List ℕ → State
@@ -43,12 +43,12 @@ module _ {f : Style} {size m : ℕ} {bs : List ℕ} {x : ℕ} {xs : List ℕ} {s
 
   -- the line goes on
   pub line_on : (t : State) (k : ℕ) (o : List ℕ) (p : Place f stood t k o (pre ++ (x ∷ [])) os last star) → (xs ≡ [] → Rests p)
-      → Result (readFrom f t k size (i + 1) o xs) m bs → Lines f stood star os last (pre ++ (x ∷ xs)) bs
+      → Result (read_from f t k size (i + 1) o xs) m bs → Lines f stood star os last (pre ++ (x ∷ xs)) bs
   line_on t k o p c q =
       subst (λ (l : List ℕ). Lines f stood star os last l bs) (append_snoc pre x xs) (at.on stood t k (i + 1) o (pre ++ (x ∷ [])) os last star p c q)
 
   pub moves-to : (t : State) → t ≡ then f s x n out → t.why ≡ 0 → t.upto ≤ n → (t.mode ≡ mode.low → ⊥)
-      → Result (readFrom f t n size (i + 1) out xs) m bs
+      → Result (read_from f t n size (i + 1) out xs) m bs
   moves-to t e w u l = step-on f s x n size i out xs m bs at.result t e w u l
 
   pub keep : (t : State) → t ≡ then f s x n out → t.why ≡ 0 → t.upto ≤ n → (t.mode ≡ mode.low → ⊥) → (x ≡ 10 → ⊥)

@@ -1,7 +1,7 @@
 -- How a text is read as octets, for one character of it: from what follows it back to it. Assumes nothing.
 use Rattle.std.specs.Prelude.{◌≡◌, refl, Bool, true, false, List, ◌∷◌, ℕ, ◌+◌, ◌-◌, ◌*◌, ◌%◌, ◌≤◌, ◌<◌, length, get_or, set}
 use Rattle.std.proofs.Common.{sym, ap, subst, ◌∙◌, arith}
-use borrow.Author.Tests.{le-leb, lt-leb, lt-ltb, le-ltb, eq-eqb, ne_eqb}
+use borrow.Author.Tests.{le-leb, lt-leb, lt-ltb, le-ltb, eq-eq, ne_eqb}
 use Rattle.hexes.specs.Hexes.{digit}
 use Rattle.hexes.specs.Hexes as hexes
 use Rattle.hexes.specs.HexesLaws.{value-decimal, value-upper, value-lower, digit-decimal, digit-upper, digit-lower}
@@ -13,22 +13,22 @@ use Rattle.dumps.specs.declared.state.State.{State}
 use Rattle.dumps.specs.declared.state.Class.TheVariants as class
 use Rattle.dumps.specs.Mode as mode
 use Rattle.dumps.specs.States as states
-use Rattle.dumps.specs.States.{class_of, shownOf, moved}
-use Rattle.dumps.specs.Dumps.{repeatedOf, take_of, Turned, Ended, readFrom}
+use Rattle.dumps.specs.States.{class_of, shown_of, moved}
+use Rattle.dumps.specs.Dumps.{repeated_of, take_of, Turned, Ended, read_from}
 use Rattle.dumps.specs.DumpsLaws.{fill_none, fill-whole, lay-none, lay-one, take-laid, from-go}
-use Rattle.dumps.specs.Shows.{Blank, space, tab, carriage-return, Shown, printed, control, beyond, dotted}
+use Rattle.dumps.specs.Shows.{Blank, space, tab, carriage_return, Shown, printed, control, beyond, dotted}
 use Rattle.dumps.specs.Steps.{Result}
 
 -- read from here on, the text comes to the m octets bs
 abbrev pub Good : Style → State → ℕ → List ℕ → List ℕ → ℕ → List ℕ → Type 0
-Good f s n out xs m bs = (size i : ℕ) → Result (readFrom f s n size i out xs) m bs
+Good f s n out xs m bs = (size i : ℕ) → Result (read_from f s n size i out xs) m bs
 
 module _ (f : Style) (s : State) (x n : ℕ) (out xs : List ℕ) (m : ℕ) (bs : List ℕ) where
   back : {q : Turn} {out' : List ℕ} → Turned (take_of f s x n out) q out' → {u : State} {k : ℕ} → q ≡ turns.Go u k → Good f u k out' xs m bs
       → Good f s n out (x ∷ xs) m bs
   back t {u} {k} g r size i =
       subst (λ (d : Ended). Result d m bs)
-      (sym (from-go f s x n size i out xs u k (sym t.answered ∙ g) ∙ ap (λ (o : List ℕ). readFrom f u k size (i + 1) o xs) (sym t.leaves)))
+      (sym (from-go f s x n size i out xs u k (sym t.answered ∙ g) ∙ ap (λ (o : List ℕ). read_from f u k size (i + 1) o xs) (sym t.leaves)))
       (r size (i + 1))
 
   module _ (t : State) (e : t ≡ moved f x n (get_or out s.beside 0) s) (h : t.why ≡ 0) where
@@ -40,11 +40,11 @@ module _ (f : Style) (s : State) (x n : ℕ) (out xs : List ℕ) (m : ℕ) (bs :
     back-octet l k j r = back (take-laid f s x n out e refl h (fill_none t.before n t.upto out l) refl (lay-one t n out k j)) refl r
 
     pub back-fill : n < t.upto → (t.mode ≡ mode.low → ⊥) → t.before < n → (t.upto - n) % (n - t.before) ≡ 0 → t.upto ≤ length out
-        → Good f t t.upto (repeatedOf (t.upto - n) t.before n out) xs m bs → Good f s n out (x ∷ xs) m bs
+        → Good f t t.upto (repeated_of (t.upto - n) t.before n out) xs m bs → Good f s n out (x ∷ xs) m bs
     back-fill l k j d v r =
         back
         (take-laid f s x n out e refl h (fill-whole t.before n t.upto out l j d v refl) refl
-        (lay-none t t.upto (repeatedOf (t.upto - n) t.before n out) k))
+        (lay-none t t.upto (repeated_of (t.upto - n) t.before n out) k))
         refl r
 
 -- ---- characters
@@ -66,7 +66,7 @@ pub class-blank : {x : ℕ} → Blank x → class_of x ≡ class.Blank
 unfolding class_of digit
 class-blank (space e) = rw e
 class-blank (tab e) = rw e
-class-blank (carriage-return e) = rw e
+class-blank (carriage_return e) = rw e
 
 pub class-star : class_of 42 ≡ class.Other
 unfolding class_of digit
@@ -76,11 +76,11 @@ pub class-colon : class_of 58 ≡ class.Other
 unfolding class_of digit
 class-colon = refl
 
-pub shown-is : {f : Style} {b x : ℕ} → Shown f b x → x ≡ shownOf f.prefix b
-unfolding shownOf
+pub shown-is : {f : Style} {b x : ℕ} → Shown f b x → x ≡ shown_of f.prefix b
+unfolding shown_of
 shown-is {f} {b} {x} (printed h k d e) = go f.prefix refl
   where
-    go : (g : Bool) → f.prefix ≡ g → x ≡ shownOf f.prefix b
+    go : (g : Bool) → f.prefix ≡ g → x ≡ shown_of f.prefix b
     go true p = rw (le-ltb b 32 h, le-ltb 126 b k, p, ne_eqb b 32 (d p)) e
     go false p = rw (le-ltb b 32 h, le-ltb 126 b k, p) e
 shown-is {f} {b} {x} (control h e) = rw (lt-ltb b 32 h) e
@@ -88,7 +88,7 @@ shown-is {f} {b} {x} (beyond h e) = let k : 32 ≤ b = omega arith in rw (le-ltb
 shown-is {f} {b} {x} (dotted p z e) =
     let h : 32 ≤ b = omega arith in
     let k : b ≤ 126 = omega arith in
-    rw (le-ltb b 32 h, le-ltb 126 b k, p, eq-eqb b 32 z) e
+    rw (le-ltb b 32 h, le-ltb 126 b k, p, eq-eq b 32 z) e
 
 pub shown-range : {f : Style} {b x : ℕ} → Shown f b x → (32 ≤ x) × (x ≤ 126)
 shown-range {f} {b} {x} (printed h k d e) = (omega arith, omega arith)
@@ -105,76 +105,76 @@ module _ (f : Style) (x n b : ℕ) (s : State) where
 
   pub first-zero : s.ended ≡ false → f.prefix ≡ true → x ≡ 48 → states.to mode.prefix s ≡ states.first f x s
   unfolding states.first
-  first-zero e p z = rw (e, p, eq-eqb x 48 z)
+  first-zero e p z = rw (e, p, eq-eq x 48 z)
 
   pub prefixed-x : x ≡ 120 → states.to mode.offset (states.reading 0 0 s) ≡ states.prefixed x s
   unfolding states.prefixed
-  prefixed-x z = rw (eq-eqb x 120 z)
+  prefixed-x z = rw (eq-eq x 120 z)
 
   pub further-on : s.digits < f.digits → s.value ≤ 65535
       → states.reading (s.digits + 1) (16 * s.value + hexes.value x) s ≡ states.further f x s
   unfolding states.further
   further-on h k = rw (lt-leb f.digits s.digits h, le-ltb 65535 s.value k)
 
-  pub low-solid : digit x ≡ true → (shownOf f.prefix (s.octet % 16 * 16 + hexes.value x) ≡ 32 → ⊥)
+  pub low-solid : digit x ≡ true → (shown_of f.prefix (s.octet % 16 * 16 + hexes.value x) ≡ 32 → ⊥)
       → states.complete (s.octet % 16 * 16 + hexes.value x) (states.showing n s) ≡ states.low f x n s
   unfolding states.low
-  low-solid d h = rw (d, ne_eqb (shownOf f.prefix (s.octet % 16 * 16 + hexes.value x)) 32 h)
+  low-solid d h = rw (d, ne_eqb (shown_of f.prefix (s.octet % 16 * 16 + hexes.value x)) 32 h)
 
-  pub low-front : digit x ≡ true → shownOf f.prefix (s.octet % 16 * 16 + hexes.value x) ≡ 32 → s.beside ≡ n
+  pub low-front : digit x ≡ true → shown_of f.prefix (s.octet % 16 * 16 + hexes.value x) ≡ 32 → s.beside ≡ n
       → states.complete (s.octet % 16 * 16 + hexes.value x) (states.column (n + 1) s) ≡ states.low f x n s
   unfolding states.low
-  low-front d h e = rw (d, eq-eqb (shownOf f.prefix (s.octet % 16 * 16 + hexes.value x)) 32 h, eq-eqb s.beside n e)
+  low-front d h e = rw (d, eq-eq (shown_of f.prefix (s.octet % 16 * 16 + hexes.value x)) 32 h, eq-eq s.beside n e)
 
-  pub low-faint : digit x ≡ true → shownOf f.prefix (s.octet % 16 * 16 + hexes.value x) ≡ 32 → (s.beside ≡ n → ⊥)
+  pub low-faint : digit x ≡ true → shown_of f.prefix (s.octet % 16 * 16 + hexes.value x) ≡ 32 → (s.beside ≡ n → ⊥)
       → states.complete (s.octet % 16 * 16 + hexes.value x) s ≡ states.low f x n s
   unfolding states.low
-  low-faint d h e = rw (d, eq-eqb (shownOf f.prefix (s.octet % 16 * 16 + hexes.value x)) 32 h, ne_eqb s.beside n e)
+  low-faint d h e = rw (d, eq-eq (shown_of f.prefix (s.octet % 16 * 16 + hexes.value x)) 32 h, ne_eqb s.beside n e)
 
   pub past-blank : f.closing ≡ 0 → x ≡ 32 → s ≡ states.past f x s
   unfolding states.past
-  past-blank c z = rw (eq-eqb f.closing 0 c, eq-eqb x 32 z)
+  past-blank c z = rw (eq-eq f.closing 0 c, eq-eq x 32 z)
 
   pub past-closes : (f.closing ≡ 0 → ⊥) → x ≡ f.closing → states.to mode.closed s ≡ states.past f x s
   unfolding states.past
-  past-closes c z = rw (ne_eqb f.closing 0 c, eq-eqb x f.closing z)
+  past-closes c z = rw (ne_eqb f.closing 0 c, eq-eq x f.closing z)
 
   pub beside-over : n ≤ s.beside → states.past f x s ≡ states.beside f x n b s
   unfolding states.beside
   beside-over h = rw (le-leb n s.beside h)
 
-  pub beside-shows : s.beside < n → x ≡ shownOf f.prefix b → states.to mode.text (states.column (s.beside + 1) s) ≡ states.beside f x n b s
+  pub beside-shows : s.beside < n → x ≡ shown_of f.prefix b → states.to mode.text (states.column (s.beside + 1) s) ≡ states.beside f x n b s
   unfolding states.beside
-  beside-shows h z = rw (lt-leb n s.beside h, eq-eqb x (shownOf f.prefix b) z)
+  beside-shows h z = rw (lt-leb n s.beside h, eq-eq x (shown_of f.prefix b) z)
 
   pub fenced-on : x ≡ f.opening → states.to mode.text (states.column s.line s) ≡ states.fenced f x s
   unfolding states.fenced
-  fenced-on z = rw (eq-eqb x f.opening z)
+  fenced-on z = rw (eq-eq x f.opening z)
 
   pub broken-on : f.closing ≡ 0 → s.solid ≤ s.beside → states.columned n s ≡ states.broken f n s
   unfolding states.broken
-  broken-on c h = rw (eq-eqb f.closing 0 c, le-ltb s.beside s.solid h)
+  broken-on c h = rw (eq-eq f.closing 0 c, le-ltb s.beside s.solid h)
 
   pub text-returned : x ≡ 13 → s ≡ states.text f x n b s
   unfolding states.text
-  text-returned z = rw (eq-eqb x 13 z)
+  text-returned z = rw (eq-eq x 13 z)
 
   pub text-broken : x ≡ 10 → states.broken f n s ≡ states.text f x n b s
   unfolding states.text
-  text-broken z = let k : x ≡ 13 → ⊥ = λ q. absurd (omega arith) in rw (ne_eqb x 13 k, eq-eqb x 10 z)
+  text-broken z = let k : x ≡ 13 → ⊥ = λ q. absurd (omega arith) in rw (ne_eqb x 13 k, eq-eq x 10 z)
 
   pub text-beside : (x ≡ 13 → ⊥) → (x ≡ 10 → ⊥) → states.beside f x n b s ≡ states.text f x n b s
   unfolding states.text
   text-beside y z = rw (ne_eqb x 13 y, ne_eqb x 10 z)
 
-  pub more-digit : f.opening ≡ 0 → states.beside f x n b s ≡ states.moreBy class.Digit f x n b s
-  more-digit o = rw (eq-eqb f.opening 0 o)
+  pub more-digit : f.opening ≡ 0 → states.beside f x n b s ≡ states.more_by class.Digit f x n b s
+  more-digit o = rw (eq-eq f.opening 0 o)
 
-  pub more-next : (f.opening ≡ 0 → ⊥) → states.high false x s ≡ states.moreBy class.Digit f x n b s
+  pub more-next : (f.opening ≡ 0 → ⊥) → states.high false x s ≡ states.more_by class.Digit f x n b s
   more-next o = rw (ne_eqb f.opening 0 o)
 
-  pub more-other : f.opening ≡ 0 → states.beside f x n b s ≡ states.moreBy class.Other f x n b s
-  more-other o = rw (eq-eqb f.opening 0 o)
+  pub more-other : f.opening ≡ 0 → states.beside f x n b s ≡ states.more_by class.Other f x n b s
+  more-other o = rw (eq-eq f.opening 0 o)
 
-  pub more-fenced : (f.opening ≡ 0 → ⊥) → states.fenced f x s ≡ states.moreBy class.Other f x n b s
+  pub more-fenced : (f.opening ≡ 0 → ⊥) → states.fenced f x s ≡ states.more_by class.Other f x n b s
   more-fenced o = rw (ne_eqb f.opening 0 o)

@@ -12,7 +12,7 @@ use Rattle.dumps.specs.Mode as mode
 use Rattle.dumps.specs.States as states
 use Rattle.dumps.specs.States.{moved}
 use Rattle.dumps.specs.StatesLaws.{counted-star, counted-here}
-use Rattle.dumps.specs.Dumps.{repeatedOf}
+use Rattle.dumps.specs.Dumps.{repeated_of}
 use Rattle.dumps.specs.DumpsLaws.{repeated-length}
 use Rattle.dumps.specs.Shows as shows
 use Rattle.dumps.specs.Shows.{Blanks, Number, Prefix, Offset, Before, times, Told}
@@ -147,25 +147,25 @@ module _ (f : Style) (m : ℕ) (bs : List ℕ) (n : ℕ) (out os last : List ℕ
       sides : (k : ℕ) → k ≡ length now → Sides f k k now []
       sides k e = record {
         first = 0;
-        beside-is = e ∙ sym (add-zero (length now));
+        beside_is = e ∙ sym (add-zero (length now));
         few = omega arith;
         faint = tt;
         plain = λ h _. absurd (omega arith);
         last = 0;
-        solid-is = e ∙ sym (add-zero (length now));
+        solid_is = e ∙ sym (add-zero (length now));
         fewer = omega arith;
         clear = λ h _. absurd (omega arith);
       }
 
       fills : (u : State) → u ≡ moved f x n (get_or out t.beside 0) t → u.why ≡ 0 → u.upto ≡ t.value → u.before ≡ t.before
           → (u.mode ≡ mode.low → ⊥) → n < t.value → t.before < n → (t.value - n) % (n - t.before) ≡ 0 → t.value ≤ length out
-          → Good f u t.value (repeatedOf (t.value - n) t.before n out) rest m bs → Good f t n out (x ∷ rest) m bs
+          → Good f u t.value (repeated_of (t.value - n) t.before n out) rest m bs → Good f t n out (x ∷ rest) m bs
       fills u q g i j o y z c h r =
           back-fill f t x n out rest m bs u q g (subst (λ (k : ℕ). n < k) (sym i) y) o (subst (λ (k : ℕ). k < n) (sym j) z)
           (subst (λ (k : ℕ). (u.upto - n) % (n - k) ≡ 0) (sym j) (subst (λ (k : ℕ). (k - n) % (n - t.before) ≡ 0) (sym i) c))
           (subst (λ (k : ℕ). k ≤ length out) (sym i) h)
-          (subst (λ (k : ℕ). Good f u u.upto (repeatedOf (u.upto - n) k n out) rest m bs) (sym j)
-          (subst (λ (k : ℕ). Good f u k (repeatedOf (k - n) t.before n out) rest m bs) (sym i) r))
+          (subst (λ (k : ℕ). Good f u u.upto (repeated_of (u.upto - n) k n out) rest m bs) (sym j)
+          (subst (λ (k : ℕ). Good f u k (repeated_of (k - n) t.before n out) rest m bs) (sym i) r))
 
       after-star : star ≡ true → (k : ℕ) → now ≡ os ++ times (suc k) last → Good f t n out (x ∷ rest) m bs
       after-star q k r =
@@ -184,7 +184,7 @@ module _ (f : Style) (m : ℕ) (bs : List ℕ) (n : ℕ) (out os last : List ℕ
           let d₁ : (t.value - n) % (n - t.before) ≡ 0 = ap (λ (i : ℕ). i % (n - t.before)) h ∙ mul-mod_left (suc k) (n - t.before) in
           let r₁ : t.value ≤ length out = omega arith in
           let u : State = states.opened t.value (states.filled t.value t) in
-          let o : List ℕ = repeatedOf (t.value - n) t.before n out in
+          let o : List ℕ = repeated_of (t.value - n) t.before n out in
           let laid : take t.value o ≡ now ++ [] =
           copies_as t.before n t.value k out g g₁ r₁ h
           ∙ ap (λ (l : List ℕ). l ++ times (suc k) (drop t.before l)) a.octets

@@ -11,7 +11,7 @@ use Rattle.dumps.specs.Mode as mode
 use Rattle.dumps.specs.States as states
 use Rattle.dumps.specs.States.{class_of}
 use Rattle.dumps.specs.StatesLaws.{star-stands}
-use Rattle.dumps.specs.Dumps.{readFrom}
+use Rattle.dumps.specs.Dumps.{read_from}
 use Rattle.dumps.specs.Shows as shows
 use Rattle.dumps.specs.Shows.{Blanks, Bare, Mark, Before, times, Front, Alone, Lines, Told}
 use Rattle.dumps.specs.Moves as moves
@@ -49,7 +49,7 @@ lines_more (shows.alone t g a b) = before_more (alone-now a)
 module _ (f : Style) (m : ℕ) (bs : List ℕ) where
   -- at the end, after no star
   end-good : (s : State) (n : ℕ) (out : List ℕ) → s.star ≡ false → n ≡ m → take n out ≡ bs → Good f s n out [] m bs
-  unfolding readFrom
+  unfolding read_from
   end-good s n out q e o size i = record { is = rw q (ap Octets e); octets = rw q (ap (λ (k : ℕ). take k out) (sym e) ∙ o) }
 
   ended-read : (s : State) (n : ℕ) (out t : List ℕ) → s.mode ≡ mode.start → s.why ≡ 0 → s.upto ≤ n → s.star ≡ false → All Bare t → n ≡ m
@@ -60,7 +60,7 @@ module _ (f : Style) (m : ℕ) (bs : List ℕ) where
       bare : Bare x → Good f s n out t m bs → Good f s n out (x ∷ t) m bs
       bare (shows.blank c) r =
           back_on f s x n out t m bs s (moves.at-start f x n (get_or out s.beside 0) s class.Blank (class-blank c) v) g u (λ z. absurd (omega arith)) r
-      bare (shows.line-break c) r =
+      bare (shows.line_break c) r =
           back_on f s x n out t m bs s
           (moves.at-start f x n (get_or out s.beside 0) s class.Break (ap class_of c ∙ class-break) v) g u (λ z. absurd (omega arith)) r
 
@@ -78,10 +78,10 @@ module _ (f : Style) (m : ℕ) (bs : List ℕ) where
 
   module _ (n : ℕ) (out os last now : List ℕ) (star stood : Bool) (before : Before star os last now) (some : star ≡ true → 1 ≤ length last)
       (room : length now ≤ length out) where
-    blank-on : (t : State) (x : ℕ) → f.colon ≡ false → states.counted f n t ≡ states.offsetBy class.Blank f x n t
+    blank-on : (t : State) (x : ℕ) → f.colon ≡ false → states.counted f n t ≡ states.offset_by class.Blank f x n t
     blank-on t x c = rw c
 
-    colon-on : (t : State) → f.colon ≡ true → states.to mode.gap (states.counted f n t) ≡ states.offsetBy class.Other f 58 n t
+    colon-on : (t : State) → f.colon ≡ true → states.to mode.gap (states.counted f n t) ≡ states.offset_by class.Other f 58 n t
     colon-on t c = rw c
 
     -- what stands after the digits, with a blank at least
@@ -164,7 +164,7 @@ module _ (f : Style) (told : Told f) where
       let z : length os ≡ n = sym (ap length a.octets) ∙ length-take-le n out a.size in
       let c : length last ≡ length os - s.before = sym (ap length a.above) ∙ length-drop s.before os in
       let t : State = states.to mode.star s in
-      let u : State = states.starredBy class.Break t in
+      let u : State = states.starred_by class.Break t in
       start-blanks f m bs n out os last false stood s v a.good a.filled p (42 ∷ (q ++ (10 ∷ rest))) b
       (back_on f s 42 n out (q ++ (10 ∷ rest)) m bs t
       (star-stands 42 s refl a.going a.pending (omega (arith, a.here)) ∙ moves.at-start f 42 n (get_or out s.beside 0) s class.Other class-star v)

@@ -1,7 +1,7 @@
 -- What follows the octets of a line is read past: blanks, or a text column that shows them. Assumes nothing.
-use Rattle.std.specs.Prelude.{◌≡◌, refl, Bool, true, false, List, [], ◌∷◌, ◌++◌, ℕ, suc, ◌+◌, ◌-◌, ◌≤◌, ◌<◌, ltb, leb, eqb, length, get_or, take, drop}
-use Rattle.std.proofs.Common.{sym, ap, subst, ◌∙◌, append-nil, append_assoc, add-zero, add-one, arith, eqb-true, leb-true, leb-false, ltb-true, ltb-false, length-append, length-drop, length-take-le, get_or-take, drop-cons, get_or-drop}
-use Rattle.std.proofs.lemmas.Bool.{eqb-false}
+use Rattle.std.specs.Prelude.{◌≡◌, refl, Bool, true, false, List, [], ◌∷◌, ◌++◌, ℕ, suc, ◌+◌, ◌-◌, ◌≤◌, ◌<◌, ltb, leb, eq, length, get_or, take, drop}
+use Rattle.std.proofs.Common.{sym, ap, subst, ◌∙◌, append-nil, append_assoc, add-zero, add-one, arith, eq-true, leb-true, leb-false, ltb-true, ltb-false, length-append, length-drop, length-take-le, get_or-take, drop-cons, get_or-drop}
+use Rattle.std.proofs.lemmas.Bool.{eq-false}
 use Rattle.std.proofs.Math.ListN.{get_or-append}
 use Rattle.std.proofs.Math.Seq.{append_snoc, drop-append_seam, get_or-append_seam}
 use Rattle.octets.specs.ListsLaws.{all_append, all-at}
@@ -11,7 +11,7 @@ use Rattle.dumps.specs.declared.state.State.{State}
 use Rattle.dumps.specs.declared.state.Class.TheVariants as class
 use Rattle.dumps.specs.Mode as mode
 use Rattle.dumps.specs.States as states
-use Rattle.dumps.specs.States.{class_of, shownOf, moved}
+use Rattle.dumps.specs.States.{class_of, shown_of, moved}
 use Rattle.dumps.specs.StatesLaws.{cut-blank, cut-none}
 use Rattle.dumps.specs.Shows as shows
 use Rattle.dumps.specs.Shows.{Blank, Blanks, Shown, Faint, Text, Column, Without, End, Apart, Told}
@@ -42,7 +42,7 @@ by-without (shows.none e) p q = q e refl
 apart_other : (x : ℕ) → Apart x → class_of x ≡ class.Other
 apart_other x a =
     by-class x
-    (λ c e. absurd (a.line-break e))
+    (λ c e. absurd (a.line_break e))
     (λ c b _. absurd (a.blank b))
     (λ c d _. absurd (a.digit (hexes.value x) (digit-says x d)))
     (λ c _ _. c)
@@ -56,7 +56,7 @@ faint-solid : {f : Style} {e z l : ℕ} {now cs : List ℕ} → Sides f e z now 
 faint-solid {f} {e} {z} {l} {now} {cs} c h p = go (leb c.last 0) refl
   where
     go : (g : Bool) → leb c.last 0 ≡ g → z ≤ l
-    go true q = let k = leb-true c.last 0 q in omega (arith, c.solid-is)
+    go true q = let k = leb-true c.last 0 q in omega (arith, c.solid_is)
     go false q =
         let k = leb-false c.last 0 q in
         absurd (c.clear (omega arith) (faint-at f cs (c.last - 1) h (omega (arith, c.fewer))))
@@ -143,7 +143,7 @@ module _ (f : Style) (told : Told f) (m : ℕ) (bs now cs rest : List ℕ) (n : 
         let f₁ = shown-range h in
         let t₁ : State = states.to mode.text (states.column (s.beside + 1) s) in
         back_on f s x n out (t ++ (10 ∷ rest)) m bs t₁
-        (reads.beside-shows f x n (get_or out s.beside 0) s (omega arith) (shown-is h ∙ ap (shownOf f.prefix) (sym at))
+        (reads.beside-shows f x n (get_or out s.beside 0) s (omega arith) (shown-is h ∙ ap (shown_of f.prefix) (sym at))
         ∙ reads.text-beside f x n (get_or out s.beside 0) s (λ z. absurd (omega arith)) (λ z. absurd (omega arith))
         ∙ moves.at-text f x n (get_or out s.beside 0) s v)
         a.good a.filled (λ z. absurd (omega arith))
@@ -188,7 +188,7 @@ module _ (f : Style) (told : Told f) (m : ℕ) (bs now cs rest : List ℕ) (n : 
         back_on f s x n out (q ++ (10 ∷ rest)) m bs (states.to mode.closed s)
         (reads.past-closes f x n 0 s o refl
         ∙ reads.beside-over f x n (get_or out s.beside 0) s (omega arith)
-        ∙ reads.text-beside f x n (get_or out s.beside 0) s (λ z. y.blank (shows.carriage-return z)) y.line-break
+        ∙ reads.text-beside f x n (get_or out s.beside 0) s (λ z. y.blank (shows.carriage_return z)) y.line_break
         ∙ moves.at-text f x n (get_or out s.beside 0) s v)
         a.good a.filled (λ z. absurd (omega arith)) (closed-read (states.to mode.closed s) refl a q b)
 
@@ -234,17 +234,17 @@ module _ (f : Style) (told : Told f) (m : ℕ) (bs now cs rest : List ℕ) (n : 
       begins ds b t o x h e sh z tx =
           by-class x
           (λ _ q. let r = range in absurd (omega arith))
-          (λ _ q _. absurd (no-blank q))
+          (λ _ q _. absurd (no_blank q))
           (λ k _ _. shown-first (reads.more-digit f x n (get_or out s.beside 0) s op ∙ moves.at_more f x n (get_or out s.beside 0) s class.Digit k v))
           (λ k _ _. shown-first (reads.more-other f x n (get_or out s.beside 0) s op ∙ moves.at_more f x n (get_or out s.beside 0) s class.Other k v))
         where
           range : (32 ≤ x) × (x ≤ 126)
           range = shown-range sh
 
-          no-blank : Blank x → ⊥
-          no-blank (shows.space q) = z q
-          no-blank (shows.tab q) = let r = range in absurd (omega arith)
-          no-blank (shows.carriage-return q) = let r = range in absurd (omega arith)
+          no_blank : Blank x → ⊥
+          no_blank (shows.space q) = z q
+          no_blank (shows.tab q) = let r = range in absurd (omega arith)
+          no_blank (shows.carriage_return q) = let r = range in absurd (omega arith)
 
           clear : Shown f o 32 → ⊥
           clear q = z (shown-is sh ∙ sym (shown-is q))
@@ -265,24 +265,24 @@ module _ (f : Style) (told : Told f) (m : ℕ) (bs now cs rest : List ℕ) (n : 
               let g : get_or cs c.first 0 ≡ o = cc in
               let r : drop (suc c.first) cs ≡ b = cc in
               let u = row_count a in
-              let at : get_or out s.beside 0 ≡ o = ap (λ (i : ℕ). get_or out i 0) c.beside-is ∙ row_at a c.first p ∙ g in
+              let at : get_or out s.beside 0 ≡ o = ap (λ (i : ℕ). get_or out i 0) c.beside_is ∙ row_at a c.first p ∙ g in
               let t₁ : State = states.to mode.text (states.column (s.beside + 1) s) in
               back_on f s x n out (t ++ (10 ∷ rest)) m bs t₁
-              (reads.beside-shows f x n (get_or out s.beside 0) s (omega (arith, c.beside-is)) (shown-is sh ∙ ap (shownOf f.prefix) (sym at)) ∙ q)
+              (reads.beside-shows f x n (get_or out s.beside 0) s (omega (arith, c.beside_is)) (shown-is sh ∙ ap (shown_of f.prefix) (sym at)) ∙ q)
               a.good a.filled (λ z. absurd (omega arith))
-              (text-read tx t₁ refl a (c.first + 1) (omega (arith, c.beside-is)) (omega arith) (ap (λ (i : ℕ). drop i cs) (add-one c.first) ∙ r)
-              c.last c.solid-is c.fewer c.clear)
+              (text-read tx t₁ refl a (c.first + 1) (omega (arith, c.beside_is)) (omega arith) (ap (λ (i : ℕ). drop i cs) (add-one c.first) ∙ r)
+              c.last c.solid_is c.fewer c.clear)
 
       lead-read : {b t : List ℕ} → Text f b t → (ds : List ℕ) → Faint f ds → cs ≡ ds ++ b → Good f s n out (t ++ (10 ∷ rest)) m bs
       lead-read (shows.shows {b = o} {x} {bs = b} {t} h e) ds q d =
-          go (eqb x 32) refl
+          go (eq x 32) refl
           (λ z.
           lead-read e (ds ++ (o ∷ [])) (all_append (λ b. Shown f b 32) ds (o ∷ []) q (subst (Shown f o) z h, tt)) (d ∙ sym (append_snoc ds o b)))
         where
-          go : (g : Bool) → eqb x 32 ≡ g → (x ≡ 32 → Good f s n out (t ++ (10 ∷ rest)) m bs) → Good f s n out (x ∷ (t ++ (10 ∷ rest))) m bs
-          go true p r = let z = eqb-true x 32 p in passes x t (shows.space z) (r z)
-          go false p r = begins ds b t o x q d h (eqb-false x 32 p) e
-      lead-read (shows.returned {bs = b} {t} e) ds q d = passes 13 t (shows.carriage-return refl) (lead-read e ds q d)
+          go : (g : Bool) → eq x 32 ≡ g → (x ≡ 32 → Good f s n out (t ++ (10 ∷ rest)) m bs) → Good f s n out (x ∷ (t ++ (10 ∷ rest))) m bs
+          go true p r = let z = eq-true x 32 p in passes x t (shows.space z) (r z)
+          go false p r = begins ds b t o x q d h (eq-false x 32 p) e
+      lead-read (shows.returned {bs = b} {t} e) ds q d = passes 13 t (shows.carriage_return refl) (lead-read e ds q d)
       lead-read (shows.ends {bs = b} o h) ds q d =
           let w : Faint f cs = subst (Faint f) (sym d) (all_append (λ b. Shown f b 32) ds b q h) in
           over-bare s a (λ _. beside) (cut-blank f n s (faint-solid c w a.here))
@@ -295,7 +295,7 @@ module _ (f : Style) (told : Told f) (m : ℕ) (bs now cs rest : List ℕ) (n : 
           let l : length cs ≡ length ds = ap length (d ∙ append-nil ds) in
           back_on f s x n out (q ++ (10 ∷ rest)) m bs (states.to mode.closed s)
           (reads.past-closes f x n 0 s o refl
-          ∙ reads.beside-over f x n (get_or out s.beside 0) s (omega (arith, c.beside-is))
+          ∙ reads.beside-over f x n (get_or out s.beside 0) s (omega (arith, c.beside_is))
           ∙ reads.more-other f x n (get_or out s.beside 0) s op
           ∙ moves.at_more f x n (get_or out s.beside 0) s class.Other (apart_other x (told.closing o)) v)
           a.good a.filled (λ z. absurd (omega arith)) (closed-read (states.to mode.closed s) refl a q b)
@@ -313,7 +313,7 @@ module _ (f : Style) (told : Told f) (m : ℕ) (bs now cs rest : List ℕ) (n : 
         ∙ reads.more-fenced f x n (get_or out s.beside 0) s o
         ∙ moves.at_more f x n (get_or out s.beside 0) s class.Other (apart_other x (told.opening o)) v)
         a.good a.filled (λ z. absurd (omega arith))
-        (text-read q t₁ refl a 0 (a.here ∙ sym (add-zero (length now))) (omega arith) refl c.last c.solid-is c.fewer c.clear)))
+        (text-read q t₁ refl a 0 (a.here ∙ sym (add-zero (length now))) (omega arith) refl c.last c.solid_is c.fewer c.clear)))
         (λ o ds b p h q. lead-read s v a c o q ds h p)
 
   pub end_read : {e : List ℕ} {before : Bool} → End f cs before stands e → (stood ≡ true → before ≡ true) → (s : State) → s.mode ≡ mode.low

@@ -3,7 +3,7 @@ use Rattle.std.specs.Prelude.{◌≡◌, refl, List, [], ◌∷◌, ◌++◌, �
 use Rattle.std.proofs.Common.{sym, ap, ◌∙◌, append-nil, append_assoc, zero-add, add-zero, zero-mul, add-one, arith, length-append, length-drop, length-set, take-append-drop, take-suc-set, get_or-take, length-take-le}
 use Rattle.std.proofs.Math.Nat.{mod-add-div'}
 use Rattle.std.proofs.Math.Seq.{append_snoc, get_or-append_seam}
-use Rattle.dumps.specs.Dumps.{repeatedOf}
+use Rattle.dumps.specs.Dumps.{repeated_of}
 use Rattle.dumps.specs.Shows.{times}
 
 -- k octets more, each the one at `from`, and further on
@@ -11,8 +11,8 @@ unfoldable more : ℕ → ℕ → List ℕ → List ℕ
 more zero from l = l
 more (suc k) from l = more k (from + 1) (l ++ (get_or l from 0 ∷ []))
 
-repeated-more : (k from n : ℕ) (out : List ℕ) → from < n → n + k ≤ length out → take (n + k) (repeatedOf k from n out) ≡ more k from (take n out)
-unfolding repeatedOf more
+repeated-more : (k from n : ℕ) (out : List ℕ) → from < n → n + k ≤ length out → take (n + k) (repeated_of k from n out) ≡ more k from (take n out)
+unfolding repeated_of more
 repeated-more zero from n out h j = ap (λ (i : ℕ). take i out) (add-zero n)
 repeated-more (suc k) from n out h j =
     let e : n + suc k ≡ n + 1 + k = omega arith in
@@ -20,7 +20,7 @@ repeated-more (suc k) from n out h j =
     let g : take (n + 1) (set out n (get_or out from 0)) ≡ take n out ++ (get_or out from 0 ∷ []) =
     ap (λ (i : ℕ). take i (set out n (get_or out from 0))) (add-one n) ∙ take-suc-set out n (get_or out from 0) (omega arith)
     in
-    ap (λ (i : ℕ). take i (repeatedOf k (from + 1) (n + 1) (set out n (get_or out from 0)))) e
+    ap (λ (i : ℕ). take i (repeated_of k (from + 1) (n + 1) (set out n (get_or out from 0)))) e
     ∙ repeated-more k (from + 1) (n + 1) (set out n (get_or out from 0)) (omega arith) l
     ∙ ap (more k (from + 1)) (g ∙ ap (λ (y : ℕ). take n out ++ (y ∷ [])) (sym (get_or-take n out from 0 h)))
 
@@ -70,7 +70,7 @@ more-times (suc k) u w =
 
 -- k + 1 lines that are laid again are copies of the last
 pub copies_as : (from n v k : ℕ) (out : List ℕ) → from < n → n < v → v ≤ length out → v - n ≡ suc k * (n - from)
-    → take v (repeatedOf (v - n) from n out) ≡ take n out ++ times (suc k) (drop from (take n out))
+    → take v (repeated_of (v - n) from n out) ≡ take n out ++ times (suc k) (drop from (take n out))
 copies_as from n v k out h j l e =
     let a : length (take n out) ≡ n = length-take-le n out (omega arith) in
     let w : length (drop from (take n out)) ≡ n - from = length-drop from (take n out) ∙ ap (λ (i : ℕ). i - from) a in
@@ -78,7 +78,7 @@ copies_as from n v k out h j l e =
     let s : take from (take n out) ++ drop from (take n out) ≡ take n out = take-append-drop from (take n out) in
     let t : n + (v - n) ≡ v = omega arith in
     let c : v - n ≡ suc k * length (drop from (take n out)) = e ∙ ap (λ (i : ℕ). suc k * i) (sym w) in
-    ap (λ (i : ℕ). take i (repeatedOf (v - n) from n out)) (sym t)
+    ap (λ (i : ℕ). take i (repeated_of (v - n) from n out)) (sym t)
     ∙ repeated-more (v - n) from n out h (omega arith)
     ∙ ap (λ (i : ℕ). more i from (take n out)) c
     ∙ ap (λ (i : ℕ). more (suc k * length (drop from (take n out))) i (take n out)) (sym u)
@@ -96,7 +96,7 @@ copies-number a d j e = go (a / d) (sym (mod-add-div' a d) ∙ ap (λ (r : ℕ).
 -- the octets that stars stand for are copies of the last line
 pub record Copies (from n v : ℕ) (out : List ℕ) : Type 0 where
   pub number : ℕ
-  pub is : take v (repeatedOf (v - n) from n out) ≡ take n out ++ times (suc number) (drop from (take n out))
+  pub is : take v (repeated_of (v - n) from n out) ≡ take n out ++ times (suc number) (drop from (take n out))
 
 pub copies : (from n v : ℕ) (out : List ℕ) → from < n → n < v → v ≤ length out → (v - n) % (n - from) ≡ 0 → Copies from n v out
 copies from n v out h j l e =

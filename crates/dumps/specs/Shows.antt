@@ -11,7 +11,7 @@ use Rattle.dumps.specs.declared.Style.{Style}
 pub data Blank (x : ℕ) : Type 0 where
   space : x ≡ 32 → Blank x
   tab : x ≡ 9 → Blank x
-  carriage-return : x ≡ 13 → Blank x
+  carriage_return : x ≡ 13 → Blank x
 
 abbrev pub Blanks : List ℕ → Type 0
 Blanks l = All Blank l
@@ -19,7 +19,7 @@ Blanks l = All Blank l
 -- blanks and line breaks
 pub data Bare (x : ℕ) : Type 0 where
   blank : Blank x → Bare x
-  line-break : x ≡ 10 → Bare x
+  line_break : x ≡ 10 → Bare x
 
 -- x is what a text column has for the octet b: b itself where it is printed, else a dot; in tcpdump's a blank is a dot too
 pub data Shown (f : Style) (b x : ℕ) : Type 0 where
@@ -156,7 +156,7 @@ Shows f text bs = Lines f false false [] [] (text ++ (10 ∷ [])) bs
 pub record Apart (x : ℕ) : Type 0 where
   pub digit : (v : ℕ) → Digit x v → ⊥
   pub blank : Blank x → ⊥
-  pub line-break : x ≡ 10 → ⊥
+  pub line_break : x ≡ 10 → ⊥
 
 -- a style that can be told: an offset has a digit at least, and what stands before a text column and after it is none of theirs
 pub record Told (f : Style) : Type 0 where

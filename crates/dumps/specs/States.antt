@@ -1,6 +1,6 @@
 -- Where a dump stands, and how a character moves it (docs/COMMAND.md, "Dumps"), in the code's order of tests. x is the character, n the number of octets
 -- before it, b the octet that the text column shows next. Assumes nothing: these are definitions.
-use Rattle.std.specs.Prelude.{Bool, true, false, cond, ℕ, ◌+◌, ◌*◌, ◌%◌, ltb, leb, eqb}
+use Rattle.std.specs.Prelude.{Bool, true, false, cond, ℕ, ◌+◌, ◌*◌, ◌%◌, ltb, leb, eq}
 use Rattle.hexes.specs.Hexes.{digit}
 use Rattle.hexes.specs.Hexes as hexes
 use Rattle.inputs.specs.Why as why
@@ -14,11 +14,11 @@ use Rattle.dumps.specs.Mode as mode
 
 unfoldable pub class_of : ℕ → Class
 class_of x =
-    cond (digit x) Digit (cond (eqb x 10) Break (cond (eqb x 32) Blank (cond (eqb x 9) Blank (cond (eqb x 13) Blank Other))))
+    cond (digit x) Digit (cond (eq x 10) Break (cond (eq x 32) Blank (cond (eq x 9) Blank (cond (eq x 13) Blank Other))))
 
 -- the character that a text column has for an octet: itself where it is printed, else a dot, as a blank is where `dot`
-unfoldable pub shownOf : Bool → ℕ → ℕ
-shownOf dot b = cond (ltb b 32) 46 (cond (ltb 126 b) 46 (cond dot (cond (eqb b 32) 46 b) b))
+unfoldable pub shown_of : Bool → ℕ → ℕ
+shown_of dot b = cond (ltb b 32) 46 (cond (ltb 126 b) 46 (cond dot (cond (eq b 32) 46 b) b))
 
 -- ---- the state
 
@@ -62,11 +62,11 @@ reading d v s =
 unfoldable pub first : Style → ℕ → State → State
 first f x s =
     cond s.ended (but why.offset s)
-    (cond f.prefix (cond (eqb x 48) (to mode.prefix s) (but why.form s))
+    (cond f.prefix (cond (eq x 48) (to mode.prefix s) (but why.form s))
     (to mode.offset (reading 1 (hexes.value x) s)))
 
 unfoldable pub prefixed : ℕ → State → State
-prefixed x s = cond (eqb x 120) (to mode.offset (reading 0 0 s)) (but why.form s)
+prefixed x s = cond (eq x 120) (to mode.offset (reading 0 0 s)) (but why.form s)
 
 -- a further digit; no input has 65,536 octets
 unfoldable pub further : Style → ℕ → State → State
@@ -88,10 +88,10 @@ filled n s =
 -- the offset is whole: it is the number of octets before its line, or after a star a greater one
 unfoldable pub counted : Style → ℕ → State → State
 counted f n s =
-    cond (eqb s.digits f.digits)
+    cond (eq s.digits f.digits)
     (cond s.star
     (cond (leb s.value n) (but why.offset s) (opened s.value (filled s.value s)))
-    (cond (eqb s.value n) (opened n s) (but why.offset s)))
+    (cond (eq s.value n) (opened n s) (but why.offset s)))
     (but why.form s)
 
 -- the dump ends
@@ -104,29 +104,29 @@ unfoldable pub alone : Style → State → State
 alone f s = cond f.ends (finished s) (but why.form s)
 
 -- what follows an offset's digits
-abbrev pub offsetBy : Class → Style → ℕ → ℕ → State → State
-offsetBy Digit f x n s = further f x s
-offsetBy Break f x n s = alone f (counted f n s)
-offsetBy Blank f x n s = cond f.colon (but why.form s) (counted f n s)
-offsetBy Other f x n s = cond f.colon (cond (eqb x 58) (to mode.gap (counted f n s)) (but why.form s)) (but why.form s)
+abbrev pub offset_by : Class → Style → ℕ → ℕ → State → State
+offset_by Digit f x n s = further f x s
+offset_by Break f x n s = alone f (counted f n s)
+offset_by Blank f x n s = cond f.colon (but why.form s) (counted f n s)
+offset_by Other f x n s = cond f.colon (cond (eq x 58) (to mode.gap (counted f n s)) (but why.form s)) (but why.form s)
 
 abbrev pub offset : Style → ℕ → ℕ → State → State
-offset f x n s = offsetBy (class_of x) f x n s
+offset f x n s = offset_by (class_of x) f x n s
 
 -- what follows a colon
-abbrev pub gapBy : Class → Style → State → State
-gapBy Break f s = alone f s
-gapBy Blank f s = to mode.after s
-gapBy Digit f s = but why.form s
-gapBy Other f s = but why.form s
+abbrev pub gap_by : Class → Style → State → State
+gap_by Break f s = alone f s
+gap_by Blank f s = to mode.after s
+gap_by Digit f s = but why.form s
+gap_by Other f s = but why.form s
 
 abbrev pub gap : Style → ℕ → State → State
-gap f x s = gapBy (class_of x) f s
+gap f x s = gap_by (class_of x) f s
 
 -- a star, after a line that it can stand for; after an offset that stood alone there is none
-unfoldable pub starAt : ℕ → State → State
-starAt x s =
-    cond (eqb x 42)
+unfoldable pub star_at : ℕ → State → State
+star_at x s =
+    cond (eq x 42)
     (cond s.ended (but why.form s) (cond s.star (but why.form s) (cond (leb s.line s.before) (but why.form s) (to mode.star s))))
     (but why.form s)
 
@@ -134,21 +134,21 @@ abbrev pub start_by : Class → Style → ℕ → State → State
 start_by Break f x s = s
 start_by Blank f x s = s
 start_by Digit f x s = first f x s
-start_by Other f x s = starAt x s
+start_by Other f x s = star_at x s
 
 abbrev pub start : Style → ℕ → State → State
 start f x s = start_by (class_of x) f x s
 
 -- what follows a star
-abbrev pub starredBy : Class → State → State
-starredBy Break s =
+abbrev pub starred_by : Class → State → State
+starred_by Break s =
     state mode.start s.digits s.value s.octet s.second s.line s.before s.beside s.solid true s.upto s.ended s.column s.why
-starredBy Blank s = s
-starredBy Digit s = but why.form s
-starredBy Other s = but why.form s
+starred_by Blank s = s
+starred_by Digit s = but why.form s
+starred_by Other s = but why.form s
 
 abbrev pub starred : ℕ → State → State
-starred x s = starredBy (class_of x) s
+starred x s = starred_by (class_of x) s
 
 -- ---- its octets
 
@@ -172,10 +172,10 @@ column e s =
     state s.mode s.digits s.value s.octet s.second s.line s.before e s.solid s.star s.upto s.ended s.column s.why
 
 abbrev pub passing : ℕ → State → State
-passing n s = cond (eqb s.beside n) (column (n + 1) s) s
+passing n s = cond (eq s.beside n) (column (n + 1) s) s
 
 abbrev pub completed : Style → ℕ → ℕ → State → State
-completed f o n s = complete o (cond (eqb (shownOf f.prefix o) 32) (passing n s) (showing n s))
+completed f o n s = complete o (cond (eq (shown_of f.prefix o) 32) (passing n s) (showing n s))
 
 unfoldable pub low : Style → ℕ → ℕ → State → State
 low f x n s = cond (digit x) (completed f (s.octet % 16 * 16 + hexes.value x) n s) (but why.form s)
@@ -197,99 +197,99 @@ cut f n s =
     (cond f.column (but why.column s) (cond s.column (but why.column s) (closed n s)))
 
 -- what follows an octet
-abbrev pub octetBy : Class → Style → ℕ → ℕ → State → State
-octetBy Break f x n s = cut f n s
-octetBy Blank f x n s = to mode.one s
-octetBy Digit f x n s = cond f.pairs (cond s.second (but why.form s) (high true x s)) (but why.form s)
-octetBy Other f x n s = but why.form s
+abbrev pub octet_by : Class → Style → ℕ → ℕ → State → State
+octet_by Break f x n s = cut f n s
+octet_by Blank f x n s = to mode.one s
+octet_by Digit f x n s = cond f.pairs (cond s.second (but why.form s) (high true x s)) (but why.form s)
+octet_by Other f x n s = but why.form s
 
 abbrev pub octet : Style → ℕ → ℕ → State → State
-octet f x n s = octetBy (class_of x) f x n s
+octet f x n s = octet_by (class_of x) f x n s
 
 -- what follows the offset
-abbrev pub afterBy : Class → Style → ℕ → State → State
-afterBy Break f x s = alone f s
-afterBy Blank f x s = s
-afterBy Digit f x s = high false x s
-afterBy Other f x s = but why.form s
+abbrev pub after_by : Class → Style → ℕ → State → State
+after_by Break f x s = alone f s
+after_by Blank f x s = s
+after_by Digit f x s = high false x s
+after_by Other f x s = but why.form s
 
 abbrev pub after : Style → ℕ → State → State
-after f x s = afterBy (class_of x) f x s
+after f x s = after_by (class_of x) f x s
 
 -- what follows an octet and one blank
-abbrev pub oneBy : Class → Style → ℕ → ℕ → State → State
-oneBy Break f x n s = cut f n s
-oneBy Blank f x n s = to mode.more s
-oneBy Digit f x n s = high false x s
-oneBy Other f x n s = but why.form s
+abbrev pub one_by : Class → Style → ℕ → ℕ → State → State
+one_by Break f x n s = cut f n s
+one_by Blank f x n s = to mode.more s
+one_by Digit f x n s = high false x s
+one_by Other f x n s = but why.form s
 
 abbrev pub one : Style → ℕ → ℕ → State → State
-one f x n s = oneBy (class_of x) f x n s
+one f x n s = one_by (class_of x) f x n s
 
 -- ---- its text column
 
 -- after all octets: what closes the column, or a blank where nothing does
 unfoldable pub past : Style → ℕ → State → State
 past f x s =
-    cond (eqb f.closing 0)
-    (cond (eqb x 32) s (but why.column s))
-    (cond (eqb x f.closing) (to mode.closed s) (but why.column s))
+    cond (eq f.closing 0)
+    (cond (eq x 32) s (but why.column s))
+    (cond (eq x f.closing) (to mode.closed s) (but why.column s))
 
 -- a character of the column
 unfoldable pub beside : Style → ℕ → ℕ → ℕ → State → State
-beside f x n b s = cond (leb n s.beside) (past f x s) (cond (eqb x (shownOf f.prefix b)) (to mode.text (column (s.beside + 1) s)) (but why.column s))
+beside f x n b s = cond (leb n s.beside) (past f x s) (cond (eq x (shown_of f.prefix b)) (to mode.text (column (s.beside + 1) s)) (but why.column s))
 
 -- what stands before the column
 unfoldable pub fenced : Style → ℕ → State → State
-fenced f x s = cond (eqb x f.opening) (to mode.text (column s.line s)) (but why.form s)
+fenced f x s = cond (eq x f.opening) (to mode.text (column s.line s)) (but why.form s)
 
 -- what follows an octet and two blanks or more
-abbrev pub moreBy : Class → Style → ℕ → ℕ → ℕ → State → State
-moreBy Break f x n b s = cut f n s
-moreBy Blank f x n b s = s
-moreBy Digit f x n b s = cond (eqb f.opening 0) (beside f x n b s) (high false x s)
-moreBy Other f x n b s = cond (eqb f.opening 0) (beside f x n b s) (fenced f x s)
+abbrev pub more_by : Class → Style → ℕ → ℕ → ℕ → State → State
+more_by Break f x n b s = cut f n s
+more_by Blank f x n b s = s
+more_by Digit f x n b s = cond (eq f.opening 0) (beside f x n b s) (high false x s)
+more_by Other f x n b s = cond (eq f.opening 0) (beside f x n b s) (fenced f x s)
 
 abbrev pub more : Style → ℕ → ℕ → ℕ → State → State
-more f x n b s = moreBy (class_of x) f x n b s
+more f x n b s = more_by (class_of x) f x n b s
 
 -- the column ends with its line; blanks at its end may be missing where nothing closes it
 unfoldable pub broken : Style → ℕ → State → State
-broken f n s = cond (eqb f.closing 0) (cond (ltb s.beside s.solid) (but why.column s) (columned n s)) (but why.column s)
+broken f n s = cond (eq f.closing 0) (cond (ltb s.beside s.solid) (but why.column s) (columned n s)) (but why.column s)
 
 -- the rest of the column; a carriage return may stand before a line break
 unfoldable pub text : Style → ℕ → ℕ → ℕ → State → State
-text f x n b s = cond (eqb x 13) s (cond (eqb x 10) (broken f n s) (beside f x n b s))
+text f x n b s = cond (eq x 13) s (cond (eq x 10) (broken f n s) (beside f x n b s))
 
 -- what follows a closed column
-abbrev pub restBy : Class → ℕ → State → State
-restBy Break n s = columned n s
-restBy Blank n s = s
-restBy Digit n s = but why.form s
-restBy Other n s = but why.form s
+abbrev pub rest_by : Class → ℕ → State → State
+rest_by Break n s = columned n s
+rest_by Blank n s = s
+rest_by Digit n s = but why.form s
+rest_by Other n s = but why.form s
 
 abbrev pub rest : ℕ → ℕ → State → State
-rest x n s = restBy (class_of x) n s
+rest x n s = rest_by (class_of x) n s
 
 -- ---- by where the dump stands
 
 unfoldable pub fronted : Style → ℕ → ℕ → State → State
 fronted f x n s =
-    cond (eqb s.mode mode.start) (start f x s)
-    (cond (eqb s.mode mode.prefix) (prefixed x s)
-    (cond (eqb s.mode mode.offset) (offset f x n s)
-    (cond (eqb s.mode mode.star) (starred x s) (gap f x s))))
+    cond (eq s.mode mode.start) (start f x s)
+    (cond (eq s.mode mode.prefix) (prefixed x s)
+    (cond (eq s.mode mode.offset) (offset f x n s)
+    (cond (eq s.mode mode.star) (starred x s) (gap f x s))))
 
 unfoldable pub within : Style → ℕ → ℕ → State → State
 within f x n s =
-    cond (eqb s.mode mode.after) (after f x s)
-    (cond (eqb s.mode mode.high) (low f x n s)
-    (cond (eqb s.mode mode.low) (octet f x n s) (one f x n s)))
+    cond (eq s.mode mode.after) (after f x s)
+    (cond (eq s.mode mode.high) (low f x n s)
+    (cond (eq s.mode mode.low) (octet f x n s) (one f x n s)))
 
 unfoldable pub behind : Style → ℕ → ℕ → ℕ → State → State
 behind f x n b s =
-    cond (eqb s.mode mode.more) (more f x n b s)
-    (cond (eqb s.mode mode.text) (text f x n b s) (rest x n s))
+    cond (eq s.mode mode.more) (more f x n b s)
+    (cond (eq s.mode mode.text) (text f x n b s) (rest x n s))
 
 unfoldable pub moved : Style → ℕ → ℕ → ℕ → State → State
 moved f x n b s =

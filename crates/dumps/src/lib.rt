@@ -2,7 +2,7 @@
 // character moves the state of the dump (`state`), and the octets that are completed are laid into a lent buffer. Nothing is taken on trust:
 // an offset must be the number of octets before its line, and a text column must show the octets beside it.
 ghost use Rattle.std.specs.Prelude.{◌≡◌, ◌-◌, ◌<◌, ◌≤◌, length};
-ghost use Rattle.dumps.specs.Dumps.{repeatedOf, Filled, layOf, take_of, Turned, Dumped};
+ghost use Rattle.dumps.specs.Dumps.{repeated_of, Filled, lay_of, take_of, Turned, Dumped};
 
 mod line;
 mod moves;
@@ -50,7 +50,7 @@ enum Turn {
 // Lays the octets from `from` on again from n on, up to `upto`.
 fn repeat(out: &mut [u8], from: usize, n: usize, upto: usize)
     requires { (from < n) × (upto ≤ length out.old) }
-    ensures { out.new ≡ repeatedOf (upto - n) from n out.old }
+    ensures { out.new ≡ repeated_of (upto - n) from n out.old }
 {
     let mut source = from;
     let mut i = n;
@@ -83,7 +83,7 @@ fn fill(out: &mut [u8], from: usize, n: usize, upto: usize) -> Reach
 
 // Lays an octet that is complete.
 fn lay(s: State, n: usize, out: &mut [u8]) -> Turn
-    ensures { Turned (layOf s n out.old) result out.new }
+    ensures { Turned (lay_of s n out.old) result out.new }
 {
     if s.mode != Mode::LOW {
         return Turn::Go(s, n);

@@ -106,7 +106,7 @@ pub fn class_of(x: u8) -> Class
 
 // The character that a text column has for an octet; `dot` is whether a blank is a dot.
 pub fn shown(b: u8, dot: bool) -> u8
-    ensures { result ≡ states.shownOf dot b }
+    ensures { result ≡ states.shown_of dot b }
 {
     if b < b' ' {
         return b'.';
@@ -305,7 +305,7 @@ impl State {
 
     // A star, after a line that it can stand for.
     fn star(self, x: u8) -> Self
-        ensures { result ≡ states.starAt x self }
+        ensures { result ≡ states.star_at x self }
     {
         if x != b'*' {
             return self.but(Why::FORM);

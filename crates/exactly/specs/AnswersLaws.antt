@@ -16,26 +16,26 @@ use Rattle.carriers.specs.Carriers.{chosen_of, number_of, form_of}
 use Rattle.carriers.specs.CarriersLaws.{by-joined, padded-router, chosen-number, number-chosen, chosen-unknown}
 use Rattle.order.specs.OrderLaws.{sort_sorted, sort-stable, sort-only, sort-length}
 use Rattle.frames.specs.Frame.{Framed, framed, frame}
-use Rattle.frames.specs.Area.{joined, blocksOf, Area}
+use Rattle.frames.specs.Area.{joined, blocks_of, Area}
 use Rattle.frames.specs.Frame as framing
 use Rattle.frames.specs.AreaLaws.{frame-exactly, fault-exactly}
 use Rattle.frames.specs.BodyLaws.{bodies-bytes, bodies-units}
 use Rattle.blocks.specs.Block.{Fields, PossibleBy, Possible}
-use Rattle.sheets.specs.Sheets.{sheetOf}
+use Rattle.sheets.specs.Sheets.{sheet_of}
 use Rattle.reading.specs.declared.Reading.{Reading}
-use Rattle.reading.specs.Reading.{yieldOf, inOrder, settle, readYields, readFramed, read_of}
+use Rattle.reading.specs.Reading.{yield_of, in_order, settle, read_yields, read_framed, read_of}
 use Rattle.reading.specs.Result.{Yield, arrivals, Answer, refuse, done, Reads}
 use Rattle.reading.specs.AnswerLaws.{read-unknown, read-long, read_known, reads_as}
-use Rattle.exactly.specs.Answers.{BlocksAre, none, more, Arranged, ReadAs, gives, Answers, no-carrier, too_long, unframed, too_many, no_room, is-done}
+use Rattle.exactly.specs.Answers.{BlocksAre, none, more, Arranged, ReadAs, gives, Answers, no_carrier, too_long, unframed, too_many, no_room, is_done}
 use Rattle.exactly.specs.BlockLaws.{block-is}
 
 -- ---- the blocks of an area
 
 -- what holds of each body, and in carrier 1 of their data joined, holds of each block
 each-block : (P : Carrier → List ℕ → Type 0) → ((bs : List (List ℕ)) → All (P Dhcp4) bs → P Dhcp4 (flat bs))
-    → (c : Carrier) (bs : List (List ℕ)) → All (P c) bs → All (P c) (blocksOf c bs)
+    → (c : Carrier) (bs : List (List ℕ)) → All (P c) bs → All (P c) (blocks_of c bs)
 each-block P all =
-    by-joined (λ c. (bs : List (List ℕ)) → All (P c) bs → All (P c) (blocksOf c bs)) whole
+    by-joined (λ c. (bs : List (List ℕ)) → All (P c) bs → All (P c) (blocks_of c bs)) whole
     (λ c j bs h. rw j h)
   where
     whole : (bs : List (List ℕ)) → All (P Dhcp4) bs → All (P Dhcp4) (joined bs)
@@ -52,31 +52,31 @@ possible-bodies c area bodies h e = go (form_of c) refl
     go Text q = all_map Bytes (PossibleBy Text) bodies (λ b k. tt) h
 
 module _ (c : Carrier) where
-  is-blocks : (bs : List (List ℕ)) → All Bytes bs → All (Possible c) bs → BlocksAre c bs (map (yieldOf c) bs)
+  is-blocks : (bs : List (List ℕ)) → All Bytes bs → All (Possible c) bs → BlocksAre c bs (map (yield_of c) bs)
   is-blocks [] h m = none
-  is-blocks (b ∷ bs) h m = more ((block-is c b (yieldOf c b) h.0 m.0).0 refl) (is-blocks bs h.1 m.1)
+  is-blocks (b ∷ bs) h m = more ((block-is c b (yield_of c b) h.0 m.0).0 refl) (is-blocks bs h.1 m.1)
 
-  blocks-answer : {bs : List (List ℕ)} {ys : List Yield} → All Bytes bs → All (Possible c) bs → BlocksAre c bs ys → map (yieldOf c) bs ≡ ys
+  blocks-answer : {bs : List (List ℕ)} {ys : List Yield} → All Bytes bs → All (Possible c) bs → BlocksAre c bs ys → map (yield_of c) bs ≡ ys
   blocks-answer h m none = refl
   blocks-answer h m (more {block} {blocks} {y} {ys} i later) =
       ap₂ (λ (y : Yield) (ys : List Yield). y ∷ ys) ((block-is c block y h.0 m.0).1 i) (blocks-answer h.1 m.1 later)
 
 -- so of every block of an area, under each of the five carriers
 pub every-block : (c : Carrier) (area : List ℕ) (bodies : List (List ℕ)) (ys : List Yield) → Bytes area → Area c area bodies
-    → (map (yieldOf c) (blocksOf c bodies) ≡ ys) ↔ BlocksAre c (blocksOf c bodies) ys
+    → (map (yield_of c) (blocks_of c bodies) ≡ ys) ↔ BlocksAre c (blocks_of c bodies) ys
 every-block c area bodies ys h a =
     let e : frame c area ≡ framed bodies = (frame-exactly c area bodies h).1 a in
     let octets : All Bytes bodies = bodies-bytes c area bodies h e in
-    let blocks : All Bytes (blocksOf c bodies) = each-block (λ c. Bytes) (all-flat Octet) c bodies octets in
-    let possible : All (Possible c) (blocksOf c bodies) = each-block Possible (λ bs h. tt) c bodies (possible-bodies c area bodies octets e) in
-    (λ e. subst (BlocksAre c (blocksOf c bodies)) e (is-blocks c (blocksOf c bodies) blocks possible), blocks-answer c blocks possible)
+    let blocks : All Bytes (blocks_of c bodies) = each-block (λ c. Bytes) (all-flat Octet) c bodies octets in
+    let possible : All (Possible c) (blocks_of c bodies) = each-block Possible (λ bs h. tt) c bodies (possible-bodies c area bodies octets e) in
+    (λ e. subst (BlocksAre c (blocks_of c bodies)) e (is-blocks c (blocks_of c bodies) blocks possible), blocks-answer c blocks possible)
 
 -- ---- the records in order
 
-arranged : (came : List Fields) → Arranged came (inOrder came)
+arranged : (came : List Fields) → Arranged came (in_order came)
 arranged came = record { rising = sort_sorted (λ (r : Fields). r.priority) came; stable = λ p. sort-stable (λ (r : Fields). r.priority) p came }
 
-arranged-once : {came rs : List Fields} → Arranged came rs → rs ≡ inOrder came
+arranged-once : {came rs : List Fields} → Arranged came rs → rs ≡ in_order came
 arranged-once {came} {rs} a = sort-only (λ (r : Fields). r.priority) came rs a.rising a.stable
 
 -- ---- the carrier of a number
@@ -88,30 +88,30 @@ chosen-known c e = ap chosen_of (sym e) ∙ chosen-number c
 
 -- the records in order are as many as came
 settle-ordered : (c : Carrier) (ys : List Yield) (room : ℕ)
-    → readYields c ys room ≡ settle room (inOrder (arrivals ys)) (gives c ys (inOrder (arrivals ys)))
+    → read_yields c ys room ≡ settle room (in_order (arrivals ys)) (gives c ys (in_order (arrivals ys)))
 settle-ordered c ys room = rw (sort-length (λ (r : Fields). r.priority) (arrivals ys))
 
 module _ (n : ℕ) (area : List ℕ) (room : ℕ) (octets : Bytes area) where
   -- 4, 5 or done
   is-settled : (c : Carrier) {ys : List Yield} {rs : List Fields} → number_of c ≡ n → ReadAs c area ys rs
       → Answers n area room (settle room rs (gives c ys rs))
-  is-settled c {ys} {rs} i r = go (ltb limit.records (length rs)) refl (ltb room (length (sheetOf c rs))) refl
+  is-settled c {ys} {rs} i r = go (ltb limit.records (length rs)) refl (ltb room (length (sheet_of c rs))) refl
     where
-      go : (many : Bool) → ltb limit.records (length rs) ≡ many → (long : Bool) → ltb room (length (sheetOf c rs)) ≡ long
+      go : (many : Bool) → ltb limit.records (length rs) ≡ many → (long : Bool) → ltb room (length (sheet_of c rs)) ≡ long
           → Answers n area room (cond many (refuse refusal.records) (cond long (refuse refusal.room) (done (gives c ys rs))))
       go true m long l = too_many c i r (ltb-true limit.records (length rs) m)
-      go false m true l = no_room c i r (ltb-false limit.records (length rs) m) (ltb-true room (length (sheetOf c rs)) l)
-      go false m false l = is-done c i r (ltb-false limit.records (length rs) m) (ltb-false room (length (sheetOf c rs)) l)
+      go false m true l = no_room c i r (ltb-false limit.records (length rs) m) (ltb-true room (length (sheet_of c rs)) l)
+      go false m false l = is_done c i r (ltb-false limit.records (length rs) m) (ltb-false room (length (sheet_of c rs)) l)
 
   -- 3, or what the blocks yield
-  is_framed : (c : Carrier) → number_of c ≡ n → length area ≤ limit.input → Answers n area room (readFramed c (frame c area) room)
+  is_framed : (c : Carrier) → number_of c ≡ n → length area ≤ limit.input → Answers n area room (read_framed c (frame c area) room)
   is_framed c i s = go (frame c area) refl
     where
-      go : (f : Framed) → frame c area ≡ f → Answers n area room (readFramed c f room)
+      go : (f : Framed) → frame c area ≡ f → Answers n area room (read_framed c f room)
       go framing.fault e = unframed c i s ((fault-exactly c area octets).0 e)
       go (framed bodies) e =
           let a : Area c area bodies = (frame-exactly c area bodies octets).0 e in
-          let ys : List Yield = map (yieldOf c) (blocksOf c bodies) in
+          let ys : List Yield = map (yield_of c) (blocks_of c bodies) in
           rw (settle-ordered c ys room)
           (is-settled c i
           (record { short = s; bodies = bodies; framed = a; blocks = (every-block c area bodies ys octets a).0 refl; arranged = arranged (arrivals ys) }))
@@ -123,7 +123,7 @@ module _ (n : ℕ) (area : List ℕ) (room : ℕ) (octets : Bytes area) where
       go : (k : Chosen) → chosen_of n ≡ k → (long : Bool) → ltb limit.input (length area) ≡ long → Answers n area room (read_of n area room)
       go Unknown e long l =
           rw (read-unknown n area room e)
-          (no-carrier (λ c i. let z : Known c ≡ Unknown = sym (chosen-known c i) ∙ e in let o : ◌≡◌ {A = ℕ} 0 1 = cc in omega arith))
+          (no_carrier (λ c i. let z : Known c ≡ Unknown = sym (chosen-known c i) ∙ e in let o : ◌≡◌ {A = ℕ} 0 1 = cc in omega arith))
       go (Known c) e true l =
           let h : limit.input < length area = ltb-true _ _ l in
           rw (read-long n area room e h) (too_long c (sym (number-chosen n c e)) h)
@@ -136,21 +136,21 @@ module _ (n : ℕ) (area : List ℕ) (room : ℕ) (octets : Bytes area) where
       → read_of n area room ≡ settle room rs (gives c ys rs)
   readable-read c {ys} {rs} i r =
       read_known n area room (chosen-known c i) r.short
-      ∙ ap (λ (f : Framed). readFramed c f room) ((frame-exactly c area r.bodies octets).1 r.framed)
-      ∙ ap (λ (ys : List Yield). readYields c ys room) ((every-block c area r.bodies ys octets r.framed).1 r.blocks)
+      ∙ ap (λ (f : Framed). read_framed c f room) ((frame-exactly c area r.bodies octets).1 r.framed)
+      ∙ ap (λ (ys : List Yield). read_yields c ys room) ((every-block c area r.bodies ys octets r.framed).1 r.blocks)
       ∙ settle-ordered c ys room
       ∙ ap (λ (rs : List Fields). settle room rs (gives c ys rs)) (sym (arranged-once r.arranged))
 
   answers-read : {a : Answer} → Answers n area room a → read_of n area room ≡ a
-  answers-read (no-carrier h) = read-unknown n area room (chosen-unknown n h)
+  answers-read (no_carrier h) = read-unknown n area room (chosen-unknown n h)
   answers-read (too_long c i h) = read-long n area room (chosen-known c i) h
   answers-read (unframed c i s h) =
-      read_known n area room (chosen-known c i) s ∙ ap (λ (f : Framed). readFramed c f room) ((fault-exactly c area octets).1 h)
+      read_known n area room (chosen-known c i) s ∙ ap (λ (f : Framed). read_framed c f room) ((fault-exactly c area octets).1 h)
   answers-read (too_many c {ys} {rs} i r h) = readable-read c i r ∙ rw (lt-ltb limit.records (length rs) h)
   answers-read (no_room c {ys} {rs} i r h l) =
-      readable-read c i r ∙ rw (le-ltb limit.records (length rs) h, lt-ltb room (length (sheetOf c rs)) l)
-  answers-read (is-done c {ys} {rs} i r h l) =
-      readable-read c i r ∙ rw (le-ltb limit.records (length rs) h, le-ltb room (length (sheetOf c rs)) l)
+      readable-read c i r ∙ rw (le-ltb limit.records (length rs) h, lt-ltb room (length (sheet_of c rs)) l)
+  answers-read (is_done c {ys} {rs} i r h l) =
+      readable-read c i r ∙ rw (le-ltb limit.records (length rs) h, le-ltb room (length (sheet_of c rs)) l)
 
 -- reading answers a exactly where `Answers` says so
 pub answers-exactly : (n : ℕ) (area : List ℕ) (room : ℕ) (a : Answer) → Bytes area → (read_of n area room ≡ a) ↔ Answers n area room a

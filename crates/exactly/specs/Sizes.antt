@@ -1,5 +1,5 @@
 -- How many octets a sheet has that reading gives (RULES L5). Assumes nothing.
-use Rattle.std.specs.Prelude.{◌≡◌, refl, Bool, true, false, cond, List, [], ◌∷◌, map, ℕ, zero, suc, ◌+◌, ◌-◌, ◌≤◌, ◌<◌, ltb, eqb, length, take, drop}
+use Rattle.std.specs.Prelude.{◌≡◌, refl, Bool, true, false, cond, List, [], ◌∷◌, map, ℕ, zero, suc, ◌+◌, ◌-◌, ◌≤◌, ◌<◌, ltb, eq, length, take, drop}
 use Rattle.std.proofs.Common.{subst, arith, ltb-true, ltb-false}
 use Rattle.octets.specs.Lists.{All}
 use Rattle.octets.specs.ListsLaws.{all_append, flat-few}
@@ -11,31 +11,31 @@ use Rattle.carriers.specs.declared.Carrier.{Carrier}
 use Rattle.carriers.specs.declared.Carrier.TheVariants.{Dhcp4}
 use Rattle.carriers.specs.declared.Chosen.{Chosen}
 use Rattle.carriers.specs.declared.Chosen.TheVariants.{Known, Unknown}
-use Rattle.carriers.specs.Carriers.{chosen_of, headerOf}
+use Rattle.carriers.specs.Carriers.{chosen_of, header_of}
 use Rattle.carriers.specs.CarriersLaws.{by-joined}
 use Rattle.frames.specs.Frame.{Framed, framed, frame}
-use Rattle.frames.specs.Area.{blocksOf}
+use Rattle.frames.specs.Area.{blocks_of}
 use Rattle.frames.specs.Frame as area
 use Rattle.blocks.specs.Block.{Fields}
 use Rattle.judge.specs.declared.Judged.{Judged}
 use Rattle.judge.specs.Place.{judged}
-use Rattle.records.specs.Records.{Outcome, faulty, kept, further, recordOf}
-use Rattle.records.specs.Yielded.{outcomeOf}
+use Rattle.records.specs.Records.{Outcome, faulty, kept, further, record_of}
+use Rattle.records.specs.Yielded.{outcome_of}
 use Rattle.records.specs.RecordsLaws.{record-small}
-use Rattle.sheets.specs.Sheets.{sheetOf}
+use Rattle.sheets.specs.Sheets.{sheet_of}
 use Rattle.sheets.specs.SheetsLaws.{length-sheet}
-use Rattle.reading.specs.Reading.{ahead, instance, instancesFrom, joinedYield, yieldOf, inOrder, settle, readYields, readFramed, readChosen, read_of}
-use Rattle.reading.specs.Result.{Yield, discarded, yields, single, recordsIn, arrivals, discardedIn, firstFault, Done, Answer, refuse, done}
+use Rattle.reading.specs.Reading.{ahead, instance, instances_from, joined_yield, yield_of, in_order, settle, read_yields, read_framed, read_chosen, read_of}
+use Rattle.reading.specs.Result.{Yield, discarded, yields, single, records_in, arrivals, discarded_in, first_fault, Done, Answer, refuse, done}
 use Rattle.reading.specs.ListLaws.{sort-laid}
 
 -- ---- what a block yields
 
 -- a record of at most 2,298 octets
 abbrev Small : Carrier → Fields → Type 0
-Small c r = length (recordOf c r) ≤ limit.recordSize
+Small c r = length (record_of c r) ≤ limit.record_size
 
 abbrev Smalls : Carrier → Yield → Type 0
-Smalls c y = All (Small c) (recordsIn y)
+Smalls c y = All (Small c) (records_in y)
 
 -- a discarded block has no record
 unless-small : (c : Carrier) (bad : Bool) (j : Judged) (y : Yield) → Smalls c y → Smalls c (cond bad (discarded j) y)
@@ -54,46 +54,46 @@ ahead_small c n (kept r) (yields rs) h later = (h r refl, later)
 instance-small : (at : ℕ) (l : List ℕ) (go : ℕ → Yield) → ((k : ℕ) → Smalls Dhcp4 (go k)) → Smalls Dhcp4 (instance at l go)
 instance-small at l go later =
     let b : List ℕ = take (at16 l 0) (drop 2 l) in
-    let y : Yield = ahead (further (at + 2) (outcomeOf Dhcp4 b)) (go (1 + at16 l 0)) in
+    let y : Yield = ahead (further (at + 2) (outcome_of Dhcp4 b)) (go (1 + at16 l 0)) in
     let past : Bool = ltb (length l - 2) (at16 l 0) in
     let none : Judged = judged fault.field 0 in
-    let small : Smalls Dhcp4 y = ahead_small Dhcp4 (at + 2) (outcomeOf Dhcp4 b) (go (1 + at16 l 0)) (record-small Dhcp4 b) (later (1 + at16 l 0)) in
+    let small : Smalls Dhcp4 y = ahead_small Dhcp4 (at + 2) (outcome_of Dhcp4 b) (go (1 + at16 l 0)) (record-small Dhcp4 b) (later (1 + at16 l 0)) in
     unless-small Dhcp4 (ltb (length l) 2) none (cond past (discarded none) y) (unless-small Dhcp4 past none y small)
 
-instances-small : (k at : ℕ) (l : List ℕ) → Smalls Dhcp4 (instancesFrom k at l)
-unfolding instancesFrom
+instances-small : (k at : ℕ) (l : List ℕ) → Smalls Dhcp4 (instances_from k at l)
+unfolding instances_from
 instances-small k at [] = tt
-instances-small zero at (x ∷ xs) = instance-small at (x ∷ xs) (λ k. instancesFrom k (at + 1) xs) (λ k. instances-small k (at + 1) xs)
+instances-small zero at (x ∷ xs) = instance-small at (x ∷ xs) (λ k. instances_from k (at + 1) xs) (λ k. instances-small k (at + 1) xs)
 instances-small (suc k) at (x ∷ xs) = instances-small k (at + 1) xs
 
-joined_small : (b : List ℕ) → Smalls Dhcp4 (joinedYield b)
-unfolding joinedYield
-joined_small b = unless-small Dhcp4 (eqb (length b) 0) (judged fault.field 0) (instancesFrom 0 0 b) (instances-small 0 0 b)
+joined_small : (b : List ℕ) → Smalls Dhcp4 (joined_yield b)
+unfolding joined_yield
+joined_small b = unless-small Dhcp4 (eq (length b) 0) (judged fault.field 0) (instances_from 0 0 b) (instances-small 0 0 b)
 
-block-small : (c : Carrier) (b : List ℕ) → Smalls c (yieldOf c b)
+block-small : (c : Carrier) (b : List ℕ) → Smalls c (yield_of c b)
 block-small =
-    by-joined (λ c. (b : List ℕ) → Smalls c (yieldOf c b)) joined_small
-    (λ c e b. rw e (single-small c (headerOf c) (outcomeOf c b) (record-small c b)))
+    by-joined (λ c. (b : List ℕ) → Smalls c (yield_of c b)) joined_small
+    (λ c e b. rw e (single-small c (header_of c) (outcome_of c b) (record-small c b)))
 
-arrivals-small : (c : Carrier) (bs : List (List ℕ)) → All (Small c) (arrivals (map (yieldOf c) bs))
+arrivals-small : (c : Carrier) (bs : List (List ℕ)) → All (Small c) (arrivals (map (yield_of c) bs))
 arrivals-small c [] = tt
-arrivals-small c (b ∷ bs) = all_append (Small c) (recordsIn (yieldOf c b)) (arrivals (map (yieldOf c) bs)) (block-small c b) (arrivals-small c bs)
+arrivals-small c (b ∷ bs) = all_append (Small c) (records_in (yield_of c b)) (arrivals (map (yield_of c) bs)) (block-small c b) (arrivals-small c bs)
 
 -- ---- a sheet of such records
 
 -- 16 records at most, in order
-ordered-few : (c : Carrier) (rs : List Fields) → All (Small c) rs → length rs ≤ limit.records → length (sheetOf c (inOrder rs)) ≤ limit.sheetSize
+ordered-few : (c : Carrier) (rs : List Fields) → All (Small c) rs → length rs ≤ limit.records → length (sheet_of c (in_order rs)) ≤ limit.sheet_size
 ordered-few c rs h few =
-    omega (arith, length-sheet c (inOrder rs), sort-laid (recordOf c) (λ (r : Fields). r.priority) rs, flat-few (recordOf c) (Small c) limit.recordSize rs (λ r small. small) h)
+    omega (arith, length-sheet c (in_order rs), sort-laid (record_of c) (λ (r : Fields). r.priority) rs, flat-few (record_of c) (Small c) limit.record_size rs (λ r small. small) h)
 
 -- ---- the answer
 
 -- a sheet that is given has at most 36,775 octets, and 5 is answered for less room alone
 abbrev Within : ℕ → Answer → Type 0
-Within room (refuse k) = k ≡ refusal.room → room < limit.sheetSize
-Within room (done d) = length d.sheet ≤ limit.sheetSize
+Within room (refuse k) = k ≡ refusal.room → room < limit.sheet_size
+Within room (done d) = length d.sheet ≤ limit.sheet_size
 
-settle-within : (room : ℕ) (rs : List Fields) (d : Done) → (length rs ≤ limit.records → length d.sheet ≤ limit.sheetSize) → Within room (settle room rs d)
+settle-within : (room : ℕ) (rs : List Fields) (d : Done) → (length rs ≤ limit.records → length d.sheet ≤ limit.sheet_size) → Within room (settle room rs d)
 settle-within room rs d size = go (ltb limit.records (length rs)) refl (ltb room (length d.sheet)) refl
   where
     go : (more : Bool) → ltb limit.records (length rs) ≡ more → (short : Bool) → ltb room (length d.sheet) ≡ short
@@ -102,27 +102,27 @@ settle-within room rs d size = go (ltb limit.records (length rs)) refl (ltb room
     go false m true s = λ e. omega (arith, ltb-true room (length d.sheet) s, size (ltb-false _ _ m))
     go false m false s = size (ltb-false _ _ m)
 
-yields_within : (c : Carrier) (ys : List Yield) (room : ℕ) → All (Small c) (arrivals ys) → Within room (readYields c ys room)
+yields_within : (c : Carrier) (ys : List Yield) (room : ℕ) → All (Small c) (arrivals ys) → Within room (read_yields c ys room)
 yields_within c ys room h =
     settle-within room (arrivals ys)
     (record {
-      sheet = sheetOf c (inOrder (arrivals ys));
+      sheet = sheet_of c (in_order (arrivals ys));
       found = length ys;
-      discarded = discardedIn ys;
-      fault = (firstFault ys).fault;
-      place = (firstFault ys).place;
+      discarded = discarded_in ys;
+      fault = (first_fault ys).fault;
+      place = (first_fault ys).place;
     })
     (ordered-few c (arrivals ys) h)
 
-framed-within : (c : Carrier) (f : Framed) (room : ℕ) → Within room (readFramed c f room)
+framed-within : (c : Carrier) (f : Framed) (room : ℕ) → Within room (read_framed c f room)
 framed-within c area.fault room = λ e. absurd (omega arith)
-framed-within c (framed bodies) room = yields_within c (map (yieldOf c) (blocksOf c bodies)) room (arrivals-small c (blocksOf c bodies))
+framed-within c (framed bodies) room = yields_within c (map (yield_of c) (blocks_of c bodies)) room (arrivals-small c (blocks_of c bodies))
 
-chosen-within : (k : Chosen) (s : List ℕ) (room : ℕ) → Within room (readChosen k s room)
+chosen-within : (k : Chosen) (s : List ℕ) (room : ℕ) → Within room (read_chosen k s room)
 chosen-within Unknown s room = λ e. absurd (omega arith)
 chosen-within (Known c) s room = go (ltb limit.input (length s))
   where
-    go : (long : Bool) → Within room (cond long (refuse refusal.input) (readFramed c (frame c s) room))
+    go : (long : Bool) → Within room (cond long (refuse refusal.input) (read_framed c (frame c s) room))
     go true = λ e. absurd (omega arith)
     go false = framed-within c (frame c s) room
 
@@ -131,9 +131,9 @@ unfolding read_of
 read-within n s room = chosen-within (chosen_of n) s room
 
 -- a sheet that reading gives has at most 36,775 octets (RULES L5)
-pub sheet-small : (n : ℕ) (s : List ℕ) (room : ℕ) (d : Done) → read_of n s room ≡ done d → length d.sheet ≤ limit.sheetSize
+pub sheet-small : (n : ℕ) (s : List ℕ) (room : ℕ) (d : Done) → read_of n s room ≡ done d → length d.sheet ≤ limit.sheet_size
 sheet-small n s room d e = subst (Within room) e (read-within n s room)
 
 -- so a buffer of 36,775 octets is never too short for it (RULES L5)
-pub never-short : (n : ℕ) (s : List ℕ) (room : ℕ) → limit.sheetSize ≤ room → read_of n s room ≡ refuse refusal.room → ⊥
-never-short n s room enough e = let h : room < limit.sheetSize = subst (Within room) e (read-within n s room) refl in omega arith
+pub never-short : (n : ℕ) (s : List ℕ) (room : ℕ) → limit.sheet_size ≤ room → read_of n s room ≡ refuse refusal.room → ⊥
+never-short n s room enough e = let h : room < limit.sheet_size = subst (Within room) e (read-within n s room) refl in omega arith

@@ -2,12 +2,12 @@
 use Rattle.std.specs.Prelude.{◌≡◌, true, false, List, [], ◌∷◌, ◌++◌, ℕ, ◌+◌, ◌-◌, ◌≤◌, ◌<◌, length}
 use Rattle.octets.specs.Lists.{All, Stands}
 use Rattle.octets.specs.Numbers.{be}
-use Rattle.octets.specs.Fields.{putCounted}
+use Rattle.octets.specs.Fields.{put_counted}
 use Rattle.numbers.specs.Fault as fault
 use Rattle.carriers.specs.declared.Carrier.{Carrier}
-use Rattle.carriers.specs.Carriers.{number_of, code_of, headerOf, isJoined}
+use Rattle.carriers.specs.Carriers.{number_of, code_of, header_of, is_joined}
 use Rattle.names.specs.Names.{FirstBad}
-use Rattle.frames.specs.Area.{IsOption, Area, blocksOf}
+use Rattle.frames.specs.Area.{IsOption, Area, blocks_of}
 use Rattle.blocks.specs.Block.{Fields, name_at}
 use Rattle.blocks.specs.Holding.{Laid}
 use Rattle.judge.specs.declared.Side.TheVariants.{Reading}
@@ -20,10 +20,10 @@ use Rattle.exactly.specs.Answers.{Instances, BlockIs}
 -- a body of a block, with what stands before it and after it in the octets in which the block's places are counted (RULES W11)
 pub data BodyIn (c : Carrier) (area block : List ℕ) : (front body rest : List ℕ) → Type 0 where
   -- carriers 2 to 5: the block is the body of an own option, which stands in the area, and places are counted from the first octet of its header
-  of-option : (before header after : List ℕ) → isJoined c ≡ false → area ≡ before ++ ((header ++ block) ++ after) → length header ≡ headerOf c
+  of_option : (before header after : List ℕ) → is_joined c ≡ false → area ≡ before ++ ((header ++ block) ++ after) → length header ≡ header_of c
       → IsOption c (header ++ block) (code_of c) block → BodyIn c area block header block []
   -- carrier 1: the body of an instance, after instances that yield records and after its own length, in the joined data
-  of-instance : (front body rest : List ℕ) (rs : List Fields) → isJoined c ≡ true → block ≡ front ++ putCounted 2 body rest → length body < 65536
+  of_instance : (front body rest : List ℕ) (rs : List Fields) → is_joined c ≡ true → block ≡ front ++ put_counted 2 body rest → length body < 65536
       → Instances 0 front (yields rs) → BodyIn c area block (front ++ be 2 (length body)) body rest
 
 -- its name is wrong: the body is laid out from fields (RULES B1); their name stands in the octets from `start` on, and p is the place of the name's first bad
@@ -53,7 +53,7 @@ pub record FirstIn (n : ℕ) (area : List ℕ) (j : Judged) : Type 0 where
   pub chosen : number_of carrier ≡ n
   pub bodies : List (List ℕ)
   pub framed : Area carrier area bodies
-  pub first : FirstDiscarded carrier (blocksOf carrier bodies) j
+  pub first : FirstDiscarded carrier (blocks_of carrier bodies) j
 
 -- a body of that block has a name that is wrong at p
 pub record WrongIn (n : ℕ) (area : List ℕ) (p : ℕ) : Type 0 where

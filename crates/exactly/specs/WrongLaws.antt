@@ -1,45 +1,45 @@
 -- The fault and the place that a reading gives back are those of the first discarded block, and of fault 22 the place is that of its name's first bad octet
 -- (RULES W10, W11). Assumes nothing.
 use Rattle.std.proofs.Math.Path.{◌≡◌, refl, ap, subst, subst⁻¹}
-use Rattle.std.proofs.Common.{sym, ◌∙◌, true≢false, append_assoc, eqb-true, length-append}
-use Rattle.std.specs.Prelude.{Bool, true, false, cond, List, [], ◌∷◌, ◌++◌, ℕ, ◌+◌, ◌-◌, ◌≤◌, ◌<◌, eqb, length}
+use Rattle.std.proofs.Common.{sym, ◌∙◌, true≢false, append_assoc, eq-true, length-append}
+use Rattle.std.specs.Prelude.{Bool, true, false, cond, List, [], ◌∷◌, ◌++◌, ℕ, ◌+◌, ◌-◌, ◌≤◌, ◌<◌, eq, length}
 use native.Mathlib.Omega.{arith}
 use Rattle.std.proofs.Math.Nat.{add-sub_cancel_left}
-use Rattle.std.proofs.lemmas.Bool.{eqb-false}
+use Rattle.std.proofs.lemmas.Bool.{eq-false}
 use Rattle.octets.specs.Cases.{by-test}
 use Rattle.octets.specs.Numbers.{be, Bytes}
 use Rattle.octets.specs.NumbersLaws.{length-be}
 use Rattle.octets.specs.ListsLaws.{all_map, all_right, stands-within}
 use Rattle.octets.specs.Lists.{All}
-use Rattle.octets.specs.Fields.{putCounted}
+use Rattle.octets.specs.Fields.{put_counted}
 use Rattle.numbers.specs.Fault as fault
 use Rattle.carriers.specs.declared.Carrier.{Carrier}
 use Rattle.carriers.specs.declared.Carrier.TheVariants.{Dhcp4}
-use Rattle.carriers.specs.Carriers.{number_of, code_of, headerOf, headWidth, lifetimeWidth, lengthWidth, asText, isJoined}
+use Rattle.carriers.specs.Carriers.{number_of, code_of, header_of, head_width, lifetime_width, length_width, as_text, is_joined}
 use Rattle.carriers.specs.CarriersLaws.{by-joined}
 use Rattle.names.specs.Names.{FirstBad}
-use Rattle.frames.specs.Area.{IsOption, Area, blocksOf}
+use Rattle.frames.specs.Area.{IsOption, Area, blocks_of}
 use Rattle.frames.specs.Area as area
 use Rattle.blocks.specs.Block.{Fields, name_at}
 use Rattle.blocks.specs.NameLaws.{name-there, name-stands}
 use Rattle.judge.specs.declared.Side.TheVariants.{Reading}
 use Rattle.judge.specs.declared.Judged.{Judged}
 use Rattle.judge.specs.Place.{judged, from}
-use Rattle.judge.specs.Allowed.{PlaceOf, in-name, nowhere}
+use Rattle.judge.specs.Allowed.{PlaceOf, in_name, nowhere}
 use Rattle.judge.specs.PlaceLaws.{named-service, place_none, placed-from}
 use Rattle.records.specs.Records.{Outcome, faulty, kept, further}
 use Rattle.reading.specs.declared.Reading as returned
 use Rattle.reading.specs.Reading.{read_of}
-use Rattle.reading.specs.Result.{Yield, discarded, yields, single, firstFault, Answer, refuse, done, Done, told, Reads}
-use Rattle.exactly.specs.Answers.{BodyIs, short, misfilled, broken, Instances, past, first-faulty, later-faulty, one_more, BlockIs, one-body, no-instance, instances, BlocksAre, more, none, gives, ReadAs, Answers, no-carrier, too_long, unframed, too_many, no_room, is-done}
+use Rattle.reading.specs.Result.{Yield, discarded, yields, single, first_fault, Answer, refuse, done, Done, told, Reads}
+use Rattle.exactly.specs.Answers.{BodyIs, short, misfilled, broken, Instances, past, first_faulty, later_faulty, one_more, BlockIs, one_body, no_instance, instances, BlocksAre, more, none, gives, ReadAs, Answers, no_carrier, too_long, unframed, too_many, no_room, is_done}
 use Rattle.exactly.specs.AnswersLaws.{answers-exactly}
-use Rattle.exactly.specs.Wrong.{BodyIn, of-option, of-instance, WrongName, FirstDiscarded, FirstIn, WrongIn}
+use Rattle.exactly.specs.Wrong.{BodyIn, of_option, of_instance, WrongName, FirstDiscarded, FirstIn, WrongIn}
 
 -- ---- a body
 
 -- a place in a name
 placed-in : {A : List ℕ → Type 0} {name : List ℕ} {at k p : ℕ} → PlaceOf A name at k p → k ≡ fault.name → (at ≤ p) × FirstBad A name (p - at)
-placed-in {A} {name} {at} (in-name {i} b) e = (omega arith, subst⁻¹ (FirstBad A name) (add-sub_cancel_left at i) b)
+placed-in {A} {name} {at} (in_name {i} b) e = (omega arith, subst⁻¹ (FirstBad A name) (add-sub_cancel_left at i) b)
 placed-in (nowhere n) e = absurd (n e)
 
 -- a body with fault 22 between other octets, and the place counted from the first of these
@@ -76,7 +76,7 @@ record Faulty (at : ℕ) (l : List ℕ) (j : Judged) : Type 0 where
   rest : List ℕ
   records : List Fields
   fault : Judged
-  are : l ≡ front ++ putCounted 2 body rest
+  are : l ≡ front ++ put_counted 2 body rest
   small : length body < 65536
   yielding : Instances at front (yields records)
   is : BodyIs Dhcp4 body (faulty fault)
@@ -84,7 +84,7 @@ record Faulty (at : ℕ) (l : List ℕ) (j : Judged) : Type 0 where
 
 first-instance : {at : ℕ} {l : List ℕ} {j : Judged} → Instances at l (discarded j) → j.fault ≡ fault.name → Faulty at l j
 first-instance (past some n) k = absurd (omega arith)
-first-instance (first-faulty {at} {joined} {body} {rest} {j = i} b is) k =
+first-instance (first_faulty {at} {joined} {body} {rest} {j = i} b is) k =
     let same : at + 0 + 2 ≡ at + 2 = omega arith in
     record {
       front = [];
@@ -98,22 +98,22 @@ first-instance (first-faulty {at} {joined} {body} {rest} {j = i} b is) k =
       is = is;
       counted = ap (λ (n : ℕ). from n i) same;
     }
-first-instance (later-faulty {at} {joined} {body} {rest} {r} b is later) k =
+first-instance (later_faulty {at} {joined} {body} {rest} {r} b is later) k =
     let f = first-instance later k in
     let size : List ℕ = be 2 (length body) in
-    let long : length (putCounted 2 body f.front) ≡ 2 + length body + length f.front =
+    let long : length (put_counted 2 body f.front) ≡ 2 + length body + length f.front =
     length-append size (body ++ f.front) ∙ omega (arith, length-be 2 (length body), length-append body f.front) in
-    let same : at + length (putCounted 2 body f.front) + 2 ≡ at + 2 + length body + length f.front + 2 = omega arith in
-    let after : List ℕ = putCounted 2 f.body f.rest in
+    let same : at + length (put_counted 2 body f.front) + 2 ≡ at + 2 + length body + length f.front + 2 = omega arith in
+    let after : List ℕ = put_counted 2 f.body f.rest in
     record {
-      front = putCounted 2 body f.front;
+      front = put_counted 2 body f.front;
       body = f.body;
       rest = f.rest;
       records = r ∷ f.records;
       fault = f.fault;
       are =
           b.are
-          ∙ ap (putCounted 2 body) f.are
+          ∙ ap (put_counted 2 body) f.are
           ∙ ap (λ (x : List ℕ). size ++ x) (sym (append_assoc body f.front after))
           ∙ sym (append_assoc size (body ++ f.front) after);
       small = f.small;
@@ -124,14 +124,14 @@ first-instance (later-faulty {at} {joined} {body} {rest} {r} b is later) k =
 
 instances-nowhere : {at : ℕ} {l : List ℕ} {j : Judged} → Instances at l (discarded j) → (j.fault ≡ fault.name → ⊥) → j.place ≡ 0
 instances-nowhere (past some n) k = refl
-instances-nowhere (first-faulty {at} {j = i} b is) k = sym (place_none (at + 2) i.fault i.place k)
-instances-nowhere (later-faulty b is later) k = instances-nowhere later k
+instances-nowhere (first_faulty {at} {j = i} b is) k = sym (place_none (at + 2) i.fault i.place k)
+instances-nowhere (later_faulty b is later) k = instances-nowhere later k
 
 -- ---- a block
 
 -- where options are joined, the carrier is 1
-joined-first : (c : Carrier) → isJoined c ≡ true → c ≡ Dhcp4
-joined-first = by-joined (λ c. isJoined c ≡ true → c ≡ Dhcp4) (λ _. refl) (λ c e t. absurd (true≢false (sym t ∙ e)))
+joined-first : (c : Carrier) → is_joined c ≡ true → c ≡ Dhcp4
+joined-first = by-joined (λ c. is_joined c ≡ true → c ≡ Dhcp4) (λ _. refl) (λ c e t. absurd (true≢false (sym t ∙ e)))
 
 single-discarded : (n : ℕ) (o : Outcome) (j : Judged) → single (further n o) ≡ discarded j → (i : Judged) × (o ≡ faulty i) × (from n i ≡ j)
 single-discarded n (faulty i) j e = (i, refl, (cc))
@@ -172,18 +172,18 @@ option-in {c} (area.foreign {option = whole} {area = l} {bodies = bodies} i n a)
     all_map (OptionIn c l) (OptionIn c (whole ++ l)) bodies (further-in whole) (option-in a)
 
 -- an option is its header and its body
-option-wrong : (c : Carrier) (octets block : List ℕ) {i j : Judged} → isJoined c ≡ false → OptionIn c octets block → BodyIs c block (faulty i)
-    → from (headerOf c) i ≡ j → j.fault ≡ fault.name → Wrong c octets block j.place
+option-wrong : (c : Carrier) (octets block : List ℕ) {i j : Judged} → is_joined c ≡ false → OptionIn c octets block → BodyIs c block (faulty i)
+    → from (header_of c) i ≡ j → j.fault ≡ fault.name → Wrong c octets block j.place
 option-wrong c octets block apart o is e k =
-    let first : List ℕ = be (headWidth c) o.is.stands in
-    let second : List ℕ = be (headWidth c) o.is.size in
+    let first : List ℕ = be (head_width c) o.is.stands in
+    let second : List ℕ = be (head_width c) o.is.size in
     let header : List ℕ = first ++ second in
-    let long : length header ≡ headerOf c =
-    length-append first second ∙ omega (arith, length-be (headWidth c) o.is.stands, length-be (headWidth c) o.is.size) in
+    let long : length header ≡ header_of c =
+    length-append first second ∙ omega (arith, length-be (head_width c) o.is.stands, length-be (head_width c) o.is.size) in
     let same : o.whole ≡ header ++ block = o.is.laid ∙ sym (append_assoc first second block) in
     let there : octets ≡ o.before ++ ((header ++ block) ++ o.after) = o.are ∙ ap (λ (l : List ℕ). o.before ++ (l ++ o.after)) same in
     let option : IsOption c (header ++ block) (code_of c) block = subst (λ (l : List ℕ). IsOption c l (code_of c) block) same o.is in
-    (header, block, [], of-option o.before header o.after apart there long option, wrong-at c header block [] long e is k)
+    (header, block, [], of_option o.before header o.after apart there long option, wrong-at c header block [] long e is k)
 
 -- the first instance with a fault
 instances-wrong : (octets block : List ℕ) {j : Judged} → Instances 0 block (discarded j) → j.fault ≡ fault.name → Wrong Dhcp4 octets block j.place
@@ -192,32 +192,32 @@ instances-wrong octets block i k =
     let size : List ℕ = be 2 (length f.body) in
     let long : length (f.front ++ size) ≡ 0 + length f.front + 2 =
     length-append f.front size ∙ omega (arith, length-be 2 (length f.body)) in
-    (f.front ++ size, f.body, f.rest, of-instance f.front f.body f.rest f.records refl f.are f.small f.yielding, wrong-at Dhcp4 (f.front ++ size) f.body f.rest long f.counted f.is k)
+    (f.front ++ size, f.body, f.rest, of_instance f.front f.body f.rest f.records refl f.are f.small f.yielding, wrong-at Dhcp4 (f.front ++ size) f.body f.rest long f.counted f.is k)
 
 -- a block with fault 22, in carriers 2 to 5 of an option that stands in the area
-block-wrong : (c : Carrier) (octets block : List ℕ) (j : Judged) {y : Yield} → (isJoined c ≡ false → OptionIn c octets block) → BlockIs c block y
+block-wrong : (c : Carrier) (octets block : List ℕ) (j : Judged) {y : Yield} → (is_joined c ≡ false → OptionIn c octets block) → BlockIs c block y
     → y ≡ discarded j → j.fault ≡ fault.name → Wrong c octets block j.place
-block-wrong c octets block j there (one-body {o} e i) q k =
-    let s = single-discarded (headerOf c) o j q in
+block-wrong c octets block j there (one_body {o} e i) q k =
+    let s = single-discarded (header_of c) o j q in
     option-wrong c octets block e (there e) (subst (BodyIs c block) s.1 i) s.2 k
-block-wrong c octets block j there (no-instance e n) q k = let z : judged fault.field 0 ≡ j = cc in absurd (omega (arith, ap (λ (j : Judged). j.fault) z))
+block-wrong c octets block j there (no_instance e n) q k = let z : judged fault.field 0 ≡ j = cc in absurd (omega (arith, ap (λ (j : Judged). j.fault) z))
 block-wrong c octets block j there (instances e some i) q k =
     subst⁻¹ (λ (c : Carrier). Wrong c octets block j.place) (joined-first c e) (instances-wrong octets block (subst (Instances 0 block) q i) k)
 
 -- and with another fault
 block-nowhere : (c : Carrier) (block : List ℕ) (j : Judged) {y : Yield} → BlockIs c block y → y ≡ discarded j → (j.fault ≡ fault.name → ⊥) → j.place ≡ 0
-block-nowhere c block j (one-body {o} e i) q k =
-    let s = single-discarded (headerOf c) o j q in
+block-nowhere c block j (one_body {o} e i) q k =
+    let s = single-discarded (header_of c) o j q in
     let d : Judged = s.0 in
-    ap (λ (j : Judged). j.place) (sym s.2) ∙ sym (place_none (headerOf c) d.fault d.place (λ z. k (sym (ap (λ (j : Judged). j.fault) s.2) ∙ z)))
-block-nowhere c block j (no-instance e n) q k = let z : judged fault.field 0 ≡ j = cc in ap (λ (j : Judged). j.place) (sym z)
+    ap (λ (j : Judged). j.place) (sym s.2) ∙ sym (place_none (header_of c) d.fault d.place (λ z. k (sym (ap (λ (j : Judged). j.fault) s.2) ∙ z)))
+block-nowhere c block j (no_instance e n) q k = let z : judged fault.field 0 ≡ j = cc in ap (λ (j : Judged). j.place) (sym z)
 block-nowhere c block j (instances e some i) q k = instances-nowhere (subst (Instances 0 block) q i) k
 
 -- ---- the blocks of an area
 
 -- a fault that blocks have together is that of the first that is discarded
-first_found : {c : Carrier} {blocks : List (List ℕ)} {ys : List Yield} → BlocksAre c blocks ys → ((firstFault ys).fault ≡ 0 → ⊥)
-    → FirstDiscarded c blocks (firstFault ys)
+first_found : {c : Carrier} {blocks : List (List ℕ)} {ys : List Yield} → BlocksAre c blocks ys → ((first_fault ys).fault ≡ 0 → ⊥)
+    → FirstDiscarded c blocks (first_fault ys)
 first_found none n = absurd (n refl)
 first_found (more {block = block} {blocks = blocks} {y = discarded j} i later) n = record { before = []; block = block; after = blocks; are = refl; taken = tt; is = i }
 first_found (more {block = block} {blocks = blocks} {y = yields rs} i later) n =
@@ -231,7 +231,7 @@ first_found (more {block = block} {blocks = blocks} {y = yields rs} i later) n =
       is = f.is;
     }
 
-no-fault : {c : Carrier} {blocks : List (List ℕ)} {ys : List Yield} → BlocksAre c blocks ys → (firstFault ys).fault ≡ 0 → (firstFault ys).place ≡ 0
+no-fault : {c : Carrier} {blocks : List (List ℕ)} {ys : List Yield} → BlocksAre c blocks ys → (first_fault ys).fault ≡ 0 → (first_fault ys).place ≡ 0
 no-fault none z = refl
 no-fault (more {block = block} {blocks = blocks} {y = discarded j} i later) z = block-nowhere _ block j i refl (λ e. omega arith)
 no-fault (more {block = block} {blocks = blocks} {y = yields rs} i later) z = no-fault later z
@@ -252,12 +252,12 @@ module _ (n : ℕ) (octets : List ℕ) (room : ℕ) (d : Done) (bytes : Bytes oc
 
       go : {a : Answer} → Answers n octets room a → a ≡ done d
           → (c : Carrier) × (ys : List Yield) × (rs : List Fields) × (number_of c ≡ n) × ReadAs c octets ys rs × (d ≡ gives c ys rs)
-      go (no-carrier never) q = absurd (refused q)
+      go (no_carrier never) q = absurd (refused q)
       go (too_long c h long) q = absurd (refused q)
       go (unframed c h whole never) q = absurd (refused q)
       go (too_many c h r many) q = absurd (refused q)
       go (no_room c h r few less) q = absurd (refused q)
-      go (is-done c {ys} {rs} h r few fits) q = (c, ys, rs, h, r, (cc))
+      go (is_done c {ys} {rs} h r few fits) q = (c, ys, rs, h, r, (cc))
 
   -- the fault and the place are those of the first block that is discarded
   pub reading-first : (d.fault ≡ 0 → ⊥) → FirstIn n octets (judged d.fault d.place)
@@ -265,11 +265,11 @@ module _ (n : ℕ) (octets : List ℕ) (room : ℕ) (d : Done) (bytes : Bytes oc
   reading-first some =
       let (c, ys, rs, h, r, q) = reads in
       let f = first_found r.blocks (λ z. some (ap (λ (d : Done). d.fault) q ∙ z)) in
-      let same : firstFault ys ≡ judged d.fault d.place = ap (λ (d : Done). judged d.fault d.place) (sym q) in
-      record { carrier = c; chosen = h; bodies = r.bodies; framed = r.framed; first = subst (FirstDiscarded c (blocksOf c r.bodies)) same f }
+      let same : first_fault ys ≡ judged d.fault d.place = ap (λ (d : Done). judged d.fault d.place) (sym q) in
+      record { carrier = c; chosen = h; bodies = r.bodies; framed = r.framed; first = subst (FirstDiscarded c (blocks_of c r.bodies)) same f }
 
   -- in carriers 2 to 5 that block is the body of an option that stands in the area
-  option-of : {j : Judged} (f : FirstIn n octets j) → isJoined f.carrier ≡ false → OptionIn f.carrier octets f.first.block
+  option-of : {j : Judged} (f : FirstIn n octets j) → is_joined f.carrier ≡ false → OptionIn f.carrier octets f.first.block
   option-of f apart =
       let c : Carrier = f.carrier in
       let blocks : f.bodies ≡ f.first.before ++ (f.first.block ∷ f.first.after) =
@@ -289,7 +289,7 @@ module _ (n : ℕ) (octets : List ℕ) (room : ℕ) (d : Done) (bytes : Bytes oc
   -- and without it there is no place
   pub no_place : (d.fault ≡ fault.name → ⊥) → d.place ≡ 0
   unfolding WasRead
-  no_place k = by-test (eqb d.fault 0) (λ _. d.place ≡ 0) (λ z. without (eqb-true _ _ z)) (λ z. some (eqb-false _ _ z))
+  no_place k = by-test (eq d.fault 0) (λ _. d.place ≡ 0) (λ z. without (eq-true _ _ z)) (λ z. some (eq-false _ _ z))
     where
       without : d.fault ≡ 0 → d.place ≡ 0
       without z = let (c, ys, rs, h, r, q) = reads in ap (λ (d : Done). d.place) q ∙ no-fault r.blocks (sym (ap (λ (d : Done). d.fault) q) ∙ z)
@@ -321,5 +321,5 @@ module _ (n : ℕ) (octets sheet sheet' : List ℕ) (r : returned.Reading) (byte
 pub place-some : {c : Carrier} {front body rest : List ℕ} {p : ℕ} → WrongName c front body rest p → 0 < p
 place-some {c} w =
     let m : ℕ = length w.fields.addresses in
-    let after : 0 < name_at c m = by-test (asText c) (λ t. 0 < cond t (4 + m) (2 + lifetimeWidth c + lengthWidth c)) (λ _. omega arith) (λ _. omega arith) in
+    let after : 0 < name_at c m = by-test (as_text c) (λ t. 0 < cond t (4 + m) (2 + lifetime_width c + length_width c)) (λ _. omega arith) (λ _. omega arith) in
     omega (arith, w.starts, w.from)

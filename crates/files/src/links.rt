@@ -2,7 +2,7 @@
 ghost use Rattle.std.specs.Prelude.{◌≡◌, ◌≤◌, length};
 ghost use Rattle.io.specs.Counts.{IsPrefixLen};
 ghost use Rattle.libc.specs.Io.{Ended};
-ghost use Rattle.files.specs.Paths.{folderOf, place_of};
+ghost use Rattle.files.specs.Paths.{folder_of, place_of};
 
 use chars::put_all;
 use libc::PATH_MAX;
@@ -25,7 +25,7 @@ pub fn ended(path: &[u8]) -> [u8; PATH_MAX]
 
 // The index after the last slash.
 pub fn folder(path: &[u8]) -> usize
-    ensures value { result ≡ folderOf path.now }
+    ensures value { result ≡ folder_of path.now }
     ensures prefix_len { IsPrefixLen result path.now }
 {
     let mut i = path.len();

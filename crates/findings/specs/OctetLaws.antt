@@ -10,9 +10,9 @@ use Rattle.frames.specs.Step.{part}
 use Rattle.frames.specs.Laws.{fault-framed, step_end, step-fault, step-skipped, step_block}
 use Rattle.frames.specs.GatherLaws.{part_length}
 use Rattle.frames.specs.AreaLaws.{framed-same}
-use Rattle.findings.specs.Spots.{Spot, spotsOf, place_in}
+use Rattle.findings.specs.Spots.{Spot, spots_of, place_in}
 use Rattle.findings.specs.Told.{body_at, Lies}
-use Rattle.findings.specs.SpotsLaws.{spotsAt, spots-block, spots-skipped, spots-end, spots-fault, by-steps}
+use Rattle.findings.specs.SpotsLaws.{spots_at, spots-block, spots-skipped, spots-end, spots-fault, by-steps}
 use Rattle.findings.specs.PlacingLaws.{place_none, place-in, place_after}
 
 framed-more : {b : List ℕ} {f : Framed} {bs : List (List ℕ)} → onto true b f ≡ framed bs → (cs : List (List ℕ)) × (f ≡ framed cs) × (b ∷ cs ≡ bs)
@@ -23,17 +23,17 @@ framed-more {b} {f} {bs} = go f
     go (framed cs) e = (cs, refl, cc)
 
 module _ (c : Carrier) (area : List ℕ) where
-  pub spots-lie : All (Lies area) (spotsOf c area)
+  pub spots-lie : All (Lies area) (spots_of c area)
   spots-lie =
-      by-steps c area (λ at. All (Lies area) (spotsAt c area at))
+      by-steps c area (λ at. All (Lies area) (spots_at c area at))
       (λ at e. subst⁻¹ (All (Lies area)) (spots-end c area at e) tt)
       (λ at w e. subst⁻¹ (All (Lies area)) (spots-fault c area at e) tt)
       (λ at to e h. subst⁻¹ (All (Lies area)) (spots-skipped c area at e) h)
       (λ at start to e h. let m = step_block c area at e in subst⁻¹ (All (Lies area)) (spots-block c area at e) ((m.1, m.2), h))
 
-  pub spots-bodies : {bs : List (List ℕ)} → frame c area ≡ framed bs → map (body_at area) (spotsOf c area) ≡ bs
+  pub spots-bodies : {bs : List (List ℕ)} → frame c area ≡ framed bs → map (body_at area) (spots_of c area) ≡ bs
   spots-bodies {bs} =
-      by-steps c area (λ at. (bs : List (List ℕ)) → frame c (drop at area) ≡ framed bs → map (body_at area) (spotsAt c area at) ≡ bs)
+      by-steps c area (λ at. (bs : List (List ℕ)) → frame c (drop at area) ≡ framed bs → map (body_at area) (spots_at c area at) ≡ bs)
       (λ at e bs q. ap (map (body_at area)) (spots-end c area at e) ∙ framed-same (sym (step_end c area at e) ∙ q))
       (λ at w e bs q. absurd (fault-framed (sym (step-fault c area at e w) ∙ q)))
       (λ at to e h bs q. ap (map (body_at area)) (spots-skipped c area at e) ∙ h bs (sym (step-skipped c area at e).2 ∙ q))

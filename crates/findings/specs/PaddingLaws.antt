@@ -1,16 +1,16 @@
--- `pastPadding` finds the first octet that padding cannot have. Assumes nothing.
-use Rattle.std.specs.Prelude.{◌≡◌, refl, Bool, true, false, cond, ◌&&◌, ◌⊎◌, List, [], ◌∷◌, ◌++◌, ℕ, suc, ◌+◌, ◌-◌, ◌≤◌, ◌<◌, ltb, eqb, length, get_or, take}
-use Rattle.std.proofs.Common.{ap, ◌∙◌, subst, inl, inr, ⊎_elim, add-one, arith, lt-ltb, le-ltb, ltb-true, ltb-false, eqb-true, take_all, take-suc, length-take-le}
+-- `past_padding` finds the first octet that padding cannot have. Assumes nothing.
+use Rattle.std.specs.Prelude.{◌≡◌, refl, Bool, true, false, cond, ◌&&◌, ◌⊎◌, List, [], ◌∷◌, ◌++◌, ℕ, suc, ◌+◌, ◌-◌, ◌≤◌, ◌<◌, ltb, eq, length, get_or, take}
+use Rattle.std.proofs.Common.{ap, ◌∙◌, subst, inl, inr, ⊎_elim, add-one, arith, lt-ltb, le-ltb, ltb-true, ltb-false, eq-true, take_all, take-suc, length-take-le}
 use Rattle.std.proofs.Math.Bool.{and-false, and-eq-true_iff}
-use Rattle.std.proofs.lemmas.Bool.{eqb-false}
+use Rattle.std.proofs.lemmas.Bool.{eq-false}
 use Rattle.octets.specs.Cases.{by-test}
 use Rattle.octets.specs.Lists.{All}
 use Rattle.octets.specs.ListsLaws.{all_right}
-use Rattle.octets.specs.Numbers.{allZero}
+use Rattle.octets.specs.Numbers.{all_zero}
 use Rattle.octets.specs.NumbersLaws.{zero-exactly}
-use Rattle.blocks.specs.Parse.{isPadding}
+use Rattle.blocks.specs.Parse.{is_padding}
 use Rattle.blocks.specs.Holding.{Padding}
-use Rattle.findings.specs.Troubles.{pastPadding}
+use Rattle.findings.specs.Troubles.{past_padding}
 use Rattle.findings.specs.Told.{FirstUnpadded}
 
 -- after n octets of padding, u - n octets of l are zeros, and the one after them is none or is too much
@@ -43,34 +43,34 @@ found-later n x u xs z f =
       ends = rw one (λ h. f.ends (omega arith));
     }
 
-found : (n : ℕ) (l : List ℕ) → n < 8 → Found n l (pastPadding n l)
-unfolding pastPadding
+found : (n : ℕ) (l : List ℕ) → n < 8 → Found n l (past_padding n l)
+unfolding past_padding
 found n [] h = found_here n [] h (λ k. absurd (omega arith))
-found n (x ∷ xs) h = go (λ (k : n + 1 < 8). found (n + 1) xs k) (eqb x 0) (ltb n 7) refl refl
+found n (x ∷ xs) h = go (λ (k : n + 1 < 8). found (n + 1) xs k) (eq x 0) (ltb n 7) refl refl
   where
-    go : (n + 1 < 8 → Found (n + 1) xs (pastPadding (n + 1) xs)) → (a b : Bool) → eqb x 0 ≡ a → ltb n 7 ≡ b
-        → Found n (x ∷ xs) (cond (a && b) (pastPadding (n + 1) xs) n)
-    go ih true true z k = let less : n < 7 = ltb-true _ _ k in found-later n x (pastPadding (n + 1) xs) xs (eqb-true _ _ z) (ih (omega arith))
+    go : (n + 1 < 8 → Found (n + 1) xs (past_padding (n + 1) xs)) → (a b : Bool) → eq x 0 ≡ a → ltb n 7 ≡ b
+        → Found n (x ∷ xs) (cond (a && b) (past_padding (n + 1) xs) n)
+    go ih true true z k = let less : n < 7 = ltb-true _ _ k in found-later n x (past_padding (n + 1) xs) xs (eq-true _ _ z) (ih (omega arith))
     go ih true false z k = let more : 7 ≤ n = ltb-false _ _ k in found_here n (x ∷ xs) h (λ _. inl (omega arith))
-    go ih false b z k = found_here n (x ∷ xs) h (λ _. inr (eqb-false _ _ z))
+    go ih false b z k = found_here n (x ∷ xs) h (λ _. inr (eq-false _ _ z))
 
 -- ---- so it is the first
 
-few-zeros : (l : List ℕ) → length l < 8 → All (λ x. x ≡ 0) l → isPadding l ≡ true
-unfolding isPadding
-few-zeros l h z = (and-eq-true_iff (ltb (length l) 8) (allZero l)).1 (lt-ltb _ _ h, (zero-exactly l).1 z)
+few-zeros : (l : List ℕ) → length l < 8 → All (λ x. x ≡ 0) l → is_padding l ≡ true
+unfolding is_padding
+few-zeros l h z = (and-eq-true_iff (ltb (length l) 8) (all_zero l)).1 (lt-ltb _ _ h, (zero-exactly l).1 z)
 
-many-none : (l : List ℕ) → 8 ≤ length l → isPadding l ≡ false
-unfolding isPadding
+many-none : (l : List ℕ) → 8 ≤ length l → is_padding l ≡ false
+unfolding is_padding
 many-none l h = simp (le-ltb _ _ h)
 
-other_none : (l : List ℕ) → (All (λ x. x ≡ 0) l → ⊥) → isPadding l ≡ false
-unfolding isPadding
+other_none : (l : List ℕ) → (All (λ x. x ≡ 0) l → ⊥) → is_padding l ≡ false
+unfolding is_padding
 other_none l n =
-    by-test (allZero l) (λ z. ltb (length l) 8 && z ≡ false) (λ z. absurd (n ((zero-exactly l).0 z))) (λ _. and-false (ltb (length l) 8))
+    by-test (all_zero l) (λ z. ltb (length l) 8 && z ≡ false) (λ z. absurd (n ((zero-exactly l).0 z))) (λ _. and-false (ltb (length l) 8))
 
-pub first-unpadded : (l : List ℕ) → (Padding l → ⊥) → FirstUnpadded l (pastPadding 0 l)
-first-unpadded l n = go (pastPadding 0 l) (found 0 l (omega arith))
+pub first-unpadded : (l : List ℕ) → (Padding l → ⊥) → FirstUnpadded l (past_padding 0 l)
+first-unpadded l n = go (past_padding 0 l) (found 0 l (omega arith))
   where
     go : (k : ℕ) → Found 0 l k → FirstUnpadded l k
     go k f =

@@ -1,9 +1,9 @@
 -- Places by what stands in a body: one law for each way out of the code. Assumes nothing.
-use Rattle.std.specs.Prelude.{◌≡◌, Bool, true, false, ℕ, ◌+◌, ◌-◌, ◌*◌, ◌≤◌, ◌<◌, eqb, length, get_or, take}
+use Rattle.std.specs.Prelude.{◌≡◌, Bool, true, false, ℕ, ◌+◌, ◌-◌, ◌*◌, ◌≤◌, ◌<◌, eq, length, get_or, take}
 use Rattle.std.proofs.Common.{sym, ◌∙◌, add-one, arith, drop-cons}
 use Rattle.std.proofs.Math.Bool.{cond, and-false}
 use mathlib.Core.List.{List, []}
-use borrow.Author.Tests.{lt-ltb, le-ltb, le-leb, lt-leb, eq-eqb, ne_eqb}
+use borrow.Author.Tests.{lt-ltb, le-ltb, le-leb, lt-leb, eq-eq, ne_eqb}
 use Rattle.std.proofs.Math.ListN.{drop, drop_of_length-le}
 use Rattle.octets.specs.Cases.{by-test}
 use Rattle.octets.specs.Numbers.{at16}
@@ -11,10 +11,10 @@ use Rattle.octets.specs.ListsLaws.{take_rest}
 use Rattle.numbers.specs.Fault as fault
 use Rattle.numbers.specs.Limit as limit
 use Rattle.carriers.specs.declared.Carrier.{Carrier}
-use Rattle.carriers.specs.Carriers.{lengthWidth, lifetimeIn, lifetimeWidth, addressWidth, asText}
+use Rattle.carriers.specs.Carriers.{length_width, lifetime_in, lifetime_width, address_width, as_text}
 use Rattle.carriers.specs.CarriersLaws.{by_length, address-width}
 use Rattle.blocks.specs.Block.{name_at}
-use Rattle.findings.specs.Troubles.{near16, paddingAt, pastPadding, laidPlace, addressLengthAt, addressesAt, parametersAt, limitAt, fieldPlace}
+use Rattle.findings.specs.Troubles.{near16, padding_at, past_padding, laid_place, address_length_at, addresses_at, parameters_at, limit_at, field_place}
 
 -- ---- 20 and 29
 
@@ -28,162 +28,162 @@ module _ (b : List ℕ) (at : ℕ) where
   near-there h = simp (le-leb _ _ h)
 
 module _ (b : List ℕ) {x : ℕ} (e : x ≡ near16 b 6) where
-  pub padding-after-name : length b < 8 + x + 8 → 8 + x ≡ paddingAt b
-  unfolding paddingAt
+  pub padding-after-name : length b < 8 + x + 8 → 8 + x ≡ padding_at b
+  unfolding padding_at
   padding-after-name h = simp (← e, lt-ltb _ _ h)
 
   pub padding-after-fields : {y z : ℕ} → 8 + x + 8 ≤ length b → y ≡ near16 b (8 + x) → z ≡ near16 b (8 + x + 2 + y)
-      → 8 + x + 2 + y + 2 + z ≡ paddingAt b
-  unfolding paddingAt
+      → 8 + x + 2 + y + 2 + z ≡ padding_at b
+  unfolding padding_at
   padding-after-fields h i j = simp (← e, le-ltb _ _ h, ← i, ← j)
 
 module _ (l : List ℕ) (i : ℕ) where
-  pub past-other : i < length l → (get_or l i 0 ≡ 0 → ⊥) → pastPadding i (drop i l) ≡ i
-  unfolding pastPadding
+  pub past-other : i < length l → (get_or l i 0 ≡ 0 → ⊥) → past_padding i (drop i l) ≡ i
+  unfolding past_padding
   past-other h n = rw (drop-cons l i 0, ne_eqb (get_or l i 0) 0 n)
 
-  pub past-many : i < length l → 7 ≤ i → pastPadding i (drop i l) ≡ i
-  unfolding pastPadding
+  pub past-many : i < length l → 7 ≤ i → past_padding i (drop i l) ≡ i
+  unfolding past_padding
   past-many h k = simp (drop-cons l i 0 h, le-ltb i 7 k, and-false)
 
-  pub past-turn : i < length l → get_or l i 0 ≡ 0 → i < 7 → pastPadding i (drop i l) ≡ pastPadding (i + 1) (drop (i + 1) l)
-  unfolding pastPadding
+  pub past-turn : i < length l → get_or l i 0 ≡ 0 → i < 7 → past_padding i (drop i l) ≡ past_padding (i + 1) (drop (i + 1) l)
+  unfolding past_padding
   past-turn h e k = rw (drop-cons l i 0, e, lt-ltb i 7 k, add-one)
 
-  pub past_end : length l ≤ i → pastPadding i (drop i l) ≡ i
-  unfolding pastPadding
+  pub past_end : length l ≤ i → past_padding i (drop i l) ≡ i
+  unfolding past_padding
   past_end h = rw (drop_of_length-le l h)
 
 module _ (k : ℕ) (b : List ℕ) where
-  pub laid-other : (k ≡ fault.padding → ⊥) → length b ≡ laidPlace k b
-  unfolding laidPlace
+  pub laid-other : (k ≡ fault.padding → ⊥) → length b ≡ laid_place k b
+  unfolding laid_place
   laid-other n = simp (ne_eqb _ _ n)
 
-  module _ (e : k ≡ fault.padding) {from : ℕ} (f : from ≡ paddingAt b) where
-    pub laid-past : length b < from → from ≡ laidPlace k b
-    unfolding laidPlace pastPadding
+  module _ (e : k ≡ fault.padding) {from : ℕ} (f : from ≡ padding_at b) where
+    pub laid-past : length b < from → from ≡ laid_place k b
+    unfolding laid_place past_padding
     laid-past h =
         let none : drop from b ≡ [] = drop_of_length-le b {i = from} (omega arith) in
-        simp (eq-eqb _ _ e, ← f, none) (omega arith)
+        simp (eq-eq _ _ e, ← f, none) (omega arith)
 
-    pub laid-padding : {n : ℕ} → n ≡ pastPadding 0 (take (length b - from) (drop from b)) → from + n ≡ laidPlace k b
-    unfolding laidPlace
-    laid-padding i = simp (eq-eqb _ _ e, ← f, i, take_rest)
+    pub laid-padding : {n : ℕ} → n ≡ past_padding 0 (take (length b - from) (drop from b)) → from + n ≡ laid_place k b
+    unfolding laid_place
+    laid-padding i = simp (eq-eq _ _ e, ← f, i, take_rest)
 
 -- ---- 21 to 28
 
 -- as the code has it: whether the name is text, the widths, and the places before
-module _ (c : Carrier) {text : Bool} (e : text ≡ asText c) where
-  is-text : {b : Bool} → text ≡ b → asText c ≡ b
+module _ (c : Carrier) {text : Bool} (e : text ≡ as_text c) where
+  is-text : {b : Bool} → text ≡ b → as_text c ≡ b
   is-text t = sym e ∙ t
 
   pub name-text : (m : ℕ) → text ≡ true → 4 + m ≡ name_at c m
   name-text m t = simp (is-text t)
 
-  pub name-wire : (m : ℕ) {t w : ℕ} → text ≡ false → t ≡ lifetimeWidth c → w ≡ lengthWidth c → 2 + t + w ≡ name_at c m
+  pub name-wire : (m : ℕ) {t w : ℕ} → text ≡ false → t ≡ lifetime_width c → w ≡ length_width c → 2 + t + w ≡ name_at c m
   name-wire m f et ew = simp (is-text f, et, ew)
 
   module _ (n : ℕ) where
-    pub length-text : text ≡ true → 2 ≡ addressLengthAt c n
-    unfolding addressLengthAt
+    pub length-text : text ≡ true → 2 ≡ address_length_at c n
+    unfolding address_length_at
     length-text t = simp (is-text t)
 
-    pub length-wire : {i : ℕ} → text ≡ false → i ≡ name_at c 0 → i + n ≡ addressLengthAt c n
-    unfolding addressLengthAt
+    pub length-wire : {i : ℕ} → text ≡ false → i ≡ name_at c 0 → i + n ≡ address_length_at c n
+    unfolding address_length_at
     length-wire f ei = simp (is-text f, ei)
 
-    pub addresses-text : text ≡ true → 4 ≡ addressesAt c n
-    unfolding addressesAt
+    pub addresses-text : text ≡ true → 4 ≡ addresses_at c n
+    unfolding addresses_at
     addresses-text t = simp (is-text t)
 
-    pub addresses-wire : {i w : ℕ} → text ≡ false → i ≡ addressLengthAt c n → w ≡ lengthWidth c → i + w ≡ addressesAt c n
-    unfolding addressesAt
+    pub addresses-wire : {i w : ℕ} → text ≡ false → i ≡ address_length_at c n → w ≡ length_width c → i + w ≡ addresses_at c n
+    unfolding addresses_at
     addresses-wire f ei ew = simp (is-text f, ei, ew)
 
     module _ (m : ℕ) where
-      pub parameters-text : text ≡ true → 4 + m + n ≡ parametersAt c n m
-      unfolding parametersAt
+      pub parameters-text : text ≡ true → 4 + m + n ≡ parameters_at c n m
+      unfolding parameters_at
       parameters-text t = simp (is-text t)
 
-      module _ {i t : ℕ} (f : text ≡ false) (et : t ≡ lifetimeWidth c) (ei : i ≡ addressesAt c n) where
-        pub parameters-wire : t ≡ 0 → i + m ≡ parametersAt c n m
-        unfolding parametersAt
-        parameters-wire z = simp (is-text f, eq-eqb _ _ (sym et ∙ z), ei) (omega arith)
+      module _ {i t : ℕ} (f : text ≡ false) (et : t ≡ lifetime_width c) (ei : i ≡ addresses_at c n) where
+        pub parameters-wire : t ≡ 0 → i + m ≡ parameters_at c n m
+        unfolding parameters_at
+        parameters-wire z = simp (is-text f, eq-eq _ _ (sym et ∙ z), ei) (omega arith)
 
-        pub parameters-padded : (t ≡ 0 → ⊥) → i + m + 2 ≡ parametersAt c n m
-        unfolding parametersAt
+        pub parameters-padded : (t ≡ 0 → ⊥) → i + m + 2 ≡ parameters_at c n m
+        unfolding parameters_at
         parameters-padded z = simp (is-text f, ne_eqb _ _ (λ y. z (et ∙ y)), ei)
 
-module _ (c : Carrier) (n m : ℕ) {w : ℕ} (e : w ≡ addressWidth c) where
-  pub limit-addresses : {i : ℕ} → i ≡ addressesAt c n → limit.addresses * w < m → i + limit.addresses * w ≡ limitAt c n m
-  unfolding limitAt
+module _ (c : Carrier) (n m : ℕ) {w : ℕ} (e : w ≡ address_width c) where
+  pub limit-addresses : {i : ℕ} → i ≡ addresses_at c n → limit.addresses * w < m → i + limit.addresses * w ≡ limit_at c n m
+  unfolding limit_at
   limit-addresses ei h = simp (← e, lt-ltb _ _ h, ei)
 
-  pub limit-parameters : {i : ℕ} → i ≡ parametersAt c n m → m ≤ limit.addresses * w → i + limit.parameters ≡ limitAt c n m
-  unfolding limitAt
+  pub limit-parameters : {i : ℕ} → i ≡ parameters_at c n m → m ≤ limit.addresses * w → i + limit.parameters ≡ limit_at c n m
+  unfolding limit_at
   limit-parameters ei h = simp (← e, le-ltb _ _ h, ei)
 
 -- how far each can be from what it is counted from
-pub widths-small : (c : Carrier) → (lifetimeWidth c + lengthWidth c ≤ 6) × (lengthWidth c ≤ 2)
+pub widths-small : (c : Carrier) → (lifetime_width c + length_width c ≤ 6) × (length_width c ≤ 2)
 widths-small =
-    by_length (λ w k. (lifetimeIn k + w ≤ 6) × (w ≤ 2))
+    by_length (λ w k. (lifetime_in k + w ≤ 6) × (w ≤ 2))
     (omega arith, omega arith) (omega arith, omega arith) (omega arith, omega arith) (omega arith, omega arith)
 
 module _ (c : Carrier) where
   pub name-small : (m : ℕ) → name_at c m ≤ 8 + m
   name-small m =
       let w = widths-small c in
-      by-test (asText c) (λ t. cond t (4 + m) (2 + lifetimeWidth c + lengthWidth c) ≤ 8 + m) (λ _. omega arith) (λ _. omega arith)
+      by-test (as_text c) (λ t. cond t (4 + m) (2 + lifetime_width c + length_width c) ≤ 8 + m) (λ _. omega arith) (λ _. omega arith)
 
-  pub length-small : (n : ℕ) → addressLengthAt c n ≤ 8 + n
-  unfolding addressLengthAt
+  pub length-small : (n : ℕ) → address_length_at c n ≤ 8 + n
+  unfolding address_length_at
   length-small n =
       let h = name-small 0 in
-      by-test (asText c) (λ t. cond t 2 (name_at c 0 + n) ≤ 8 + n) (λ _. omega arith) (λ _. omega (arith, h))
+      by-test (as_text c) (λ t. cond t 2 (name_at c 0 + n) ≤ 8 + n) (λ _. omega arith) (λ _. omega (arith, h))
 
-  pub addresses-small : (n : ℕ) → addressesAt c n ≤ 10 + n
-  unfolding addressesAt
+  pub addresses-small : (n : ℕ) → addresses_at c n ≤ 10 + n
+  unfolding addresses_at
   addresses-small n =
       let w = widths-small c in
       let h = length-small n in
-      by-test (asText c) (λ t. cond t 4 (addressLengthAt c n + lengthWidth c) ≤ 10 + n) (λ _. omega arith) (λ _. omega (arith, w.1, h))
+      by-test (as_text c) (λ t. cond t 4 (address_length_at c n + length_width c) ≤ 10 + n) (λ _. omega arith) (λ _. omega (arith, w.1, h))
 
-  pub parameters-small : (n m : ℕ) → parametersAt c n m ≤ 12 + n + m
-  unfolding parametersAt
+  pub parameters-small : (n m : ℕ) → parameters_at c n m ≤ 12 + n + m
+  unfolding parameters_at
   parameters-small n m =
       let h = addresses-small n in
-      by-test (asText c) (λ t. cond t (4 + m + n) (addressesAt c n + m + cond (eqb (lifetimeWidth c) 0) 0 2) ≤ 12 + n + m)
+      by-test (as_text c) (λ t. cond t (4 + m + n) (addresses_at c n + m + cond (eq (lifetime_width c) 0) 0 2) ≤ 12 + n + m)
       (λ _. omega arith)
-      (λ _. by-test (eqb (lifetimeWidth c) 0) (λ t. addressesAt c n + m + cond t 0 2 ≤ 12 + n + m) (λ _. omega (arith, h)) (λ _. omega (arith, h)))
+      (λ _. by-test (eq (lifetime_width c) 0) (λ t. addresses_at c n + m + cond t 0 2 ≤ 12 + n + m) (λ _. omega (arith, h)) (λ _. omega (arith, h)))
 
-  pub limit-small : limit.addresses * addressWidth c ≤ 1008
+  pub limit-small : limit.addresses * address_width c ≤ 1008
   limit-small = let w = address-width c in omega arith
 
 module _ (c : Carrier) (k n m place within : ℕ) where
-  pub place_none : k ≤ fault.priority → 0 ≡ fieldPlace c k n m place within
-  unfolding fieldPlace
+  pub place_none : k ≤ fault.priority → 0 ≡ field_place c k n m place within
+  unfolding field_place
   place_none h = simp (le-leb _ _ h)
 
   module _ (a : fault.priority < k) where
-    pub place-name : {i : ℕ} → i ≡ name_at c m → k ≡ fault.name → i + place ≡ fieldPlace c k n m place within
-    unfolding fieldPlace
-    place-name e h = simp (e, lt-leb _ _ a, eq-eqb _ _ h)
+    pub place-name : {i : ℕ} → i ≡ name_at c m → k ≡ fault.name → i + place ≡ field_place c k n m place within
+    unfolding field_place
+    place-name e h = simp (e, lt-leb _ _ a, eq-eq _ _ h)
 
     module _ (b : k ≡ fault.name → ⊥) where
-      pub place-length : {i : ℕ} → i ≡ addressLengthAt c n → k ≡ fault.addresses → i ≡ fieldPlace c k n m place within
-      unfolding fieldPlace
-      place-length e h = simp (e, lt-leb _ _ a, ne_eqb _ _ b, eq-eqb _ _ h)
+      pub place-length : {i : ℕ} → i ≡ address_length_at c n → k ≡ fault.addresses → i ≡ field_place c k n m place within
+      unfolding field_place
+      place-length e h = simp (e, lt-leb _ _ a, ne_eqb _ _ b, eq-eq _ _ h)
 
       module _ (d : k ≡ fault.addresses → ⊥) where
-        pub place-limit : {i : ℕ} → i ≡ limitAt c n m → k ≡ fault.limit → i ≡ fieldPlace c k n m place within
-        unfolding fieldPlace
-        place-limit e h = simp (e, lt-leb _ _ a, ne_eqb _ _ b, ne_eqb _ _ d, eq-eqb _ _ h)
+        pub place-limit : {i : ℕ} → i ≡ limit_at c n m → k ≡ fault.limit → i ≡ field_place c k n m place within
+        unfolding field_place
+        place-limit e h = simp (e, lt-leb _ _ a, ne_eqb _ _ b, ne_eqb _ _ d, eq-eq _ _ h)
 
         module _ (g : k ≡ fault.limit → ⊥) where
-          pub place-addresses : {i : ℕ} → i ≡ addressesAt c n → k ≡ fault.dropped → i ≡ fieldPlace c k n m place within
-          unfolding fieldPlace
-          place-addresses e h = simp (e, lt-leb _ _ a, ne_eqb _ _ b, ne_eqb _ _ d, ne_eqb _ _ g, eq-eqb _ _ h)
+          pub place-addresses : {i : ℕ} → i ≡ addresses_at c n → k ≡ fault.dropped → i ≡ field_place c k n m place within
+          unfolding field_place
+          place-addresses e h = simp (e, lt-leb _ _ a, ne_eqb _ _ b, ne_eqb _ _ d, ne_eqb _ _ g, eq-eq _ _ h)
 
-          pub place-parameters : {i : ℕ} → i ≡ parametersAt c n m → (k ≡ fault.dropped → ⊥) → i + within ≡ fieldPlace c k n m place within
-          unfolding fieldPlace
+          pub place-parameters : {i : ℕ} → i ≡ parameters_at c n m → (k ≡ fault.dropped → ⊥) → i + within ≡ field_place c k n m place within
+          unfolding field_place
           place-parameters e h = simp (e, lt-leb _ _ a, ne_eqb _ _ b, ne_eqb _ _ d, ne_eqb _ _ g, ne_eqb _ _ h)

@@ -3,17 +3,17 @@ use Rattle.std.specs.Prelude.{◌≡◌, refl, List, [], ◌∷◌, ℕ, ◌+◌
 use Rattle.std.proofs.Common.{sym, ap, ◌∙◌, arith, lt-ltb, le-ltb}
 use Rattle.carriers.specs.declared.Carrier.TheVariants.{Dhcp4}
 use Rattle.frames.specs.declared.Step.{Step}
-use Rattle.frames.specs.Step.{stepAt}
+use Rattle.frames.specs.Step.{step_at}
 use Rattle.frames.specs.Laws.{step-skipped, step_block}
 use Rattle.findings.specs.Spots.{Spot, place_in, place_of}
-use Rattle.findings.specs.SpotsLaws.{spot, spotsAt, spots-block, spots-skipped, spots-end, spots-fault}
+use Rattle.findings.specs.SpotsLaws.{spot, spots_at, spots-block, spots-skipped, spots-end, spots-fault}
 
 -- before an index the octets up to octet j stand, but for `left` of them; the last body there ends at `last`
 pub record Placing (area : List ℕ) (j at last left : ℕ) : Type 0 where
   pub within : at ≤ length area
   pub behind : last ≤ at
   pub fewer : left ≤ j
-  pub places : place_of area j ≡ place_in (spotsAt Dhcp4 area at) last left
+  pub places : place_of area j ≡ place_in (spots_at Dhcp4 area at) last left
 
 pub place_none : (last j : ℕ) → place_in [] last j ≡ last + j
 unfolding place_in
@@ -33,12 +33,12 @@ unfolding place_of
 placing-start area j = record { within = omega arith; behind = omega arith; fewer = omega arith; places = refl }
 
 module _ {area : List ℕ} {j at last left : ℕ} (p : Placing area j at last left) where
-  module _ {start end : ℕ} (e : stepAt Dhcp4 area at ≡ Step.Block start end) where
-    here : place_of area j ≡ place_in (spot start end ∷ spotsAt Dhcp4 area end) last left
+  module _ {start end : ℕ} (e : step_at Dhcp4 area at ≡ Step.Block start end) where
+    here : place_of area j ≡ place_in (spot start end ∷ spots_at Dhcp4 area end) last left
     here = p.places ∙ ap (λ (l : List Spot). place_in l last left) (spots-block Dhcp4 area at e)
 
     pub placing-found : left < end - start → start + left ≡ place_of area j
-    placing-found h = sym (here ∙ place-in (spot start end) (spotsAt Dhcp4 area end) last left h)
+    placing-found h = sym (here ∙ place-in (spot start end) (spots_at Dhcp4 area end) last left h)
 
     pub placing-block : end - start ≤ left → Placing area j end end (left - (end - start))
     placing-block h =
@@ -47,10 +47,10 @@ module _ {area : List ℕ} {j at last left : ℕ} (p : Placing area j at last le
           within = m.2;
           behind = omega arith;
           fewer = omega (arith, p.fewer);
-          places = here ∙ place_after (spot start end) (spotsAt Dhcp4 area end) last left h;
+          places = here ∙ place_after (spot start end) (spots_at Dhcp4 area end) last left h;
         }
 
-  pub placing-skipped : {end : ℕ} → stepAt Dhcp4 area at ≡ Step.Skipped end → Placing area j end last left
+  pub placing-skipped : {end : ℕ} → step_at Dhcp4 area at ≡ Step.Skipped end → Placing area j end last left
   placing-skipped {end} e =
       let m = step-skipped Dhcp4 area at e in
       record {
@@ -60,8 +60,8 @@ module _ {area : List ℕ} {j at last left : ℕ} (p : Placing area j at last le
         places = p.places ∙ ap (λ (l : List Spot). place_in l last left) (spots-skipped Dhcp4 area at e);
       }
 
-  pub placing-end : stepAt Dhcp4 area at ≡ Step.End → last + left ≡ place_of area j
+  pub placing-end : step_at Dhcp4 area at ≡ Step.End → last + left ≡ place_of area j
   placing-end e = sym (p.places ∙ ap (λ (l : List Spot). place_in l last left) (spots-end Dhcp4 area at e) ∙ place_none last left)
 
-  pub placing-fault : stepAt Dhcp4 area at ≡ Step.Fault → last + left ≡ place_of area j
+  pub placing-fault : step_at Dhcp4 area at ≡ Step.Fault → last + left ≡ place_of area j
   placing-fault e = sym (p.places ∙ ap (λ (l : List Spot). place_in l last left) (spots-fault Dhcp4 area at e) ∙ place_none last left)

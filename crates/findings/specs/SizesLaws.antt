@@ -1,5 +1,5 @@
 -- A body that is laid out has its fields within it, and so every place that is told. Assumes nothing.
-use Rattle.std.specs.Prelude.{◌≡◌, refl, Bool, true, false, ◌⊎◌, List, [], ℕ, ◌+◌, ◌≤◌, eqb, length}
+use Rattle.std.specs.Prelude.{◌≡◌, refl, Bool, true, false, ◌⊎◌, List, [], ℕ, ◌+◌, ◌≤◌, eq, length}
 use Rattle.std.proofs.Common.{sym, ap, ◌∙◌, subst, true≢false, inl, inr, arith, length-append}
 use Rattle.std.proofs.Math.Bool.{cond}
 use Rattle.std.proofs.lemmas.Bool.{false≢true}
@@ -10,75 +10,75 @@ use Rattle.carriers.specs.declared.Carrier.{Carrier}
 use Rattle.carriers.specs.declared.Carrier.TheVariants.{Router}
 use Rattle.carriers.specs.declared.Form.{Form}
 use Rattle.carriers.specs.declared.Form.TheVariants.{Wire, Padded, Text}
-use Rattle.carriers.specs.Carriers.{form_of, lengthWidth, lifetimeWidth, textIn, asText}
+use Rattle.carriers.specs.Carriers.{form_of, length_width, lifetime_width, text_in, as_text}
 use Rattle.carriers.specs.CarriersLaws.{padded-router}
-use Rattle.blocks.specs.Block.{Fields, sizeBy, name_at}
+use Rattle.blocks.specs.Block.{Fields, size_by, name_at}
 use Rattle.blocks.specs.Sizes.{length-layout}
-use Rattle.blocks.specs.Parse.{bad, fields, isPadding, padded, parse}
-use Rattle.blocks.specs.Holding.{Laid, putTail, HoldsPadded, HoldsBy, Holds}
+use Rattle.blocks.specs.Parse.{bad, fields, is_padding, padded, parse}
+use Rattle.blocks.specs.Holding.{Laid, put_tail, HoldsPadded, HoldsBy, Holds}
 use Rattle.blocks.specs.HoldingLaws.{holds_read, holds-or-short, fields-bad}
-use Rattle.findings.specs.Troubles.{addressLengthAt, addressesAt, parametersAt}
+use Rattle.findings.specs.Troubles.{address_length_at, addresses_at, parameters_at}
 use Rattle.findings.specs.Sizes.{Sized}
 
 -- ---- where fields end
 
 module _ (c : Carrier) where
   -- the address length stands before the addresses
-  pub length_before : (n : ℕ) → addressLengthAt c n ≤ addressesAt c n
-  unfolding addressLengthAt addressesAt
+  pub length_before : (n : ℕ) → address_length_at c n ≤ addresses_at c n
+  unfolding address_length_at addresses_at
   length_before n =
-      by-test (asText c) (λ t. cond t 2 (name_at c 0 + n) ≤ cond t 4 (cond t 2 (name_at c 0 + n) + lengthWidth c)) (λ _. omega arith) (λ _. omega arith)
+      by-test (as_text c) (λ t. cond t 2 (name_at c 0 + n) ≤ cond t 4 (cond t 2 (name_at c 0 + n) + length_width c)) (λ _. omega arith) (λ _. omega arith)
 
   -- these before the parameters
-  pub addresses-before : (n m : ℕ) → addressesAt c n + m ≤ parametersAt c n m
-  unfolding addressesAt parametersAt
+  pub addresses-before : (n m : ℕ) → addresses_at c n + m ≤ parameters_at c n m
+  unfolding addresses_at parameters_at
   addresses-before n m =
-      by-test (asText c) (λ t. cond t 4 (addressLengthAt c n + lengthWidth c) + m
-      ≤ cond t (4 + m + n) (cond t 4 (addressLengthAt c n + lengthWidth c) + m + cond (eqb (lifetimeWidth c) 0) 0 2)) (λ _. omega arith) (λ _. omega arith)
+      by-test (as_text c) (λ t. cond t 4 (address_length_at c n + length_width c) + m
+      ≤ cond t (4 + m + n) (cond t 4 (address_length_at c n + length_width c) + m + cond (eq (lifetime_width c) 0) 0 2)) (λ _. omega arith) (λ _. omega arith)
 
   -- and both parts before their end
-  pub parts-before : (n m : ℕ) → n + m ≤ parametersAt c n m
-  unfolding addressLengthAt addressesAt parametersAt
+  pub parts-before : (n m : ℕ) → n + m ≤ parameters_at c n m
+  unfolding address_length_at addresses_at parameters_at
   parts-before n m =
-      by-test (asText c) (λ t. n + m
-      ≤ cond t (4 + m + n) (cond t 4 (cond t 2 (name_at c 0 + n) + lengthWidth c) + m + cond (eqb (lifetimeWidth c) 0) 0 2))
+      by-test (as_text c) (λ t. n + m
+      ≤ cond t (4 + m + n) (cond t 4 (cond t 2 (name_at c 0 + n) + length_width c) + m + cond (eq (lifetime_width c) 0) 0 2))
       (λ _. omega arith) (λ _. omega arith)
 
 -- in carriers 1 and 2
 module _ (c : Carrier) (e : form_of c ≡ Wire) where
-  wire-name : (m : ℕ) → name_at c m ≡ 2 + lengthWidth c
+  wire-name : (m : ℕ) → name_at c m ≡ 2 + length_width c
   wire-name m = simp e
 
-  wire-parameters : (n m : ℕ) → parametersAt c n m ≡ 2 + lengthWidth c + lengthWidth c + n + m
-  unfolding addressLengthAt addressesAt parametersAt
+  wire-parameters : (n m : ℕ) → parameters_at c n m ≡ 2 + length_width c + length_width c + n + m
+  unfolding address_length_at addresses_at parameters_at
   wire-parameters n m = simp e (omega arith)
 
 module _ (c : Carrier) (e : form_of c ≡ Text) where
   text-name : (m : ℕ) → name_at c m ≡ 4 + m
   text-name m = simp e
 
-  text-parameters : (n m : ℕ) → parametersAt c n m ≡ 4 + m + n
-  unfolding addressesAt parametersAt
+  text-parameters : (n m : ℕ) → parameters_at c n m ≡ 4 + m + n
+  unfolding addresses_at parameters_at
   text-parameters n m = simp e
 
-router-parameters : (n m : ℕ) → parametersAt Router n m ≡ 12 + n + m
-unfolding addressLengthAt addressesAt parametersAt
+router-parameters : (n m : ℕ) → parameters_at Router n m ≡ 12 + n + m
+unfolding address_length_at addresses_at parameters_at
 router-parameters n m = omega arith
 
 wire-sized : (c : Carrier) (b : List ℕ) (f : Fields) → form_of c ≡ Wire → Laid c b f → Sized c b f
 wire-sized c b f e h = go f.full refl
   where
-    size : length b ≡ sizeBy Wire c f.full (length f.name) (length f.addresses) (length f.parameters)
+    size : length b ≡ size_by Wire c f.full (length f.name) (length f.addresses) (length f.parameters)
     size =
         ap length h.0 ∙ length-layout c f
-        ∙ ap (λ (k : Form). sizeBy k c f.full (length f.name) (length f.addresses) (length f.parameters)) e
+        ∙ ap (λ (k : Form). size_by k c f.full (length f.name) (length f.addresses) (length f.parameters)) e
 
-    no_text : asText c ≡ true → ⊥
-    no_text t = false≢true (sym (ap textIn e) ∙ t)
+    no_text : as_text c ≡ true → ⊥
+    no_text t = false≢true (sym (ap text_in e) ∙ t)
 
     go : (full : Bool) → f.full ≡ full → Sized c b f
     go true u =
-        let s : length b ≡ 2 + lengthWidth c + lengthWidth c + length f.name + length f.addresses + length f.parameters = rw u at size in
+        let s : length b ≡ 2 + length_width c + length_width c + length f.name + length f.addresses + length f.parameters = rw u at size in
         record {
           named = omega (arith, s, wire-name c e (length f.addresses));
           whole = λ _. omega (arith, s, wire-parameters c e (length f.name) (length f.addresses));
@@ -86,7 +86,7 @@ wire-sized c b f e h = go f.full refl
           text = λ t. absurd (no_text t);
         }
     go false u =
-        let s : length b ≡ 2 + lengthWidth c + length f.name = rw u at size in
+        let s : length b ≡ 2 + length_width c + length f.name = rw u at size in
         let none : (f.addresses ≡ []) × (f.parameters ≡ []) = rw (e, u) at h.1.tail in
         record {
           named = omega (arith, s, wire-name c e (length f.addresses));
@@ -99,7 +99,7 @@ text-sized : (c : Carrier) (b : List ℕ) (f : Fields) → form_of c ≡ Text �
 text-sized c b f e h =
     let size : length b ≡ 4 + length f.addresses + length f.name + length f.parameters =
     ap length h.0 ∙ length-layout c f
-    ∙ ap (λ (k : Form). sizeBy k c f.full (length f.name) (length f.addresses) (length f.parameters)) e in
+    ∙ ap (λ (k : Form). size_by k c f.full (length f.name) (length f.addresses) (length f.parameters)) e in
     let full : f.full ≡ true = (rw e at h.1.tail).0 in
     record {
       named = omega (arith, size, text-name c e (length f.addresses));
@@ -109,10 +109,10 @@ text-sized c b f e h =
     }
 
 module _ (b : List ℕ) (f : Fields) (rest : List ℕ) (h : HoldsPadded b f rest) where
-  opened : length b ≡ 8 + length f.name + length (putTail f rest)
+  opened : length b ≡ 8 + length f.name + length (put_tail f rest)
   opened = ap length h.laid ∙ simp length-append (omega arith)
 
-  tail-full : f.full ≡ true → length (putTail f rest) ≡ 4 + length f.addresses + length f.parameters + length rest
+  tail-full : f.full ≡ true → length (put_tail f rest) ≡ 4 + length f.addresses + length f.parameters + length rest
   tail-full u = simp (u, length-append) (omega arith)
 
   padded-sized : Sized Router b f
@@ -131,7 +131,7 @@ holds-sized Text c b f rest e h = text-sized c b f e h.0
 
 padded-fields : (rest : List ℕ) (f g : Fields) → padded rest f ≡ fields g → f ≡ g
 padded-fields rest f g =
-    by-test (isPadding rest) (λ x. cond x (fields f) (bad fault.padding) ≡ fields g → f ≡ g) (λ _ e. cc) (λ _ e. absurd (fields-bad (sym e)))
+    by-test (is_padding rest) (λ x. cond x (fields f) (bad fault.padding) ≡ fields g → f ≡ g) (λ _ e. cc) (λ _ e. absurd (fields-bad (sym e)))
 
 -- a body that is split into fields holds them
 pub parse-holds : (c : Carrier) (b : List ℕ) (f : Fields) → Bytes b → parse c b ≡ fields f → (rest : List ℕ) × Holds c b f rest

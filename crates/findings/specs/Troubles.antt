@@ -1,20 +1,20 @@
 -- Where in a body its fault stands, and what is known of it beside its number (RULES R20 to R29). Places are counted from 0, in the body. Assumes nothing:
 -- these are definitions.
-use Rattle.std.specs.Prelude.{cond, ◌&&◌, List, [], ◌∷◌, ℕ, zero, suc, ◌+◌, ◌-◌, ◌*◌, ltb, leb, eqb, length, take, drop}
+use Rattle.std.specs.Prelude.{cond, ◌&&◌, List, [], ◌∷◌, ℕ, zero, suc, ◌+◌, ◌-◌, ◌*◌, ltb, leb, eq, length, take, drop}
 use Rattle.octets.specs.Numbers.{at16}
 use Rattle.numbers.specs.Fault as fault
 use Rattle.numbers.specs.Limit as limit
 use Rattle.carriers.specs.declared.Carrier.{Carrier}
 use Rattle.carriers.specs.declared.Carrier.TheVariants.{Dhcp4}
-use Rattle.carriers.specs.Carriers.{lengthWidth, lifetimeWidth, addressWidth, asText}
+use Rattle.carriers.specs.Carriers.{length_width, lifetime_width, address_width, as_text}
 use Rattle.blocks.specs.Block.{Fields, name_at}
 use Rattle.blocks.specs.Parse.{parse}
 use Rattle.judge.specs.declared.Side.TheVariants.{Reading}
 use Rattle.judge.specs.declared.Judged.{Judged}
-use Rattle.judge.specs.Judge.{judgedOf}
-use Rattle.records.specs.Yielded.{onParsed}
-use Rattle.reasons.specs.Names.{nameReason}
-use Rattle.reasons.specs.Params.{none, paramFor}
+use Rattle.judge.specs.Judge.{judged_of}
+use Rattle.records.specs.Yielded.{on_parsed}
+use Rattle.reasons.specs.Names.{name_reason}
+use Rattle.reasons.specs.Params.{none, param_for}
 use Rattle.findings.specs.declared.Trouble.{Trouble}
 
 abbrev pub trouble : ℕ → ℕ → ℕ → ℕ → Trouble
@@ -35,92 +35,92 @@ unfoldable pub near16 : List ℕ → ℕ → ℕ
 near16 b at = cond (leb (at + 2) (length b)) (at16 b at) 0
 
 -- carrier 3: where the padding begins, after the name or after the parameters (RULES B1, B5 to B7)
-abbrev pub nameEnd : List ℕ → ℕ
-nameEnd b = 8 + near16 b 6
+abbrev pub name_end : List ℕ → ℕ
+name_end b = 8 + near16 b 6
 
-abbrev pub addressesEnd : List ℕ → ℕ
-addressesEnd b = nameEnd b + 2 + near16 b (nameEnd b)
+abbrev pub addresses_end : List ℕ → ℕ
+addresses_end b = name_end b + 2 + near16 b (name_end b)
 
-unfoldable pub paddingAt : List ℕ → ℕ
-paddingAt b =
-    cond (ltb (length b) (nameEnd b + 8)) (nameEnd b)
-    (addressesEnd b + 2 + near16 b (addressesEnd b))
+unfoldable pub padding_at : List ℕ → ℕ
+padding_at b =
+    cond (ltb (length b) (name_end b + 8)) (name_end b)
+    (addresses_end b + 2 + near16 b (addresses_end b))
 
 -- the first octet that padding cannot have: one that is not 0, or the eighth (RULES B7)
-unfoldable pub pastPadding : ℕ → List ℕ → ℕ
-pastPadding at [] = at
-pastPadding at (x ∷ xs) = cond (eqb x 0 && ltb at 7) (pastPadding (at + 1) xs) at
+unfoldable pub past_padding : ℕ → List ℕ → ℕ
+past_padding at [] = at
+past_padding at (x ∷ xs) = cond (eq x 0 && ltb at 7) (past_padding (at + 1) xs) at
 
 -- 20: the end of the body, where an octet is missing; 29: the first octet that is no padding
-unfoldable pub laidPlace : ℕ → List ℕ → ℕ
-laidPlace k b = cond (eqb k fault.padding) (paddingAt b + pastPadding 0 (drop (paddingAt b) b)) (length b)
+unfoldable pub laid_place : ℕ → List ℕ → ℕ
+laid_place k b = cond (eq k fault.padding) (padding_at b + past_padding 0 (drop (padding_at b) b)) (length b)
 
 -- ---- 21 to 28
 
 -- where the address length stands, after a name of n octets; in carriers 4 and 5 the number of addresses, after the priority (RULES B1)
-unfoldable pub addressLengthAt : Carrier → ℕ → ℕ
-addressLengthAt c n = cond (asText c) 2 (name_at c 0 + n)
+unfoldable pub address_length_at : Carrier → ℕ → ℕ
+address_length_at c n = cond (as_text c) 2 (name_at c 0 + n)
 
 -- where the addresses begin (RULES B1), of a name of n octets
-unfoldable pub addressesAt : Carrier → ℕ → ℕ
-addressesAt c n = cond (asText c) 4 (addressLengthAt c n + lengthWidth c)
+unfoldable pub addresses_at : Carrier → ℕ → ℕ
+addresses_at c n = cond (as_text c) 4 (address_length_at c n + length_width c)
 
 -- where the parameters begin, after m octets of addresses; carrier 3, which alone has a lifetime, has a length before them
-unfoldable pub parametersAt : Carrier → ℕ → ℕ → ℕ
-parametersAt c n m = cond (asText c) (4 + m + n) (addressesAt c n + m + cond (eqb (lifetimeWidth c) 0) 0 2)
+unfoldable pub parameters_at : Carrier → ℕ → ℕ → ℕ
+parameters_at c n m = cond (as_text c) (4 + m + n) (addresses_at c n + m + cond (eq (lifetime_width c) 0) 0 2)
 
 -- 24: the first address too many, else the first octet of parameters too many (RULES L3, L4)
-unfoldable pub limitAt : Carrier → ℕ → ℕ → ℕ
-limitAt c n m =
-    cond (ltb (limit.addresses * addressWidth c) m) (addressesAt c n + limit.addresses * addressWidth c) (parametersAt c n m + limit.parameters)
+unfoldable pub limit_at : Carrier → ℕ → ℕ → ℕ
+limit_at c n m =
+    cond (ltb (limit.addresses * address_width c) m) (addresses_at c n + limit.addresses * address_width c) (parameters_at c n m + limit.parameters)
 
 -- by the fault k: 21 the priority; 22 the first bad octet of the name (RULES N5), at `place` in it; 23 the address length; 24 what is too much; 25 the
 -- addresses; 26 to 28 the parameter at fault, at `within` in its field
-unfoldable pub fieldPlace : Carrier → ℕ → ℕ → ℕ → ℕ → ℕ → ℕ
-fieldPlace c k n m place within =
+unfoldable pub field_place : Carrier → ℕ → ℕ → ℕ → ℕ → ℕ → ℕ
+field_place c k n m place within =
     cond (leb k fault.priority) 0
-    (cond (eqb k fault.name) (name_at c m + place)
-    (cond (eqb k fault.addresses) (addressLengthAt c n)
-    (cond (eqb k fault.limit) (limitAt c n m)
-    (cond (eqb k fault.dropped) (addressesAt c n)
-    (parametersAt c n m + within)))))
+    (cond (eq k fault.name) (name_at c m + place)
+    (cond (eq k fault.addresses) (address_length_at c n)
+    (cond (eq k fault.limit) (limit_at c n m)
+    (cond (eq k fault.dropped) (addresses_at c n)
+    (parameters_at c n m + within)))))
 
 -- why the name is bad, of fault 22
-abbrev pub reasonOf : Carrier → ℕ → List ℕ → ℕ → ℕ
-reasonOf c k name place = cond (eqb k fault.name) (nameReason (asText c) name place) 0
+abbrev pub reason_of : Carrier → ℕ → List ℕ → ℕ → ℕ
+reason_of c k name place = cond (eq k fault.name) (name_reason (as_text c) name place) 0
 
 -- of fields that are judged so
-unfoldable pub judgedTrouble : Carrier → Fields → Judged → Trouble
-judgedTrouble c f j =
+unfoldable pub judged_trouble : Carrier → Fields → Judged → Trouble
+judged_trouble c f j =
     trouble j.fault
-    (fieldPlace c j.fault (length f.name) (length f.addresses) j.place (paramFor j.fault f.parameters).at)
-    (reasonOf c j.fault f.name j.place)
-    (paramFor j.fault f.parameters).key
+    (field_place c j.fault (length f.name) (length f.addresses) j.place (param_for j.fault f.parameters).at)
+    (reason_of c j.fault f.name j.place)
+    (param_for j.fault f.parameters).key
 
-abbrev pub fieldsTrouble : Carrier → Fields → Trouble
-fieldsTrouble c f = judgedTrouble c f (judgedOf Reading c f.priority f.name f.full f.addresses f.parameters)
+abbrev pub fields_trouble : Carrier → Fields → Trouble
+fields_trouble c f = judged_trouble c f (judged_of Reading c f.priority f.name f.full f.addresses f.parameters)
 
 -- of a body
-unfoldable pub troubleOf : Carrier → List ℕ → Trouble
-troubleOf c b = onParsed (parse c b) (λ k. plain k (laidPlace k b)) (fieldsTrouble c)
+unfoldable pub trouble_of : Carrier → List ℕ → Trouble
+trouble_of c b = on_parsed (parse c b) (λ k. plain k (laid_place k b)) (fields_trouble c)
 
 -- ---- carrier 1: the first instance with a fault, in the joined data (RULES B4, T2)
 
 -- further on by so many octets; where there is no fault, what follows
 unfoldable pub or_else : ℕ → Trouble → Trouble → Trouble
-or_else n t next = cond (eqb t.fault 0) next (trouble t.fault (n + t.at) t.reason t.key)
+or_else n t next = cond (eq t.fault 0) next (trouble t.fault (n + t.at) t.reason t.key)
 
 -- `l` begins with an instance at a place; `go k` is what follows the first octet of `l` and k more
-abbrev pub instanceTrouble : ℕ → List ℕ → (ℕ → Trouble) → Trouble
-instanceTrouble at l go =
+abbrev pub instance_trouble : ℕ → List ℕ → (ℕ → Trouble) → Trouble
+instance_trouble at l go =
     cond (ltb (length l) 2) (plain fault.field (at + length l))
     (cond (ltb (length l - 2) (at16 l 0)) (plain fault.field (at + length l))
-    (or_else (at + 2) (troubleOf Dhcp4 (take (at16 l 0) (drop 2 l))) (go (1 + at16 l 0))))
+    (or_else (at + 2) (trouble_of Dhcp4 (take (at16 l 0) (drop 2 l))) (go (1 + at16 l 0))))
 
-unfoldable pub instancesTrouble : ℕ → ℕ → List ℕ → Trouble
-instancesTrouble k at [] = fine
-instancesTrouble zero at (x ∷ xs) = instanceTrouble at (x ∷ xs) (λ k. instancesTrouble k (at + 1) xs)
-instancesTrouble (suc k) at (x ∷ xs) = instancesTrouble k (at + 1) xs
+unfoldable pub instances_trouble : ℕ → ℕ → List ℕ → Trouble
+instances_trouble k at [] = fine
+instances_trouble zero at (x ∷ xs) = instance_trouble at (x ∷ xs) (λ k. instances_trouble k (at + 1) xs)
+instances_trouble (suc k) at (x ∷ xs) = instances_trouble k (at + 1) xs
 
-unfoldable pub joinedTrouble : List ℕ → Trouble
-joinedTrouble b = cond (eqb (length b) 0) (plain fault.field 0) (instancesTrouble 0 0 b)
+unfoldable pub joined_trouble : List ℕ → Trouble
+joined_trouble b = cond (eq (length b) 0) (plain fault.field 0) (instances_trouble 0 0 b)

@@ -4,10 +4,10 @@
 pub mod sheet;
 
 ghost use Rattle.std.specs.Prelude.{◌≡◌, ℕ, ◌+◌, ◌≤◌, ◌<◌, ◌^◌, length};
-ghost use Rattle.blocks.specs.Block.{headWith, fields_of, name_at};
+ghost use Rattle.blocks.specs.Block.{head_with, fields_of, name_at};
 ghost use Rattle.findings.specs.Troubles as troubles;
-ghost use Rattle.findings.specs.Troubles.{paddingAt, laidPlace, addressLengthAt, addressesAt, parametersAt, limitAt, fieldPlace};
-ghost use Rattle.findings.specs.Troubles.{reasonOf, fieldsTrouble, troubleOf, joinedTrouble};
+ghost use Rattle.findings.specs.Troubles.{padding_at, laid_place, address_length_at, addresses_at, parameters_at, limit_at, field_place};
+ghost use Rattle.findings.specs.Troubles.{reason_of, fields_trouble, trouble_of, joined_trouble};
 ghost use Rattle.findings.specs.Spots.{place_of};
 
 use blocks::Places;
@@ -71,7 +71,7 @@ fn near16(b: &[u8], at: usize) -> usize
 
 // Carrier 3: where the padding begins.
 fn padding_at(b: &[u8]) -> usize
-    ensures value { result ≡ paddingAt b.now }
+    ensures value { result ≡ padding_at b.now }
     ensures upper_bound { result < 262144 }
 {
     let name_end = ROUTER_NAME + near16(b, ROUTER_LENGTH);
@@ -84,7 +84,7 @@ fn padding_at(b: &[u8]) -> usize
 
 // The first octet that padding cannot have.
 fn past_padding(rest: &[u8]) -> usize
-    ensures value { result ≡ troubles.pastPadding 0 rest.now }
+    ensures value { result ≡ troubles.past_padding 0 rest.now }
     ensures upper_bound { result < 8 }
 {
     let mut i: usize = 0;
@@ -102,7 +102,7 @@ fn past_padding(rest: &[u8]) -> usize
 
 // Of a body that is not laid out, by its fault.
 fn laid_place(fault: usize, body: &[u8]) -> usize
-    ensures { result ≡ laidPlace fault body.now }
+    ensures { result ≡ laid_place fault body.now }
 {
     if fault != Fault::PADDING {
         return body.len();
@@ -130,7 +130,7 @@ fn name_at(c: Carrier, m: usize) -> usize
 // Where the address length stands, of a name of n octets; in carriers 4 and 5 the number of addresses.
 fn address_length_at(c: Carrier, n: usize) -> usize
     requires { n < 2 ^ 63 }
-    ensures { result ≡ addressLengthAt c n }
+    ensures { result ≡ address_length_at c n }
 {
     if c.as_text() {
         return ATTRIBUTE_COUNT;
@@ -141,7 +141,7 @@ fn address_length_at(c: Carrier, n: usize) -> usize
 // Where the addresses stand, of a name of n octets.
 fn addresses_at(c: Carrier, n: usize) -> usize
     requires { n < 2 ^ 63 }
-    ensures { result ≡ addressesAt c n }
+    ensures { result ≡ addresses_at c n }
 {
     if c.as_text() {
         return ATTRIBUTE_ADDRESSES;
@@ -152,7 +152,7 @@ fn addresses_at(c: Carrier, n: usize) -> usize
 // Where the parameters stand, of a name of n octets and m octets of addresses.
 fn parameters_at(c: Carrier, n: usize, m: usize) -> usize
     requires { n + m < 2 ^ 63 }
-    ensures { result ≡ parametersAt c n m }
+    ensures { result ≡ parameters_at c n m }
 {
     if c.as_text() {
         return ATTRIBUTE_ADDRESSES + m + n;
@@ -166,7 +166,7 @@ fn parameters_at(c: Carrier, n: usize, m: usize) -> usize
 // What is too much.
 fn limit_at(c: Carrier, n: usize, m: usize) -> usize
     requires { n + m < 2 ^ 63 }
-    ensures { result ≡ limitAt c n m }
+    ensures { result ≡ limit_at c n m }
 {
     let most = Limit::ADDRESSES * c.address_width();
     if most < m {
@@ -178,7 +178,7 @@ fn limit_at(c: Carrier, n: usize, m: usize) -> usize
 // Of fields, by their fault: the name is bad at `place`, the parameter at fault stands at `within` in its field.
 fn field_place(c: Carrier, fault: usize, n: usize, m: usize, place: usize, within: usize) -> usize
     requires { (m + place < 2 ^ 63) × (n + m + within < 2 ^ 63) }
-    ensures { result ≡ fieldPlace c fault n m place within }
+    ensures { result ≡ field_place c fault n m place within }
 {
     if fault <= Fault::PRIORITY {
         return 0;
@@ -200,7 +200,7 @@ fn field_place(c: Carrier, fault: usize, n: usize, m: usize, place: usize, withi
 
 // Of fault 22, why the name is bad at a place.
 fn reason_of(c: Carrier, fault: usize, name: &[u8], place: usize) -> usize
-    ensures { result ≡ reasonOf c fault name.now place }
+    ensures { result ≡ reason_of c fault name.now place }
 {
     if fault == Fault::NAME {
         return reasons::name_reason(c.as_text(), name, place);
@@ -218,7 +218,7 @@ fn examine_fields(
     parameters: &[u8],
 ) -> Trouble
     requires { length name.now + length addresses.now + length parameters.now < 2 ^ 63 }
-    ensures { (t : ℕ) → result ≡ fieldsTrouble c (fields_of (headWith priority t full) name.now addresses.now parameters.now) }
+    ensures { (t : ℕ) → result ≡ fields_trouble c (fields_of (head_with priority t full) name.now addresses.now parameters.now) }
 {
     let judged = judge::judge_fields(
         Side::Reading,
@@ -244,7 +244,7 @@ fn examine_fields(
 
 // The trouble with a body.
 pub fn examine(c: Carrier, body: &[u8]) -> Trouble
-    ensures { result ≡ troubleOf c body.now }
+    ensures { result ≡ trouble_of c body.now }
 {
     match blocks::split(c, &body[..]) {
         Places::Bad { fault } => plain(fault, laid_place(fault, body)),
@@ -287,7 +287,7 @@ pub fn examine(c: Carrier, body: &[u8]) -> Trouble
 
 // The trouble with the joined data of carrier 1.
 pub fn examine_joined(joined: &[u8]) -> Trouble
-    ensures { result ≡ joinedTrouble joined.now }
+    ensures { result ≡ joined_trouble joined.now }
 {
     if joined.len() == 0 {
         return plain(Fault::FIELD, 0);

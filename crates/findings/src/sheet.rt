@@ -1,8 +1,8 @@
 // Why a sheet is refused by 22 (RULES T8): what is wrong with the name at the place that `vetting` gives.
 ghost use Rattle.std.specs.Prelude.{◌≡◌};
-ghost use Rattle.sheets.specs.Sheets.{frontSize};
-ghost use Rattle.vetting.specs.Weighing.{recordsOf, TakenAs};
-ghost use Rattle.findings.specs.Sheet.{reasonFrom, sheetReason};
+ghost use Rattle.sheets.specs.Sheets.{front_size};
+ghost use Rattle.vetting.specs.Weighing.{records_of, TakenAs};
+ghost use Rattle.findings.specs.Sheet.{reason_from, sheet_reason};
 
 use carriers::Carrier;
 use octets::lesser;
@@ -11,7 +11,7 @@ use taking::Took;
 // Of the records of a taken sheet: the reason of the first whose name ends at the place or after it.
 fn seek(c: Carrier, s: &[u8], place: usize) -> usize
     requires { TakenAs c s.now }
-    ensures { result ≡ reasonFrom c frontSize (recordsOf s.now) place }
+    ensures { result ≡ reason_from c front_size (records_of s.now) place }
 {
     let mut at = sheets::FRONT;
     while at < s.len() {
@@ -28,7 +28,7 @@ fn seek(c: Carrier, s: &[u8], place: usize) -> usize
 
 // Why the name at a place of a sheet is bad (`reasons::Reason`), and 0 where the octets are no sheet or no name ends at the place or after it.
 pub fn reason(s: &[u8], place: usize) -> usize
-    ensures { result ≡ sheetReason s.now place }
+    ensures { result ≡ sheet_reason s.now place }
 {
     match taking::take(s) {
         Took::Refused(_) => 0,

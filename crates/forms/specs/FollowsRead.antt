@@ -1,14 +1,14 @@
 -- A C array is read as the octets of its list where only what `Follows` says stands after its closing brace. Assumes nothing.
-use Rattle.std.specs.Prelude.{◌≡◌, Bool, true, false, cond, List, [], ◌∷◌, ◌++◌, ℕ, ◌+◌, ◌-◌, ◌*◌, ◌≤◌, eqb, length}
+use Rattle.std.specs.Prelude.{◌≡◌, Bool, true, false, cond, List, [], ◌∷◌, ◌++◌, ℕ, ◌+◌, ◌-◌, ◌*◌, ◌≤◌, eq, length}
 use Rattle.std.proofs.Math.Path.{refl}
 use Rattle.std.proofs.Common.{sym, ap, ◌∙◌, arith}
 use Rattle.std.proofs.Math.Bool.{false≢true}
-use borrow.Author.Tests.{eqb-true, eq-eqb, le-ltb, lt-leb}
+use borrow.Author.Tests.{eq-true, eq-eq, le-ltb, lt-leb}
 use Rattle.std.proofs.lemmas.List.{drop-append-le}
 use Rattle.inputs.specs.declared.Read.TheVariants.{Octets}
 use Rattle.forms.specs.declared.array.After.{After}
 use Rattle.forms.specs.Places.{blank}
-use Rattle.forms.specs.Arrays.{decimal, letter, word, tail, begun, digitOn, digits, early, late, after, ended_of, tailFrom, tailOf, closedOf}
+use Rattle.forms.specs.Arrays.{decimal, letter, word, tail, begun, digit_on, digits, early, late, after, ended_of, tail_from, tail_of, closed_of}
 use Rattle.forms.specs.Arrays.{closing, listed, read_of}
 use Rattle.forms.specs.Follows as follows
 use Rattle.forms.specs.Follows.{Spaced, here, blanks, Ended, Closed, Digits, Counted, Words, Declared, Follows, Alone}
@@ -16,14 +16,14 @@ use Rattle.forms.specs.Follows.{Spaced, here, blanks, Ended, Closed, Digits, Cou
 -- a blank is no digit, and stands in no word
 blank-other : (x : ℕ) → blank x ≡ true → (decimal x ≡ false) × (word x ≡ false)
 unfolding blank decimal word letter
-blank-other x = go (eqb x 32) refl (eqb x 9) refl (eqb x 13) refl (eqb x 10) refl
+blank-other x = go (eq x 32) refl (eq x 9) refl (eq x 13) refl (eq x 10) refl
   where
-    go : (a : Bool) → eqb x 32 ≡ a → (b : Bool) → eqb x 9 ≡ b → (c : Bool) → eqb x 13 ≡ c → (d : Bool) → eqb x 10 ≡ d
+    go : (a : Bool) → eq x 32 ≡ a → (b : Bool) → eq x 9 ≡ b → (c : Bool) → eq x 13 ≡ c → (d : Bool) → eq x 10 ≡ d
         → cond a true (cond b true (cond c true d)) ≡ true → (decimal x ≡ false) × (word x ≡ false)
-    go true p b q c r d s e = rw (eqb-true x 32 p) (refl, refl)
-    go false p true q c r d s e = rw (eqb-true x 9 q) (refl, refl)
-    go false p false q true r d s e = rw (eqb-true x 13 r) (refl, refl)
-    go false p false q false r true s e = rw (eqb-true x 10 s) (refl, refl)
+    go true p b q c r d s e = rw (eq-true x 32 p) (refl, refl)
+    go false p true q c r d s e = rw (eq-true x 9 q) (refl, refl)
+    go false p false q true r d s e = rw (eq-true x 13 r) (refl, refl)
+    go false p false q false r true s e = rw (eq-true x 10 s) (refl, refl)
     go false p false q false r false s e = absurd (false≢true e)
 
 module _ (x : ℕ) where
@@ -54,19 +54,19 @@ digits-below (follows.digit p d) = let q = digits-below d in omega arith
 module _ (n size : ℕ) (few : n ≤ 65535) where
   -- the characters t, and the line break after them, are read as n octets from a phase on
   abbrev ReadOn : After → ℕ → List ℕ → Type 0
-  ReadOn s i t = tailFrom s n size i (t ++ (10 ∷ [])) ≡ Octets n
+  ReadOn s i t = tail_from s n size i (t ++ (10 ∷ [])) ≡ Octets n
 
   step : (p l i : ℕ) (s : After) (x : ℕ) (t : List ℕ) → after x n s ≡ tail p l 0 → ReadOn (tail p l 0) (i + 1) t → ReadOn s i (x ∷ t)
-  unfolding tailFrom
+  unfolding tail_from
   step p l i s x t e r = rw e r
 
   -- blanks stay, but for those after the length
-  stays : (p l x : ℕ) → eqb p 4 ≡ false → blank x ≡ true → after x n (tail p l 0) ≡ tail p l 0
+  stays : (p l x : ℕ) → eq p 4 ≡ false → blank x ≡ true → after x n (tail p l 0) ≡ tail p l 0
   unfolding after
   stays p l x e b = rw (e, b)
 
   ends : {t : List ℕ} → Spaced Ended t → (l i : ℕ) → ReadOn (tail 6 l 0) i t
-  unfolding tailFrom after blank ended_of
+  unfolding tail_from after blank ended_of
   ends (here follows.end) l i = refl
   ends (blanks {x} {t} p s) l i = step 6 l i (tail 6 l 0) x t (stays 6 l x refl p) (ends s l (i + 1))
 
@@ -80,14 +80,14 @@ module _ (n size : ℕ) (few : n ≤ 65535) where
 
   count-close : (x l : ℕ) → l ≡ n → x ≡ 59 → after x n (tail 4 l 0) ≡ tail 6 l 0
   unfolding after digits blank decimal
-  count-close x l e f = rw (f, eq-eqb l n e)
+  count-close x l e f = rw (f, eq-eq l n e)
 
   count-blank : (x l : ℕ) → l ≡ n → blank x ≡ true → after x n (tail 4 l 0) ≡ tail 5 l 0
   unfolding after digits
-  count-blank x l e p = rw ((blank-other x p).0, eq-eqb l n e, p)
+  count-blank x l e p = rw ((blank-other x p).0, eq-eq l n e, p)
 
   count-digit : (x l : ℕ) → l ≤ 65535 → decimal x ≡ true → after x n (tail 4 l 0) ≡ tail 4 (10 * l + (x - 48)) 0
-  unfolding after digits digitOn
+  unfolding after digits digit_on
   count-digit x l h p = rw (p, le-ltb 65535 l h)
 
   over : {t : List ℕ} (l : ℕ) → l ≡ n → Spaced Closed t → (i : ℕ) → ReadOn (tail 4 l 0) i t
@@ -101,7 +101,7 @@ module _ (n size : ℕ) (few : n ≤ 65535) where
       step 4 (10 * l + (x - 48)) i (tail 4 l 0) x t (count-digit x l (omega (arith, few)) p) (counts d (i + 1))
 
   number-digit : (x : ℕ) → decimal x ≡ true → after x n (tail 3 0 0) ≡ tail 4 (10 * 0 + (x - 48)) 0
-  unfolding after late digitOn
+  unfolding after late digit_on
   number-digit x p = rw (digit-blank x p, p)
 
   first : (x : ℕ) (t : List ℕ) → decimal x ≡ true → Digits n 0 (x ∷ t) → (i : ℕ) → ReadOn (tail 3 0 0) i (x ∷ t)
@@ -130,7 +130,7 @@ module _ (n size : ℕ) (few : n ≤ 65535) where
   word_first x p = rw (word_blank x p, p)
 
   declares : {t : List ℕ} → Spaced (Declared n) t → (i : ℕ) → ReadOn (tail 1 0 0) i t
-  unfolding tailFrom after blank ended_of
+  unfolding tail_from after blank ended_of
   declares (here follows.none) i = refl
   declares (here (follows.declaration {x} {t} p w)) i = step 2 0 i (tail 1 0 0) x t (word_first x p) (words w (i + 1))
   declares (blanks {x} {t} p s) i = step 1 0 i (tail 1 0 0) x t (stays 1 0 x refl p) (declares s (i + 1))
@@ -140,13 +140,13 @@ module _ (n size : ℕ) (few : n ≤ 65535) where
   semicolon-step x e = rw e
 
   reads : {t : List ℕ} → Follows n t → (i : ℕ) → ReadOn begun i t
-  unfolding tailFrom after blank ended_of
+  unfolding tail_from after blank ended_of
   reads (here follows.nothing) i = refl
   reads (here (follows.semicolon {x} {t} e s)) i = step 1 0 i begun x t (semicolon-step x e) (declares s (i + 1))
   reads (blanks {x} {t} p s) i = step 0 0 i begun x t (stays 0 0 x refl p) (reads s (i + 1))
 
-closed-read : (k n : ℕ) (t : List ℕ) → n ≤ 65535 → Alone k n t → closedOf k n t ≡ Octets n
-unfolding closedOf tailOf
+closed-read : (k n : ℕ) (t : List ℕ) → n ≤ 65535 → Alone k n t → closed_of k n t ≡ Octets n
+unfolding closed_of tail_of
 closed-read k n t h a =
     let c = a.closed in
     let l : k + 1 ≤ length t = omega (arith, c) in

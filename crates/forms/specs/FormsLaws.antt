@@ -2,7 +2,7 @@
 use Rattle.std.specs.Prelude.{◌≡◌, refl, List, ℕ, ◌+◌, ◌-◌, ◌≤◌, ◌<◌, length, take, drop}
 use Rattle.std.proofs.Math.Path.{sym, ap}
 use Rattle.std.proofs.Common.{◌∙◌, arith, length-drop}
-use borrow.Author.Tests.{lt-ltb, le-ltb, le-leb, lt-leb, eq-eqb, ne_eqb}
+use borrow.Author.Tests.{lt-ltb, le-ltb, le-leb, lt-leb, eq-eq, ne_eqb}
 use Rattle.octets.specs.ListsLaws.{take_rest}
 use Rattle.inputs.specs.Why as why
 use Rattle.inputs.specs.declared.Read.{Read}
@@ -15,12 +15,12 @@ use Rattle.dumps.specs.declared.Style.{Style}
 use Rattle.dumps.specs.Dumps as dumps
 use Rattle.dumps.specs.Dumps.{Dumped}
 use Rattle.dumps.specs.DumpsWithin.{bad-within}
-use Rattle.forms.specs.Places.{place_of, beginOf, braceOf, packetOf}
+use Rattle.forms.specs.Places.{place_of, begin_of, brace_of, packet_of}
 use Rattle.forms.specs.Fronts.{form_of}
 use Rattle.forms.specs.Arrays as arrays
 use Rattle.forms.specs.Arrays.{Arrayed}
-use Rattle.forms.specs.Forms.{styleOf, kind_of, Answer, answer, Answered, ofGroups, ofDumps, asOf, list_of, bracedOf}
-use Rattle.forms.specs.Forms.{shifted, after, packed, lineEnd, headedOf, orHeaded, read_of}
+use Rattle.forms.specs.Forms.{style_of, kind_of, Answer, answer, Answered, of_groups, of_dumps, as_of, list_of, braced_of}
+use Rattle.forms.specs.Forms.{shifted, after, packed, line_end, headed_of, or_headed, read_of}
 
 -- what is answered of one text is answered of another that is read alike
 answered-as : {a b : Answer} {r : Read} {out : List ℕ} → a ≡ b → Answered a r out → Answered b r out
@@ -32,20 +32,20 @@ answered-at e = answered-as e (record { answered = refl; leaves = refl })
 -- ---- a text in a form
 
 module _ (f : ℕ) (t out : List ℕ) {r : Read} {out' : List ℕ} where
-  pub as-groups : {k : Kind} → f < 6 → k ≡ kind_of f → Grouped k t out r out' → Answered (asOf f t out) r out'
-  unfolding asOf
+  pub as-groups : {k : Kind} → f < 6 → k ≡ kind_of f → Grouped k t out r out' → Answered (as_of f t out) r out'
+  unfolding as_of
   as-groups {k} h e g =
-      let q : ofGroups (groups.read_of k t out) ≡ asOf f t out = rw (lt-ltb f 6 h, e) in
+      let q : of_groups (groups.read_of k t out) ≡ as_of f t out = rw (lt-ltb f 6 h, e) in
       answered-as q (record { answered = g.answered; leaves = g.leaves })
 
-  pub as-escapes : f ≡ 6 → Escaped t out r out' → Answered (asOf f t out) r out'
-  unfolding asOf
+  pub as-escapes : f ≡ 6 → Escaped t out r out' → Answered (as_of f t out) r out'
+  unfolding as_of
   as-escapes h g = rw h (record { answered = g.answered; leaves = g.leaves })
 
-  pub as-dumps : {s : Style} → 6 ≤ f → (f ≡ 6 → ⊥) → s ≡ styleOf f → Dumped s t out r out' → Answered (asOf f t out) r out'
-  unfolding asOf
+  pub as-dumps : {s : Style} → 6 ≤ f → (f ≡ 6 → ⊥) → s ≡ style_of f → Dumped s t out r out' → Answered (as_of f t out) r out'
+  unfolding as_of
   as-dumps {s} h n e g =
-      let q : ofDumps (dumps.read_of s t out) ≡ asOf f t out = rw (le-ltb f 6 h, ne_eqb f 6 n, e) in
+      let q : of_dumps (dumps.read_of s t out) ≡ as_of f t out = rw (le-ltb f 6 h, ne_eqb f 6 n, e) in
       answered-as q (record { answered = g.answered; leaves = g.leaves })
 
 -- ---- a list
@@ -55,69 +55,69 @@ module _ (f : ℕ) (t out : List ℕ) (e : f ≡ form_of t) where
   unfolding list_of
   list-dump h = answered-at (rw (sym e, lt-ltb 6 f h))
 
-  pub list-as : {r : Read} {out' : List ℕ} → f ≤ 6 → Answered (asOf f t out) r out' → Answered (list_of t out) r out'
+  pub list-as : {r : Read} {out' : List ℕ} → f ≤ 6 → Answered (as_of f t out) r out' → Answered (list_of t out) r out'
   unfolding list_of
-  list-as h g = let q : asOf f t out ≡ list_of t out = rw (sym e, le-ltb 6 f h) in answered-as q g
+  list-as h g = let q : as_of f t out ≡ list_of t out = rw (sym e, le-ltb 6 f h) in answered-as q g
 
 -- ---- an array
 
-module _ (b at w : ℕ) (t out : List ℕ) (e : b ≡ braceOf t) where
-  pub braced-array : {r : Read} {out' : List ℕ} → b < length t → Arrayed b t out r out' → Answered (bracedOf at w t out) r out'
-  unfolding bracedOf
+module _ (b at w : ℕ) (t out : List ℕ) (e : b ≡ brace_of t) where
+  pub braced-array : {r : Read} {out' : List ℕ} → b < length t → Arrayed b t out r out' → Answered (braced_of at w t out) r out'
+  unfolding braced_of
   braced-array h g =
-      let q : answer (arrays.read_of b t out) (arrays.left_of b t out) ≡ bracedOf at w t out = rw (sym e, lt-ltb b (length t) h) in
+      let q : answer (arrays.read_of b t out) (arrays.left_of b t out) ≡ braced_of at w t out = rw (sym e, lt-ltb b (length t) h) in
       answered-as q (record { answered = g.answered; leaves = g.leaves })
 
-  pub braced-none : length t ≤ b → Answered (bracedOf at w t out) (Bad at w) out
-  unfolding bracedOf
+  pub braced-none : length t ≤ b → Answered (braced_of at w t out) (Bad at w) out
+  unfolding braced_of
   braced-none h = answered-at (rw (sym e, le-ltb b (length t) h))
 
 -- ---- after a packet's head
 
 -- where the first line ends
-pub line-end : (first end : ℕ) (t : List ℕ) → first ≡ beginOf 0 t → end ≡ place_of 10 first (drop first t) → end ≡ lineEnd t
+pub line-end : (first end : ℕ) (t : List ℕ) → first ≡ begin_of 0 t → end ≡ place_of 10 first (drop first t) → end ≡ line_end t
 line-end first end t e g = g ∙ ap (λ (i : ℕ). place_of 10 i (drop i t)) e
 
-module _ (at w : ℕ) (t out : List ℕ) (end : ℕ) (e : end ≡ lineEnd t) where
-  pub headed-late : end < at → Answered (headedOf at w t out) (Bad at w) out
-  unfolding headedOf
+module _ (at w : ℕ) (t out : List ℕ) (end : ℕ) (e : end ≡ line_end t) where
+  pub headed-late : end < at → Answered (headed_of at w t out) (Bad at w) out
+  unfolding headed_of
   headed-late h = answered-at (rw (sym e, lt-ltb end at h))
 
-  module _ (k : ℕ) (l : at ≤ end) (p : k ≡ packetOf t) where
-    headed-packed : packed k end at w t out ≡ headedOf at w t out
-    unfolding headedOf
+  module _ (k : ℕ) (l : at ≤ end) (p : k ≡ packet_of t) where
+    headed-packed : packed k end at w t out ≡ headed_of at w t out
+    unfolding headed_of
     headed-packed = rw (sym e, le-ltb end at l, sym p)
 
-    pub headed-first : {r : Read} {out' : List ℕ} → k ≤ end → Answered (bracedOf at w t out) r out' → Answered (headedOf at w t out) r out'
-    headed-first h g = let q : bracedOf at w t out ≡ packed k end at w t out = rw (le-leb k end h) in answered-as (q ∙ headed-packed) g
+    pub headed-first : {r : Read} {out' : List ℕ} → k ≤ end → Answered (braced_of at w t out) r out' → Answered (headed_of at w t out) r out'
+    headed-first h g = let q : braced_of at w t out ≡ packed k end at w t out = rw (le-leb k end h) in answered-as (q ∙ headed-packed) g
 
     module _ (m : end < k) where
-      pub headed-none : {r : Read} {out' : List ℕ} → k ≡ length t → Answered (bracedOf at w t out) r out' → Answered (headedOf at w t out) r out'
+      pub headed-none : {r : Read} {out' : List ℕ} → k ≡ length t → Answered (braced_of at w t out) r out' → Answered (headed_of at w t out) r out'
       headed-none h g =
-          let q : bracedOf at w t out ≡ packed k end at w t out = rw (lt-leb k end m, eq-eqb k (length t) h) in
+          let q : braced_of at w t out ≡ packed k end at w t out = rw (lt-leb k end m, eq-eq k (length t) h) in
           answered-as (q ∙ headed-packed) g
 
-      module _ {s : Style} {r : Read} {out' : List ℕ} (n : k ≡ length t → ⊥) (g : s ≡ styleOf 11)
+      module _ {s : Style} {r : Read} {out' : List ℕ} (n : k ≡ length t → ⊥) (g : s ≡ style_of 11)
           (d : Dumped s (take (length t - k) (drop k t)) out r out') where
-        dump-is : dumps.read_of s (take (length t - k) (drop k t)) out ≡ dumps.read_of (styleOf 11) (drop k t) out
+        dump-is : dumps.read_of s (take (length t - k) (drop k t)) out ≡ dumps.read_of (style_of 11) (drop k t) out
         dump-is = rw (take_rest k t, g)
 
-        headed-dump : {q : Read} → r ≡ q → Answered (headedOf at w t out) (shifted k q) out'
+        headed-dump : {q : Read} → r ≡ q → Answered (headed_of at w t out) (shifted k q) out'
         headed-dump {q} i =
-            let u : after k (dumps.read_of (styleOf 11) (drop k t) out) ≡ packed k end at w t out = rw (lt-leb k end m, ne_eqb k (length t) n) in
-            let v : Answered (after k (dumps.read_of (styleOf 11) (drop k t) out)) (shifted k q) out' = record {
+            let u : after k (dumps.read_of (style_of 11) (drop k t) out) ≡ packed k end at w t out = rw (lt-leb k end m, ne_eqb k (length t) n) in
+            let v : Answered (after k (dumps.read_of (style_of 11) (drop k t) out)) (shifted k q) out' = record {
               answered = ap (shifted k) (sym i ∙ d.answered ∙ ap (λ (x : dumps.Ended). x.read) dump-is);
               leaves = d.leaves ∙ ap (λ (x : dumps.Ended). x.out) dump-is;
             } in
             answered-as (u ∙ headed-packed) v
 
-        pub headed-octets : {n : ℕ} → r ≡ Octets n → Answered (headedOf at w t out) (Octets n) out'
+        pub headed-octets : {n : ℕ} → r ≡ Octets n → Answered (headed_of at w t out) (Octets n) out'
         headed-octets i = headed-dump i
 
-        pub headed-bad : {i v : ℕ} → r ≡ Bad i v → Answered (headedOf at w t out) (Bad (k + i) v) out'
+        pub headed-bad : {i v : ℕ} → r ≡ Bad i v → Answered (headed_of at w t out) (Bad (k + i) v) out'
         headed-bad i = headed-dump i
 
-        pub headed-long : r ≡ Long → Answered (headedOf at w t out) Long out'
+        pub headed-long : r ≡ Long → Answered (headed_of at w t out) Long out'
         headed-long i = headed-dump i
 
 -- the dump is left within the text
@@ -130,28 +130,28 @@ dump-within k t {s} {out} {out'} {r} {at} h d e =
 
 -- ---- a text
 
-module _ (f : ℕ) (t out : List ℕ) (e : f ≡ form_of t) {r : Read} {out' : List ℕ} (g : Answered (asOf f t out) r out') where
-  read_as : orHeaded f r t out' ≡ read_of t out
+module _ (f : ℕ) (t out : List ℕ) (e : f ≡ form_of t) {r : Read} {out' : List ℕ} (g : Answered (as_of f t out) r out') where
+  read_as : or_headed f r t out' ≡ read_of t out
   unfolding read_of
   read_as =
-      ap (λ (q : Read). orHeaded f q t out') g.answered
-      ∙ ap (orHeaded f (asOf f t out).read t) g.leaves
-      ∙ ap (λ (h : ℕ). orHeaded h (asOf h t out).read t (asOf h t out).out) e
+      ap (λ (q : Read). or_headed f q t out') g.answered
+      ∙ ap (or_headed f (as_of f t out).read t) g.leaves
+      ∙ ap (λ (h : ℕ). or_headed h (as_of h t out).read t (as_of h t out).out) e
 
-  read_by : {q : Read} → r ≡ q → orHeaded f q t out' ≡ read_of t out
-  read_by h = sym (ap (λ (q : Read). orHeaded f q t out') h) ∙ read_as
+  read_by : {q : Read} → r ≡ q → or_headed f q t out' ≡ read_of t out
+  read_by h = sym (ap (λ (q : Read). or_headed f q t out') h) ∙ read_as
 
   pub read-octets : {n : ℕ} → r ≡ Octets n → Answered (read_of t out) (Octets n) out'
   read-octets h = answered-at (read_by h)
 
   pub read-dump : {at w : ℕ} → 6 < f → r ≡ Bad at w → Answered (read_of t out) (Bad at w) out'
   read-dump {at} {w} l h =
-      let q : answer (Bad at w) out' ≡ orHeaded f (Bad at w) t out' = rw (lt-ltb 6 f l) in
+      let q : answer (Bad at w) out' ≡ or_headed f (Bad at w) t out' = rw (lt-ltb 6 f l) in
       answered-at (q ∙ read_by h)
 
-  pub read-other : {at w : ℕ} {q : Read} {out'' : List ℕ} → f ≤ 6 → r ≡ Bad at w → Answered (headedOf at w t out') q out'' → Answered (read_of t out) q out''
+  pub read-other : {at w : ℕ} {q : Read} {out'' : List ℕ} → f ≤ 6 → r ≡ Bad at w → Answered (headed_of at w t out') q out'' → Answered (read_of t out) q out''
   read-other {at} {w} l h u =
-      let q : headedOf at w t out' ≡ orHeaded f (Bad at w) t out' = rw (le-ltb 6 f l) in
+      let q : headed_of at w t out' ≡ or_headed f (Bad at w) t out' = rw (le-ltb 6 f l) in
       answered-as (q ∙ read_by h) u
 
   pub read-long : r ≡ Long → Answered (read_of t out) Long out'

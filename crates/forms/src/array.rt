@@ -108,7 +108,7 @@ impl After {
     // A digit of the length; no input has 65,536 octets.
     fn digit(mut self, x: u8) -> Self
         requires { arrays.decimal x ≡ true }
-        ensures { result ≡ arrays.digitOn x self }
+        ensures { result ≡ arrays.digit_on x self }
     {
         if 65535 < self.length {
             return self.but(Why::COUNT);
@@ -207,7 +207,7 @@ impl After {
 
 // What follows the closing brace of an array of n octets, from `from` on.
 fn tail(text: &[u8], from: usize, n: usize) -> Read
-    ensures { result ≡ arrays.tailOf from n text.now }
+    ensures { result ≡ arrays.tail_of from n text.now }
 {
     let mut s = After::begun();
     let mut i = from;
@@ -223,7 +223,7 @@ fn tail(text: &[u8], from: usize, n: usize) -> Read
 
 // After an array's octets: its closing brace stands at `close`, or is missing.
 fn closed(text: &[u8], close: usize, n: usize) -> Read
-    ensures { result ≡ arrays.closedOf close n text.now }
+    ensures { result ≡ arrays.closed_of close n text.now }
 {
     if text.len() <= close {
         return Read::Bad {

@@ -202,7 +202,7 @@ impl Front {
 
     // One digit more of the first group.
     fn digit(mut self) -> Self
-        ensures { result ≡ fronts.digitOn self }
+        ensures { result ≡ fronts.digit_on self }
     {
         if self.digits < 9 {
             self.digits = self.digits + 1;
@@ -260,7 +260,7 @@ impl Front {
 
     // After the first group and a blank.
     fn gap(mut self, x: u8) -> Self
-        ensures { result ≡ fronts.gapOn x self }
+        ensures { result ≡ fronts.gap_on x self }
     {
         if is_digit(x) {
             self.second = 1;
@@ -274,7 +274,7 @@ impl Front {
 
     // After a digit of the second group: octets follow an offset two digits each; any other group is that of a list with blanks.
     fn second(mut self, x: u8) -> Self
-        ensures { result ≡ fronts.secondOn x self }
+        ensures { result ≡ fronts.second_on x self }
     {
         if is_digit(x) {
             if self.second == 1 {

@@ -2,7 +2,7 @@
 // of its form. Text that is in none of them is refused at the character at which it leaves the form that its front shows.
 ghost use Rattle.std.specs.Prelude.{◌≡◌, ◌<◌, length};
 ghost use Rattle.forms.specs.Forms as forms;
-ghost use Rattle.forms.specs.Forms.{asOf, list_of, bracedOf, headedOf, read_of, Answered};
+ghost use Rattle.forms.specs.Forms.{as_of, list_of, braced_of, headed_of, read_of, Answered};
 
 mod array;
 mod front;
@@ -49,7 +49,7 @@ fn colon(digits: usize, prefix: bool) -> Style
 
 // The dump of a form.
 fn style(form: usize) -> Style
-    ensures { result ≡ forms.styleOf form }
+    ensures { result ≡ forms.style_of form }
 {
     if form == Form::WIRESHARK {
         return bare(4, 0, 0, false, false);
@@ -118,7 +118,7 @@ fn kind(form: usize) -> Kind
 // Reads a text in a form.
 fn read_as(form: usize, text: &[u8], out: &mut [u8]) -> Read
     requires { length out.old < 65536 }
-    ensures { Answered (asOf form text.now out.old) result out.new }
+    ensures { Answered (as_of form text.now out.old) result out.new }
 {
     if form < Form::ESCAPES {
         return groups::read(kind(form), text, out);
@@ -148,7 +148,7 @@ pub fn read_list(text: &[u8], out: &mut [u8]) -> Read
 // before an array.
 fn read_headed(text: &[u8], at: usize, why: usize, out: &mut [u8]) -> Read
     requires { length out.old < 65536 }
-    ensures { Answered (headedOf at why text.now out.old) result out.new }
+    ensures { Answered (headed_of at why text.now out.old) result out.new }
 {
     let first = places::begin(text);
     let end = places::place(text, first, b'\n');
@@ -174,7 +174,7 @@ fn read_headed(text: &[u8], at: usize, why: usize, out: &mut [u8]) -> Read
 
 // A text that may be an array, and is no other form by what is wrong at `at`.
 fn read_braced(text: &[u8], at: usize, why: usize, out: &mut [u8]) -> Read
-    ensures { Answered (bracedOf at why text.now out.old) result out.new }
+    ensures { Answered (braced_of at why text.now out.old) result out.new }
 {
     let brace = places::brace(text);
     if brace < text.len() {

@@ -1,7 +1,7 @@
 // Places in a text: what is looked for stands at an index, or nowhere, which is the text's length.
 ghost use Rattle.std.specs.Prelude.{◌≡◌, ◌≤◌, length, drop};
-ghost use Rattle.forms.specs.Places.{blank, control, wideText, textualOf, place_of, beginOf, line_of, braceOf};
-ghost use Rattle.forms.specs.Places.{beginsOffset, beginsLine, beginsWith, packetOf};
+ghost use Rattle.forms.specs.Places.{blank, control, wide_text, textual_of, place_of, begin_of, line_of, brace_of};
+ghost use Rattle.forms.specs.Places.{begins_offset, begins_line, begins_with, packet_of};
 
 use hexes::is_digit;
 
@@ -42,7 +42,7 @@ fn is_control(x: u8) -> bool
 
 // Whether a text in 16-bit characters begins here: with a byte order mark.
 fn is_wide(text: &[u8]) -> bool
-    ensures { result ≡ wideText text.now }
+    ensures { result ≡ wide_text text.now }
 {
     if text.len() < 2 {
         return false;
@@ -58,7 +58,7 @@ fn is_wide(text: &[u8]) -> bool
 
 // Whether octets look like text: none of them is a control character; or they begin as text in 16-bit characters does.
 pub fn is_text(text: &[u8]) -> bool
-    ensures { result ≡ textualOf text.now }
+    ensures { result ≡ textual_of text.now }
 {
     if is_wide(text) {
         return true;
@@ -90,7 +90,7 @@ pub fn place(text: &[u8], from: usize, x: u8) -> usize
 
 // Where the first character that is no blank stands.
 pub fn begin(text: &[u8]) -> usize
-    ensures { (result ≡ beginOf 0 text.now) × (result ≤ length text.now) }
+    ensures { (result ≡ begin_of 0 text.now) × (result ≤ length text.now) }
 {
     let mut i = 0;
     while i < text.len() {
@@ -143,7 +143,7 @@ impl Begins {
 
 // After 0x and digits.
 fn begins_offset(x: u8) -> usize
-    ensures { result ≡ beginsOffset x }
+    ensures { result ≡ begins_offset x }
 {
     if x == b':' {
         return Begins::OFFSET;
@@ -156,7 +156,7 @@ fn begins_offset(x: u8) -> usize
 
 // At the front of a line.
 fn begins_line(x: u8) -> usize
-    ensures { result ≡ beginsLine x }
+    ensures { result ≡ begins_line x }
 {
     if x == b'0' {
         return Begins::ZERO;
@@ -169,7 +169,7 @@ fn begins_line(x: u8) -> usize
 
 // With one character more.
 fn begins_with(so_far: usize, x: u8) -> usize
-    ensures { result ≡ beginsWith so_far x }
+    ensures { result ≡ begins_with so_far x }
 {
     if x == b'\n' {
         return Begins::NOTHING;
@@ -190,7 +190,7 @@ fn begins_with(so_far: usize, x: u8) -> usize
 
 // Where the first line begins that begins with 0x, digits and a colon: the lines before it are the head of a packet.
 pub fn packet(text: &[u8]) -> usize
-    ensures { (result ≡ packetOf text.now) × (result ≤ length text.now) }
+    ensures { (result ≡ packet_of text.now) × (result ≤ length text.now) }
 {
     let mut line = 0;
     let mut so_far = Begins::NOTHING;
@@ -210,7 +210,7 @@ pub fn packet(text: &[u8]) -> usize
 
 // Where the first brace stands, if nothing but blanks stands before it, or an = and blanks: an array's.
 pub fn brace(text: &[u8]) -> usize
-    ensures { (result ≡ braceOf text.now) × (result ≤ length text.now) }
+    ensures { (result ≡ brace_of text.now) × (result ≤ length text.now) }
 {
     let mut last = b'=';
     let mut i = 0;

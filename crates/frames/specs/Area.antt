@@ -5,7 +5,7 @@ use Rattle.std.specs.Prelude.{◌≡◌, Bool, true, false, cond, List, [], ◌�
 use Rattle.octets.specs.Lists.{flat}
 use Rattle.octets.specs.Numbers.{be}
 use Rattle.carriers.specs.declared.Carrier.{Carrier}
-use Rattle.carriers.specs.Carriers.{code_of, headWidth, headerOf, hasReserved, bare_code, in_eights, isJoined}
+use Rattle.carriers.specs.Carriers.{code_of, head_width, header_of, has_reserved, bare_code, in_eights, is_joined}
 
 -- a length tells how many octets the body has; in units of eight it counts the header of h octets too (RULES W6; RFC 4861 §4.6)
 abbrev pub Says : Bool → ℕ → ℕ → ℕ → Type 0
@@ -17,19 +17,19 @@ Says false h size body = size ≡ body
 pub record IsOption (c : Carrier) (option : List ℕ) (code : ℕ) (body : List ℕ) : Type 0 where
   pub stands : ℕ
   pub size : ℕ
-  pub laid : option ≡ be (headWidth c) stands ++ (be (headWidth c) size ++ body)
-  pub stands-room : stands < 256 ^ headWidth c
-  pub size_room : size < 256 ^ headWidth c
-  pub code_is : code ≡ bare_code (hasReserved c) stands
-  pub says : Says (in_eights c) (headerOf c) size (length body)
-  pub unmarked : isJoined c ≡ true → (stands ≡ 0 → ⊥) × (stands ≡ 255 → ⊥)
+  pub laid : option ≡ be (head_width c) stands ++ (be (head_width c) size ++ body)
+  pub stands_room : stands < 256 ^ head_width c
+  pub size_room : size < 256 ^ head_width c
+  pub code_is : code ≡ bare_code (has_reserved c) stands
+  pub says : Says (in_eights c) (header_of c) size (length body)
+  pub unmarked : is_joined c ≡ true → (stands ≡ 0 → ⊥) × (stands ≡ 255 → ⊥)
 
 -- the area is a run of options, of which the carrier's own have these bodies (RULES W8)
 pub data Area (c : Carrier) : List ℕ → List (List ℕ) → Type 0 where
   none : Area c [] []
   -- carrier 1: an octet 0 is padding, and an octet 255 ends the area, whatever follows (RULES W2, W3)
-  padding : {area : List ℕ} {bodies : List (List ℕ)} → isJoined c ≡ true → Area c area bodies → Area c (0 ∷ area) bodies
-  end : {rest : List ℕ} → isJoined c ≡ true → Area c (255 ∷ rest) []
+  padding : {area : List ℕ} {bodies : List (List ℕ)} → is_joined c ≡ true → Area c area bodies → Area c (0 ∷ area) bodies
+  end : {rest : List ℕ} → is_joined c ≡ true → Area c (255 ∷ rest) []
   own : {option body area : List ℕ} {bodies : List (List ℕ)} → IsOption c option (code_of c) body → Area c area bodies
       → Area c (option ++ area) (body ∷ bodies)
   foreign : {code : ℕ} {option body area : List ℕ} {bodies : List (List ℕ)} → IsOption c option code body → (code ≡ code_of c → ⊥) → Area c area bodies
@@ -42,5 +42,5 @@ abbrev pub joined : List (List ℕ) → List (List ℕ)
 joined [] = []
 joined (b ∷ bs) = flat (b ∷ bs) ∷ []
 
-abbrev pub blocksOf : Carrier → List (List ℕ) → List (List ℕ)
-blocksOf c bs = cond (isJoined c) (joined bs) bs
+abbrev pub blocks_of : Carrier → List (List ℕ) → List (List ℕ)
+blocks_of c bs = cond (is_joined c) (joined bs) bs

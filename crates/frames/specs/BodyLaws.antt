@@ -8,10 +8,10 @@ use Prim.Native.Nat.{ℕ, zero, suc, ◌+◌, ◌-◌, ◌%◌, ◌≤◌}
 use Rattle.octets.specs.Numbers.{Octet, Bytes}
 use Rattle.carriers.specs.declared.Carrier.{Carrier}
 use Rattle.carriers.specs.declared.Carrier.TheVariants.{Router}
-use Rattle.carriers.specs.Carriers.{headerOf, isJoined, octets, Plain}
+use Rattle.carriers.specs.Carriers.{header_of, is_joined, octets, Plain}
 use Rattle.frames.specs.declared.Head.{Head}
-use Rattle.frames.specs.Frame.{first_of, Framed, fault, framed, onto, after, frameFrom, frame}
-use Rattle.frames.specs.Area.{blocksOf}
+use Rattle.frames.specs.Frame.{first_of, Framed, fault, framed, onto, after, frame_from, frame}
+use Rattle.frames.specs.Area.{blocks_of}
 use Rattle.octets.specs.Lists.{All}
 use Rattle.octets.specs.ListsLaws.{all_take, all_drop}
 use Rattle.frames.specs.HeadLaws.{first-own}
@@ -31,25 +31,25 @@ each-onto P false b (framed bs) p h = h
 -- S holds of an area and of what is left of it as the walk goes on, and gives P of the body that stands first
 module _ (c : Carrier) (S P : List ℕ → Type 0)
     (rest : (x : ℕ) (xs : List ℕ) → S (x ∷ xs) → S xs)
-    (body : (s : List ℕ) (n : ℕ) → S s → first_of c s ≡ Head.Option true (octets n) → n ≤ length s → P (drop (headerOf c) (take n s))) where
+    (body : (s : List ℕ) (n : ℕ) → S s → first_of c s ≡ Head.Option true (octets n) → n ≤ length s → P (drop (header_of c) (take n s))) where
   each-option : (x : ℕ) (xs : List ℕ) (own : Bool) (n : ℕ) (b : Bool) → ltb (length xs) (n - 1) ≡ b → S (x ∷ xs)
-      → first_of c (x ∷ xs) ≡ Head.Option own (octets n) → EachIn P (frameFrom c (n - 1) xs)
-      → EachIn P (onto own (drop (headerOf c) (take n (x ∷ xs))) (frameFrom c (n - 1) xs))
+      → first_of c (x ∷ xs) ≡ Head.Option own (octets n) → EachIn P (frame_from c (n - 1) xs)
+      → EachIn P (onto own (drop (header_of c) (take n (x ∷ xs))) (frame_from c (n - 1) xs))
   each-option x xs own n true t h e ih = rw (past c (n - 1) xs (ltb-true _ _ t)) tt
   each-option x xs own n false t h e ih =
       let le : n - 1 ≤ length xs = ltb-false _ _ t in
-      each-onto P own (drop (headerOf c) (take n (x ∷ xs))) (frameFrom c (n - 1) xs)
+      each-onto P own (drop (header_of c) (take n (x ∷ xs))) (frame_from c (n - 1) xs)
       (λ q. body (x ∷ xs) n h (e ∙ ap (λ (own : Bool). Head.Option own (octets n)) q) (omega arith)) ih
 
-  each-head : (x : ℕ) (xs : List ℕ) (z : Head) → S (x ∷ xs) → first_of c (x ∷ xs) ≡ z → ((k : ℕ) → EachIn P (frameFrom c k xs))
-      → EachIn P (after c (x ∷ xs) z (λ k. frameFrom c k xs))
+  each-head : (x : ℕ) (xs : List ℕ) (z : Head) → S (x ∷ xs) → first_of c (x ∷ xs) ≡ z → ((k : ℕ) → EachIn P (frame_from c k xs))
+      → EachIn P (after c (x ∷ xs) z (λ k. frame_from c k xs))
   each-head x xs Head.Bad h e ih = tt
   each-head x xs Head.End h e ih = tt
   each-head x xs (Head.Option own size) h e ih =
       each-option x xs own size.0 (ltb (length xs) (size.0 - 1)) refl h e (ih (size.0 - 1))
 
-  each_from : (k : ℕ) (s : List ℕ) → S s → EachIn P (frameFrom c k s)
-  unfolding frameFrom
+  each_from : (k : ℕ) (s : List ℕ) → S s → EachIn P (frame_from c k s)
+  unfolding frame_from
   each_from zero [] h = tt
   each_from (suc k) [] h = tt
   each_from zero (x ∷ xs) h = each-head x xs (first_of c (x ∷ xs)) h refl (λ k. each_from k xs (rest x xs h))
@@ -66,7 +66,7 @@ pub bodies-bytes : (c : Carrier) (area : List ℕ) (bs : List (List ℕ)) → By
 bodies-bytes c area bs h e =
     each-body c Bytes Bytes
     (λ x xs h. h.1)
-    (λ s n h e le. all_drop Octet (headerOf c) (take n s) (all_take Octet n s h))
+    (λ s n h e le. all_drop Octet (header_of c) (take n s) (all_take Octet n s h))
     area bs h e
 
 -- in carrier 3 a body and the two octets of its header are whole units of eight
@@ -80,5 +80,5 @@ bodies-units area bs e =
 -- ---- blocks
 
 -- in carriers 2 to 5 each body is a block
-pub blocks-plain : (c : Carrier) (bs : List (List ℕ)) → Plain c → blocksOf c bs ≡ bs
-blocks-plain c bs p = rw (apart-false (isJoined c) p)
+pub blocks-plain : (c : Carrier) (bs : List (List ℕ)) → Plain c → blocks_of c bs ≡ bs
+blocks-plain c bs p = rw (apart-false (is_joined c) p)

@@ -1,38 +1,38 @@
 -- How an area is framed (RULES W1 to W8), once over the carrier. Assumes nothing: these are definitions.
-use Rattle.std.specs.Prelude.{ℕ, zero, suc, ◌+◌, ◌-◌, ◌*◌, Bool, true, false, cond, List, [], ◌∷◌, length, get_or, take, drop, ltb, eqb}
+use Rattle.std.specs.Prelude.{ℕ, zero, suc, ◌+◌, ◌-◌, ◌*◌, Bool, true, false, cond, List, [], ◌∷◌, length, get_or, take, drop, ltb, eq}
 use Rattle.octets.specs.Numbers.{number_at}
 use Rattle.numbers.specs.Refusal as refusal
 use Rattle.carriers.specs.declared.Carrier.{Carrier}
-use Rattle.carriers.specs.Carriers.{code_of, headWidth, headerOf, hasReserved, bare_code, in_eights, isJoined, octets}
+use Rattle.carriers.specs.Carriers.{code_of, head_width, header_of, has_reserved, bare_code, in_eights, is_joined, octets}
 use Rattle.frames.specs.declared.Head.{Head}
 use Rattle.frames.specs.declared.Head.TheVariants.{Bad, End, Option}
 
 -- ---- one header
 
 -- octets of an option whose header of h octets says the length n: in units of eight the header is counted (RFC 4861 §4.6), else not
-abbrev pub wholeSize : Bool → ℕ → ℕ → ℕ
-wholeSize eights h n = cond eights (8 * n) (h + n)
+abbrev pub whole_size : Bool → ℕ → ℕ → ℕ
+whole_size eights h n = cond eights (8 * n) (h + n)
 
 -- the code in the header that stands first, and how many octets the option says that it has, its header counted
 abbrev pub code_in : Carrier → List ℕ → ℕ
-code_in c s = bare_code (hasReserved c) (number_at (headWidth c) 0 s)
+code_in c s = bare_code (has_reserved c) (number_at (head_width c) 0 s)
 
-abbrev pub sizeIn : Carrier → List ℕ → ℕ
-sizeIn c s = wholeSize (in_eights c) (headerOf c) (number_at (headWidth c) (headWidth c) s)
+abbrev pub size_in : Carrier → List ℕ → ℕ
+size_in c s = whole_size (in_eights c) (header_of c) (number_at (head_width c) (head_width c) s)
 
 -- a header that runs past the end is no header, and neither is one that says a size of 0, which only carrier 3 can say (RFC 4861 §4.6)
-abbrev pub headIn : Carrier → List ℕ → Head
-headIn c s =
-    cond (ltb (length s) (headerOf c)) Bad
-    (cond (eqb (sizeIn c s) 0) Bad
-    (Option (eqb (code_in c s) (code_of c)) (octets (sizeIn c s))))
+abbrev pub head_in : Carrier → List ℕ → Head
+head_in c s =
+    cond (ltb (length s) (header_of c)) Bad
+    (cond (eq (size_in c s) 0) Bad
+    (Option (eq (code_in c s) (code_of c)) (octets (size_in c s))))
 
 -- in carrier 1, code 0 is one octet of padding, and code 255 ends the area (RFC 2132 §3.1, §3.2)
-abbrev pub orMark : Bool → ℕ → Head → Head
-orMark joined x z = cond joined (cond (eqb x 0) (Option false (octets 1)) (cond (eqb x 255) End z)) z
+abbrev pub or_mark : Bool → ℕ → Head → Head
+or_mark joined x z = cond joined (cond (eq x 0) (Option false (octets 1)) (cond (eq x 255) End z)) z
 
 abbrev pub first_of : Carrier → List ℕ → Head
-first_of c s = orMark (isJoined c) (get_or s 0 0) (headIn c s)
+first_of c s = or_mark (is_joined c) (get_or s 0 0) (head_in c s)
 
 -- ---- an area
 
@@ -42,13 +42,13 @@ pub data Framed : Type 0 where
   framed : List (List ℕ) → Framed
 
 -- its number (RULES R3), and the bodies, none where it cannot be framed
-abbrev pub framedNumber : Framed → ℕ
-framedNumber fault = refusal.framing
-framedNumber (framed bs) = 0
+abbrev pub framed_number : Framed → ℕ
+framed_number fault = refusal.framing
+framed_number (framed bs) = 0
 
-abbrev pub bodiesIn : Framed → List (List ℕ)
-bodiesIn fault = []
-bodiesIn (framed bs) = bs
+abbrev pub bodies_in : Framed → List (List ℕ)
+bodies_in fault = []
+bodies_in (framed bs) = bs
 
 -- an option's body in front of what follows, where the option is the carrier's own; others are skipped
 abbrev pub onto : Bool → List ℕ → Framed → Framed
@@ -60,14 +60,14 @@ onto false b (framed bs) = framed bs
 abbrev pub after : Carrier → List ℕ → Head → (ℕ → Framed) → Framed
 after c s Bad go = fault
 after c s End go = framed []
-after c s (Option own size) go = onto own (drop (headerOf c) (take size.0 s)) (go (size.0 - 1))
+after c s (Option own size) go = onto own (drop (header_of c) (take size.0 s)) (go (size.0 - 1))
 
 -- the area with its first k octets still to be skipped; a body that runs past the end is a fault
-unfoldable pub frameFrom : Carrier → ℕ → List ℕ → Framed
-frameFrom c zero [] = framed []
-frameFrom c (suc k) [] = fault
-frameFrom c zero (x ∷ xs) = after c (x ∷ xs) (first_of c (x ∷ xs)) (λ k. frameFrom c k xs)
-frameFrom c (suc k) (x ∷ xs) = frameFrom c k xs
+unfoldable pub frame_from : Carrier → ℕ → List ℕ → Framed
+frame_from c zero [] = framed []
+frame_from c (suc k) [] = fault
+frame_from c zero (x ∷ xs) = after c (x ∷ xs) (first_of c (x ∷ xs)) (λ k. frame_from c k xs)
+frame_from c (suc k) (x ∷ xs) = frame_from c k xs
 
 abbrev pub frame : Carrier → List ℕ → Framed
-frame c s = frameFrom c 0 s
+frame c s = frame_from c 0 s

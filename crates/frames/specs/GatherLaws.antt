@@ -11,8 +11,8 @@ use Rattle.frames.specs.declared.Gathered.TheVariants.{Broken, Absent, One, Many
 use Rattle.frames.specs.declared.Joined.{Joined}
 use Rattle.octets.specs.Lists.{flat}
 use Rattle.octets.specs.ListsLaws.{flat_append}
-use Rattle.frames.specs.Frame.{Framed, fault, framed, framedNumber, bodiesIn, frame}
-use Rattle.frames.specs.Step.{part, stepAt}
+use Rattle.frames.specs.Frame.{Framed, fault, framed, framed_number, bodies_in, frame}
+use Rattle.frames.specs.Step.{part, step_at}
 use Rattle.frames.specs.Walk.{prepend, Walked}
 use Rattle.frames.specs.Gather.{Several, Tells, GatheredFrom, Joins}
 use Rattle.frames.specs.Laws.{step_block, step-skipped, step-body}
@@ -43,7 +43,7 @@ pub record Gathering (area : List ℕ) (at from : ℕ) (found : Gathered) : Type
 pub gathering-start : (area : List ℕ) → Gathering area 0 0 Absent
 gathering-start area = record { bodies = []; walked = walked_start Dhcp4 area; tells = (refl, refl); first = walked_start Dhcp4 area }
 
-module _ {area : List ℕ} {at start end : ℕ} (e : stepAt Dhcp4 area at ≡ Step.Block start end) where
+module _ {area : List ℕ} {at start end : ℕ} (e : step_at Dhcp4 area at ≡ Step.Block start end) where
   -- the first own option
   pub gathering-first : {from : ℕ} → Gathering area at from Absent → Gathering area end at (One start end)
   gathering-first g =
@@ -68,14 +68,14 @@ module _ {area : List ℕ} {at start end : ℕ} (e : stepAt Dhcp4 area at ≡ St
       )
 
 module _ {area : List ℕ} {at from : ℕ} {found : Gathered} (g : Gathering area at from found) where
-  pub gathering-skipped : {end : ℕ} → stepAt Dhcp4 area at ≡ Step.Skipped end → Gathering area end from found
+  pub gathering-skipped : {end : ℕ} → step_at Dhcp4 area at ≡ Step.Skipped end → Gathering area end from found
   gathering-skipped e = record { bodies = g.bodies; walked = walked-skipped Dhcp4 area g.walked e; tells = g.tells; first = g.first }
 
-  pub gathering-end : stepAt Dhcp4 area at ≡ Step.End → GatheredFrom area found
+  pub gathering-end : step_at Dhcp4 area at ≡ Step.End → GatheredFrom area found
   gathering-end e = subst⁻¹ (λ (f : Framed). Tells area f found) (walked_end Dhcp4 area g.walked e) g.tells
 
-  pub gathering-fault : stepAt Dhcp4 area at ≡ Step.Fault → GatheredFrom area Broken
-  gathering-fault e = let broken = walked-fault Dhcp4 area g.walked e in (ap framedNumber broken, ap bodiesIn broken)
+  pub gathering-fault : step_at Dhcp4 area at ≡ Step.Fault → GatheredFrom area Broken
+  gathering-fault e = let broken = walked-fault Dhcp4 area g.walked e in (ap framed_number broken, ap bodies_in broken)
 
 -- ---- the bodies one after another
 
@@ -100,12 +100,12 @@ module _ {area out : List ℕ} {at n : ℕ} {out' : List ℕ} (j : Joining area 
   joining-length = ap length j.wrote.laid ∙ over-length 0 (flat j.bodies) out j.wrote.room
 
   -- a body has room, since what was written is behind its place in the area
-  pub joining-room : {start end : ℕ} → length area ≤ length out → stepAt Dhcp4 area at ≡ Step.Block start end → n + length (part start end area) ≤ length out'
+  pub joining-room : {start end : ℕ} → length area ≤ length out → step_at Dhcp4 area at ≡ Step.Block start end → n + length (part start end area) ≤ length out'
   joining-room {start} {end} h e =
       let m = step_block Dhcp4 area at e in
       omega (arith, step-body Dhcp4 area at e, part_length start end area m.2, j.behind, joining-length)
 
-  pub joining-block : {start end : ℕ} {n' : ℕ} {out'' : List ℕ} → stepAt Dhcp4 area at ≡ Step.Block start end → Wrote n (part start end area) out' n' out''
+  pub joining-block : {start end : ℕ} {n' : ℕ} {out'' : List ℕ} → step_at Dhcp4 area at ≡ Step.Block start end → Wrote n (part start end area) out' n' out''
       → Joining area out end n' out''
   joining-block {start} {end} {n'} {out''} e w =
       let m = step_block Dhcp4 area at e in
@@ -117,16 +117,16 @@ module _ {area out : List ℕ} {at n : ℕ} {out' : List ℕ} (j : Joining area 
         behind = omega (arith, w.next, part_length start end area m.2, j.behind);
       }
 
-  pub joining-skipped : {end : ℕ} → stepAt Dhcp4 area at ≡ Step.Skipped end → Joining area out end n out'
+  pub joining-skipped : {end : ℕ} → step_at Dhcp4 area at ≡ Step.Skipped end → Joining area out end n out'
   joining-skipped e =
       let m = step-skipped Dhcp4 area at e in
       record { bodies = j.bodies; walked = walked-skipped Dhcp4 area j.walked e; wrote = j.wrote; behind = omega (arith, j.behind) }
 
-  pub joining-end : stepAt Dhcp4 area at ≡ Step.End → Joins (frame Dhcp4 area) out (Joined.Whole n) out'
+  pub joining-end : step_at Dhcp4 area at ≡ Step.End → Joins (frame Dhcp4 area) out (Joined.Whole n) out'
   joining-end e =
       subst⁻¹ (λ (f : Framed). Joins f out (Joined.Whole n) out') (walked_end Dhcp4 area j.walked e) (record { number = refl; octets = λ _. j.wrote })
 
-  pub joining-fault : stepAt Dhcp4 area at ≡ Step.Fault → Joins (frame Dhcp4 area) out Joined.Broken out'
+  pub joining-fault : step_at Dhcp4 area at ≡ Step.Fault → Joins (frame Dhcp4 area) out Joined.Broken out'
   joining-fault e =
       subst⁻¹ (λ (f : Framed). Joins f out Joined.Broken out') (walked-fault Dhcp4 area j.walked e)
       (record { number = refl; octets = λ n. absurd (omega arith) })
@@ -137,4 +137,4 @@ joins-broken f out out' j = number-fault f (sym j.number)
 
 pub joins-whole : (f : Framed) (out out' : List ℕ) (n : ℕ) → Joins f out (Joined.Whole n) out'
     → (bs : List (List ℕ)) × (f ≡ framed bs) × Wrote 0 (flat bs) out n out'
-joins-whole f out out' n j = (bodiesIn f, number-framed f (sym j.number, refl), j.octets refl)
+joins-whole f out out' n j = (bodies_in f, number-framed f (sym j.number, refl), j.octets refl)

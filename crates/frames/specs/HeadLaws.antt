@@ -1,16 +1,16 @@
 -- The laws of one header: what it says of the octets that it was read from, and that it does not look past itself. Assumes nothing.
-use Rattle.std.specs.Prelude.{◌≡◌, refl, Bool, true, false, cond, List, ◌++◌, ℕ, ◌+◌, ◌*◌, ◌≤◌, ◌<◌, length, get_or, take, ltb, eqb}
-use Rattle.std.proofs.Common.{sym, ap, ap₂, ◌∙◌, arith, length-append, get_or-take, length-take-le, lt-ltb, le-ltb, eq-eqb, ne_eqb, ltb-false}
-use Rattle.std.proofs.lemmas.Bool.{false≢true, eqb-false}
+use Rattle.std.specs.Prelude.{◌≡◌, refl, Bool, true, false, cond, List, ◌++◌, ℕ, ◌+◌, ◌*◌, ◌≤◌, ◌<◌, length, get_or, take, ltb, eq}
+use Rattle.std.proofs.Common.{sym, ap, ap₂, ◌∙◌, arith, length-append, get_or-take, length-take-le, lt-ltb, le-ltb, eq-eq, ne_eqb, ltb-false}
+use Rattle.std.proofs.lemmas.Bool.{false≢true, eq-false}
 use Rattle.std.proofs.Math.ListN.{get_or-append}
 use Rattle.octets.specs.Numbers.{at16, number_at}
 use Rattle.octets.specs.NumbersLaws.{number-8, number-16, number-local}
 use Rattle.carriers.specs.declared.Carrier.{Carrier}
-use Rattle.carriers.specs.Carriers.{code_of, headWidth, headerOf, in_eights, isJoined, octets, Apart}
+use Rattle.carriers.specs.Carriers.{code_of, head_width, header_of, in_eights, is_joined, octets, Apart}
 use Rattle.carriers.specs.CarriersLaws.{headed}
 use Rattle.frames.specs.declared.Head.{Head}
 use Rattle.frames.specs.declared.Head.TheVariants.{Bad, End, Option}
-use Rattle.frames.specs.Frame.{wholeSize, code_in, sizeIn, headIn, orMark, first_of}
+use Rattle.frames.specs.Frame.{whole_size, code_in, size_in, head_in, or_mark, first_of}
 use Rattle.frames.specs.Told.{own_of, size_of}
 
 bad-option : {w : Bool} {n : ℕ} → Bad ≡ Option w (octets n) → ⊥
@@ -27,28 +27,28 @@ option-end e = let z : ◌≡◌ {A = ℕ} 0 1 = cc in omega arith
 
 -- ---- a header with a code and a length
 
-pub header-pos : (c : Carrier) → 0 < headerOf c
+pub header-pos : (c : Carrier) → 0 < header_of c
 header-pos c = omega (arith, (headed c).some)
 
-pub head-short : (c : Carrier) (s : List ℕ) → length s < headerOf c → headIn c s ≡ Bad
+pub head-short : (c : Carrier) (s : List ℕ) → length s < header_of c → head_in c s ≡ Bad
 head-short c s h = simp (lt-ltb _ _ h)
 
-pub head-none : (c : Carrier) (s : List ℕ) → headerOf c ≤ length s → sizeIn c s ≡ 0 → headIn c s ≡ Bad
-head-none c s h z = simp (le-ltb _ _ h, eq-eqb _ _ z)
+pub head-none : (c : Carrier) (s : List ℕ) → header_of c ≤ length s → size_in c s ≡ 0 → head_in c s ≡ Bad
+head-none c s h z = simp (le-ltb _ _ h, eq-eq _ _ z)
 
-pub head-option : (c : Carrier) (s : List ℕ) → headerOf c ≤ length s → (sizeIn c s ≡ 0 → ⊥)
-    → headIn c s ≡ Option (eqb (code_in c s) (code_of c)) (octets (sizeIn c s))
+pub head-option : (c : Carrier) (s : List ℕ) → header_of c ≤ length s → (size_in c s ≡ 0 → ⊥)
+    → head_in c s ≡ Option (eq (code_in c s) (code_of c)) (octets (size_in c s))
 head-option c s h z = simp (le-ltb _ _ h, ne_eqb _ _ z)
 
 -- what an option tells of the octets that it was read from
 pub record Read (c : Carrier) (s : List ℕ) (own : Bool) (n : ℕ) : Type 0 where
-  pub room : headerOf c ≤ length s
-  pub body : headerOf c ≤ n
-  pub code : own ≡ eqb (code_in c s) (code_of c)
-  pub size : n ≡ sizeIn c s
+  pub room : header_of c ≤ length s
+  pub body : header_of c ≤ n
+  pub code : own ≡ eq (code_in c s) (code_of c)
+  pub size : n ≡ size_in c s
 
 -- a size that is not 0 counts the header, which is no longer than a unit
-size-header : (eights : Bool) (h n : ℕ) → h ≤ 8 → 0 < wholeSize eights h n → h ≤ wholeSize eights h n
+size-header : (eights : Bool) (h n : ℕ) → h ≤ 8 → 0 < whole_size eights h n → h ≤ whole_size eights h n
 size-header true h n l p = omega arith
 size-header false h n l p = omega arith
 
@@ -58,14 +58,14 @@ tests-inv true z w n e = absurd (bad-option e)
 tests-inv false true w n e = absurd (bad-option e)
 tests-inv false false w n e = (refl, refl, ap own_of (sym e), ap size_of (sym e))
 
-pub head-inv : (c : Carrier) (s : List ℕ) {own : Bool} {n : ℕ} → headIn c s ≡ Option own (octets n) → Read c s own n
+pub head-inv : (c : Carrier) (s : List ℕ) {own : Bool} {n : ℕ} → head_in c s ≡ Option own (octets n) → Read c s own n
 head-inv c s e =
-    let p = tests-inv (ltb (length s) (headerOf c)) (eqb (sizeIn c s) 0) (eqb (code_in c s) (code_of c)) (sizeIn c s) e in
-    let nz : sizeIn c s ≡ 0 → ⊥ = eqb-false _ _ p.1 in
+    let p = tests-inv (ltb (length s) (header_of c)) (eq (size_in c s) 0) (eq (code_in c s) (code_of c)) (size_in c s) e in
+    let nz : size_in c s ≡ 0 → ⊥ = eq-false _ _ p.1 in
     let few = (headed c).few in
     record {
       room = ltb-false _ _ p.0;
-      body = omega (arith, p.3, size-header (in_eights c) (headerOf c) (number_at (headWidth c) (headWidth c) s) (omega arith) (omega (arith, nz)));
+      body = omega (arith, p.3, size-header (in_eights c) (header_of c) (number_at (head_width c) (head_width c) s) (omega arith) (omega (arith, nz)));
       code = p.2;
       size = p.3;
     }
@@ -75,14 +75,14 @@ tests-end true z w n e = bad-end e
 tests-end false true w n e = bad-end e
 tests-end false false w n e = option-end e
 
-pub head-end : (c : Carrier) (s : List ℕ) → headIn c s ≡ End → ⊥
-head-end c s e = tests-end (ltb (length s) (headerOf c)) (eqb (sizeIn c s) 0) (eqb (code_in c s) (code_of c)) (sizeIn c s) e
+pub head-end : (c : Carrier) (s : List ℕ) → head_in c s ≡ End → ⊥
+head-end c s e = tests-end (ltb (length s) (header_of c)) (eq (size_in c s) 0) (eq (code_in c s) (code_of c)) (size_in c s) e
 
 -- a header that is all there does not look past itself
-head-local : (c : Carrier) (s t : List ℕ) → headerOf c ≤ length s → headIn c (s ++ t) ≡ headIn c s
+head-local : (c : Carrier) (s t : List ℕ) → header_of c ≤ length s → head_in c (s ++ t) ≡ head_in c s
 head-local c s t h =
-    let h' : headerOf c ≤ length (s ++ t) = simp length-append (omega arith) in
-    let w : ℕ = headWidth c in
+    let h' : header_of c ≤ length (s ++ t) = simp length-append (omega arith) in
+    let w : ℕ = head_width c in
     simp (number-local w 0 s t (omega arith), number-local w w s t (omega arith), le-ltb _ _ h, le-ltb _ _ h')
 
 -- a header of two octets, and of four
@@ -96,28 +96,28 @@ module _ (w : ℕ) (s : List ℕ) (room : w + w ≤ length s) where
 -- ---- the header that stands first
 
 module _ (x : ℕ) (z : Head) where
-  pub mark-pad : (j : Bool) → j ≡ true → x ≡ 0 → orMark j x z ≡ Option false (octets 1)
-  mark-pad j t e = simp (t, eq-eqb _ _ e)
+  pub mark-pad : (j : Bool) → j ≡ true → x ≡ 0 → or_mark j x z ≡ Option false (octets 1)
+  mark-pad j t e = simp (t, eq-eq _ _ e)
 
-  pub mark-end : (j : Bool) → j ≡ true → x ≡ 255 → orMark j x z ≡ End
-  mark-end j t e = let nz : x ≡ 0 → ⊥ = λ q. omega arith in simp (t, ne_eqb _ _ nz, eq-eqb _ _ e)
+  pub mark-end : (j : Bool) → j ≡ true → x ≡ 255 → or_mark j x z ≡ End
+  mark-end j t e = let nz : x ≡ 0 → ⊥ = λ q. omega arith in simp (t, ne_eqb _ _ nz, eq-eq _ _ e)
 
-  pub mark-other : (j : Bool) → (j ≡ true → (x ≡ 0 → ⊥) × (x ≡ 255 → ⊥)) → orMark j x z ≡ z
+  pub mark-other : (j : Bool) → (j ≡ true → (x ≡ 0 → ⊥) × (x ≡ 255 → ⊥)) → or_mark j x z ≡ z
   mark-other true o = simp (ne_eqb _ _ (o refl).0, ne_eqb _ _ (o refl).1)
   mark-other false o = refl
 
-  pub mark-apart : (j : Bool) → Apart j → orMark j x z ≡ z
+  pub mark-apart : (j : Bool) → Apart j → or_mark j x z ≡ z
   mark-apart true a = absurd a
   mark-apart false a = refl
 
 -- an option is one octet of padding, whatever header may stand there, or what the header says
 module _ (x : ℕ) (z : Head) (own : Bool) (n : ℕ) (P : Type 0) where
-  by-mark : (j : Bool) → (((y : Head) → orMark j x y ≡ Option own (octets n)) → own ≡ false → n ≡ 1 → P)
-      → (((y : Head) → orMark j x y ≡ y) → z ≡ Option own (octets n) → P) → orMark j x z ≡ Option own (octets n) → P
+  by-mark : (j : Bool) → (((y : Head) → or_mark j x y ≡ Option own (octets n)) → own ≡ false → n ≡ 1 → P)
+      → (((y : Head) → or_mark j x y ≡ y) → z ≡ Option own (octets n) → P) → or_mark j x z ≡ Option own (octets n) → P
   by-mark false pad other e = other (λ y. refl) e
-  by-mark true pad other e = go (eqb x 0) (eqb x 255) refl refl
+  by-mark true pad other e = go (eq x 0) (eq x 255) refl refl
     where
-      go : (a b : Bool) → eqb x 0 ≡ a → eqb x 255 ≡ b → P
+      go : (a b : Bool) → eq x 0 ≡ a → eq x 255 ≡ b → P
       go true b t u = pad (λ y. rw t (rw t at e)) (ap own_of (sym (rw t at e))) (ap size_of (sym (rw t at e)))
       go false true t u = absurd (end-option (rw (t, u) at e))
       go false false t u = other (λ y. rw (t, u)) (rw (t, u) at e)
@@ -125,35 +125,35 @@ module _ (x : ℕ) (z : Head) (own : Bool) (n : ℕ) (P : Type 0) where
 -- an option has at least one octet
 pub first_pos : (c : Carrier) (s : List ℕ) {own : Bool} {n : ℕ} → first_of c s ≡ Option own (octets n) → 0 < n
 first_pos c s {own} {n} e =
-    by-mark (get_or s 0 0) (headIn c s) own n (0 < n) (isJoined c)
+    by-mark (get_or s 0 0) (head_in c s) own n (0 < n) (is_joined c)
     (λ _ w q. omega arith)
     (λ _ q. omega (arith, (head-inv c s q).body, header-pos c)) e
 
 -- the carrier's own options have a header
 pub first-own : (c : Carrier) (s : List ℕ) {n : ℕ} → first_of c s ≡ Option true (octets n) → Read c s true n
 first-own c s {n} e =
-    by-mark (get_or s 0 0) (headIn c s) true n (Read c s true n) (isJoined c)
+    by-mark (get_or s 0 0) (head_in c s) true n (Read c s true n) (is_joined c)
     (λ _ w q. absurd (false≢true (sym w)))
     (λ _ q. head-inv c s q) e
 
 -- what stands first does not depend on what follows, once the header is all there
-pub first-local : (c : Carrier) (s t : List ℕ) → headerOf c ≤ length s → first_of c (s ++ t) ≡ first_of c s
+pub first-local : (c : Carrier) (s t : List ℕ) → header_of c ≤ length s → first_of c (s ++ t) ≡ first_of c s
 first-local c s t h =
-    ap₂ (orMark (isJoined c)) (get_or-append s t 0 0 (omega (arith, header-pos c))) (head-local c s t h)
+    ap₂ (or_mark (is_joined c)) (get_or-append s t 0 0 (omega (arith, header-pos c))) (head-local c s t h)
 
 -- an option that stands first stands first whatever follows
 pub first-append : (c : Carrier) (s t : List ℕ) {own : Bool} {n : ℕ} → 0 < length s → first_of c s ≡ Option own (octets n)
     → first_of c (s ++ t) ≡ Option own (octets n)
 first-append c s t {own} {n} h e =
-    by-mark (get_or s 0 0) (headIn c s) own n (first_of c (s ++ t) ≡ Option own (octets n)) (isJoined c)
-    (λ same w q. ap (λ (x : ℕ). orMark (isJoined c) x (headIn c (s ++ t))) (get_or-append s t 0 0 h) ∙ same (headIn c (s ++ t)))
+    by-mark (get_or s 0 0) (head_in c s) own n (first_of c (s ++ t) ≡ Option own (octets n)) (is_joined c)
+    (λ same w q. ap (λ (x : ℕ). or_mark (is_joined c) x (head_in c (s ++ t))) (get_or-append s t 0 0 h) ∙ same (head_in c (s ++ t)))
     (λ _ q. first-local c s t (head-inv c s q).room ∙ e) e
 
 -- of an option of several octets, too few for the header are no header
-pub first-cut : (c : Carrier) (s : List ℕ) (k : ℕ) {own : Bool} {n : ℕ} → first_of c s ≡ Option own (octets n) → 0 < k → k < n → k ≤ length s → k < headerOf c
+pub first-cut : (c : Carrier) (s : List ℕ) (k : ℕ) {own : Bool} {n : ℕ} → first_of c s ≡ Option own (octets n) → 0 < k → k < n → k ≤ length s → k < header_of c
     → first_of c (take k s) ≡ Bad
 first-cut c s k {own} {n} e p l h q =
     let len : length (take k s) ≡ k = length-take-le k s h in
-    by-mark (get_or s 0 0) (headIn c s) own n (first_of c (take k s) ≡ Bad) (isJoined c)
+    by-mark (get_or s 0 0) (head_in c s) own n (first_of c (take k s) ≡ Bad) (is_joined c)
     (λ _ w one. absurd (omega arith))
-    (λ same _. ap (λ (x : ℕ). orMark (isJoined c) x (headIn c (take k s))) (get_or-take k s 0 0 p) ∙ same (headIn c (take k s)) ∙ head-short c (take k s) (omega arith)) e
+    (λ same _. ap (λ (x : ℕ). or_mark (is_joined c) x (head_in c (take k s))) (get_or-take k s 0 0 p) ∙ same (head_in c (take k s)) ∙ head-short c (take k s) (omega arith)) e

@@ -1,17 +1,17 @@
 -- The laws of framing, once over the carrier: the equations of `frame`, and what a step says of the walk from there. Assumes nothing.
 use Rattle.std.specs.Prelude.{◌≡◌, refl, Bool, true, false, cond, List, [], ◌∷◌, ℕ, zero, suc, ◌+◌, ◌-◌, ◌%◌, ◌≤◌, ◌<◌, length, take, drop, ltb, leb}
-use Rattle.std.proofs.Common.{sym, ap, ap₂, ◌∙◌, subst, le_of_suc-le-suc, not-suc-le-zero, arith, length-drop, drop-drop, lt-ltb, le-ltb, le-leb, eq-eqb, ne_eqb, ltb-true, ltb-false, leb-true, leb-false}
+use Rattle.std.proofs.Common.{sym, ap, ap₂, ◌∙◌, subst, le_of_suc-le-suc, not-suc-le-zero, arith, length-drop, drop-drop, lt-ltb, le-ltb, le-leb, eq-eq, ne_eqb, ltb-true, ltb-false, leb-true, leb-false}
 use Rattle.std.proofs.Math.Path.{subst⁻¹}
 use Rattle.std.proofs.Math.Seq.{drop-length}
 use Rattle.std.proofs.lemmas.Bool.{lt-leb}
 use Rattle.octets.specs.ListsLaws.{take_rest, drop-take, skip-within, skip-past}
 use Rattle.carriers.specs.declared.Carrier.{Carrier}
 use Rattle.carriers.specs.declared.Carrier.TheVariants.{Router}
-use Rattle.carriers.specs.Carriers.{headerOf, octets}
+use Rattle.carriers.specs.Carriers.{header_of, octets}
 use Rattle.frames.specs.declared.Head.{Head}
 use Rattle.frames.specs.declared.Step.{Step}
-use Rattle.frames.specs.Frame.{first_of, Framed, fault, framed, onto, after, frameFrom, frame}
-use Rattle.frames.specs.Step.{part, optionAt, headAt, stepAt}
+use Rattle.frames.specs.Frame.{first_of, Framed, fault, framed, onto, after, frame_from, frame}
+use Rattle.frames.specs.Step.{part, option_at, head_at, step_at}
 use Rattle.frames.specs.HeadLaws.{first_pos, first-own, header-pos}
 
 pub fault-framed : {bs : List (List ℕ)} → fault ≡ framed bs → ⊥
@@ -20,44 +20,44 @@ fault-framed e = let z : ◌≡◌ {A = ℕ} 0 1 = cc in omega arith
 -- ---- the walk
 
 -- octets to be skipped are skipped, where they are there
-pub skip : (c : Carrier) (k : ℕ) (s : List ℕ) → k ≤ length s → frameFrom c k s ≡ frame c (drop k s)
-unfolding frameFrom
-skip c = skip-within (frameFrom c) (λ k x xs. refl)
+pub skip : (c : Carrier) (k : ℕ) (s : List ℕ) → k ≤ length s → frame_from c k s ≡ frame c (drop k s)
+unfolding frame_from
+skip c = skip-within (frame_from c) (λ k x xs. refl)
 
-pub past : (c : Carrier) (k : ℕ) (s : List ℕ) → length s < k → frameFrom c k s ≡ fault
-unfolding frameFrom
-past c = skip-past (frameFrom c) (λ k x xs. refl) (λ k. refl)
+pub past : (c : Carrier) (k : ℕ) (s : List ℕ) → length s < k → frame_from c k s ≡ fault
+unfolding frame_from
+past c = skip-past (frame_from c) (λ k x xs. refl) (λ k. refl)
 
 pub frame-none : (c : Carrier) → frame c [] ≡ framed []
-unfolding frameFrom
+unfolding frame_from
 frame-none c = refl
 
 pub frame-bad : (c : Carrier) (s : List ℕ) → 0 < length s → first_of c s ≡ Head.Bad → frame c s ≡ fault
-unfolding frameFrom
+unfolding frame_from
 frame-bad c [] h e = absurd (not-suc-le-zero h)
-frame-bad c (x ∷ xs) h e = ap (λ (z : Head). after c (x ∷ xs) z (λ k. frameFrom c k xs)) e
+frame-bad c (x ∷ xs) h e = ap (λ (z : Head). after c (x ∷ xs) z (λ k. frame_from c k xs)) e
 
 pub frame-end : (c : Carrier) (s : List ℕ) → 0 < length s → first_of c s ≡ Head.End → frame c s ≡ framed []
-unfolding frameFrom
+unfolding frame_from
 frame-end c [] h e = absurd (not-suc-le-zero h)
-frame-end c (x ∷ xs) h e = ap (λ (z : Head). after c (x ∷ xs) z (λ k. frameFrom c k xs)) e
+frame-end c (x ∷ xs) h e = ap (λ (z : Head). after c (x ∷ xs) z (λ k. frame_from c k xs)) e
 
 pub frame-option : (c : Carrier) (s : List ℕ) {own : Bool} {n : ℕ} → 0 < length s → first_of c s ≡ Head.Option own (octets n) → n ≤ length s
-    → frame c s ≡ onto own (drop (headerOf c) (take n s)) (frame c (drop n s))
-unfolding frameFrom
+    → frame c s ≡ onto own (drop (header_of c) (take n s)) (frame c (drop n s))
+unfolding frame_from
 frame-option c [] p e h = absurd (not-suc-le-zero p)
 frame-option c (x ∷ xs) {own} {n = zero} p e h = absurd (not-suc-le-zero (first_pos c (x ∷ xs) e))
 frame-option c (x ∷ xs) {own} {n = suc n} p e h =
-    ap (λ (z : Head). after c (x ∷ xs) z (λ k. frameFrom c k xs)) e
-    ∙ ap (λ (k : ℕ). onto own (drop (headerOf c) (take (suc n) (x ∷ xs))) (frameFrom c k xs)) (omega arith)
-    ∙ ap (onto own (drop (headerOf c) (take (suc n) (x ∷ xs)))) (skip c n xs (le_of_suc-le-suc h))
+    ap (λ (z : Head). after c (x ∷ xs) z (λ k. frame_from c k xs)) e
+    ∙ ap (λ (k : ℕ). onto own (drop (header_of c) (take (suc n) (x ∷ xs))) (frame_from c k xs)) (omega arith)
+    ∙ ap (onto own (drop (header_of c) (take (suc n) (x ∷ xs)))) (skip c n xs (le_of_suc-le-suc h))
 
 pub frame-over : (c : Carrier) (s : List ℕ) {own : Bool} {n : ℕ} → 0 < length s → first_of c s ≡ Head.Option own (octets n) → length s < n → frame c s ≡ fault
-unfolding frameFrom
+unfolding frame_from
 frame-over c [] p e h = absurd (not-suc-le-zero p)
 frame-over c (x ∷ xs) {own} {n} p e h =
-    ap (λ (z : Head). after c (x ∷ xs) z (λ k. frameFrom c k xs)) e
-    ∙ ap (onto own (drop (headerOf c) (take n (x ∷ xs)))) (past c (n - 1) xs (omega arith))
+    ap (λ (z : Head). after c (x ∷ xs) z (λ k. frame_from c k xs)) e
+    ∙ ap (onto own (drop (header_of c) (take n (x ∷ xs)))) (past c (n - 1) xs (omega arith))
 
 pub onto-skipped : (b : List ℕ) (f : Framed) → onto false b f ≡ f
 onto-skipped b fault = refl
@@ -65,40 +65,40 @@ onto-skipped b (framed bs) = refl
 
 -- ---- one step, as the code finds it
 
-pub step-at-end : (c : Carrier) (s : List ℕ) (at : ℕ) → at ≡ length s → stepAt c s at ≡ Step.End
-unfolding stepAt
-step-at-end c s at e = simp (eq-eqb _ _ e)
+pub step-at-end : (c : Carrier) (s : List ℕ) (at : ℕ) → at ≡ length s → step_at c s at ≡ Step.End
+unfolding step_at
+step-at-end c s at e = simp (eq-eq _ _ e)
 
-pub step_past : (c : Carrier) (s : List ℕ) (at : ℕ) → length s < at → stepAt c s at ≡ Step.Fault
-unfolding stepAt
+pub step_past : (c : Carrier) (s : List ℕ) (at : ℕ) → length s < at → step_at c s at ≡ Step.Fault
+unfolding step_at
 step_past c s at h =
     let ne : at ≡ length s → ⊥ = λ q. omega arith in
     simp (ne_eqb _ _ ne, lt-ltb _ _ h)
 
 -- inside the area a step is what the header there says
-pub step-first : (c : Carrier) (s : List ℕ) (at : ℕ) → at < length s → stepAt c s at ≡ headAt c (length s - at) at (first_of c (drop at s))
-unfolding stepAt
+pub step-first : (c : Carrier) (s : List ℕ) (at : ℕ) → at < length s → step_at c s at ≡ head_at c (length s - at) at (first_of c (drop at s))
+unfolding step_at
 step-first c s at h =
     let ne : at ≡ length s → ⊥ = λ q. omega arith in
     let le : at ≤ length s = omega arith in
     simp (ne_eqb _ _ ne, le-ltb _ _ le)
 
-pub option-fits : (c : Carrier) (left at : ℕ) (own : Bool) (n : ℕ) → n ≤ left → headAt c left at (Head.Option own (octets n)) ≡ optionAt c at own n
+pub option-fits : (c : Carrier) (left at : ℕ) (own : Bool) (n : ℕ) → n ≤ left → head_at c left at (Head.Option own (octets n)) ≡ option_at c at own n
 option-fits c left at own n h = simp (le-leb _ _ h)
 
-pub option-over : (c : Carrier) (left at : ℕ) (own : Bool) (n : ℕ) → left < n → headAt c left at (Head.Option own (octets n)) ≡ Step.Fault
+pub option-over : (c : Carrier) (left at : ℕ) (own : Bool) (n : ℕ) → left < n → head_at c left at (Head.Option own (octets n)) ≡ Step.Fault
 option-over c left at own n h = simp (lt-leb _ _ h)
 
 -- the same of a header that was read from the rest of the area
 pub step_is : (c : Carrier) (s : List ℕ) (at : ℕ) {z : Head} {r : Step} → at < length s → z ≡ first_of c (take (length s - at) (drop at s))
-    → headAt c (length s - at) at z ≡ r → r ≡ stepAt c s at
+    → head_at c (length s - at) at z ≡ r → r ≡ step_at c s at
 step_is c s at h e q =
     let all = take_rest at s in
-    sym (step-first c s at h ∙ ap (λ (l : List ℕ). headAt c (length s - at) at (first_of c l)) (sym all) ∙ ap (headAt c (length s - at) at) (sym e) ∙ q)
+    sym (step-first c s at h ∙ ap (λ (l : List ℕ). head_at c (length s - at) at (first_of c l)) (sym all) ∙ ap (head_at c (length s - at) at) (sym e) ∙ q)
 
 -- an own option's header is all there, so its body begins inside the area
 pub own_room : (c : Carrier) (s : List ℕ) (at : ℕ) {n : ℕ} → at ≤ length s → Head.Option true (octets n) ≡ first_of c (take (length s - at) (drop at s))
-    → at + headerOf c ≤ length s
+    → at + header_of c ≤ length s
 own_room c s at h e = omega (arith, (first-own c (take (length s - at) (drop at s)) (sym e)).room, ap length (take_rest at s), length-drop at s)
 
 -- ---- what a step says of the walk from there
@@ -114,7 +114,7 @@ body-part s at h n le =
 -- each kind of step, and the walk from its index
 abbrev Moves : Carrier → List ℕ → ℕ → Step → Type 0
 Moves c s at (Step.Block start end) =
-    (start ≡ at + headerOf c) × (start ≤ end) × (end ≤ length s)
+    (start ≡ at + header_of c) × (start ≤ end) × (end ≤ length s)
     × (frame c (drop at s) ≡ onto true (part start end s) (frame c (drop end s)))
     × (first_of c (drop at s) ≡ Head.Option true (octets (end - at)))
 Moves c s at (Step.Skipped end) = (at < end) × (end ≤ length s) × (frame c (drop at s) ≡ frame c (drop end s))
@@ -125,14 +125,14 @@ module _ (c : Carrier) (s : List ℕ) (at : ℕ) (inside : at < length s) where
   some_left : 0 < length (drop at s)
   some_left = omega (arith, length-drop at s)
 
-  moves-fits : (own : Bool) (n : ℕ) → first_of c (drop at s) ≡ Head.Option own (octets n) → n ≤ length s - at → Moves c s at (optionAt c at own n)
+  moves-fits : (own : Bool) (n : ℕ) → first_of c (drop at s) ≡ Head.Option own (octets n) → n ≤ length s - at → Moves c s at (option_at c at own n)
   moves-fits true n e h =
       let r = first-own c (drop at s) e in (
         refl,
         omega arith,
         omega arith,
         frame-option c (drop at s) some_left e (omega (arith, length-drop at s))
-            ∙ ap₂ (λ (b t : List ℕ). onto true b (frame c t)) (body-part s at (headerOf c) n r.body) (drop-drop n at s),
+            ∙ ap₂ (λ (b t : List ℕ). onto true b (frame c t)) (body-part s at (header_of c) n r.body) (drop-drop n at s),
         e ∙ ap (λ (k : ℕ). Head.Option true (octets k)) (omega arith),
       )
   moves-fits false n e h =
@@ -140,26 +140,26 @@ module _ (c : Carrier) (s : List ℕ) (at : ℕ) (inside : at < length s) where
         omega arith,
         omega arith,
         frame-option c (drop at s) some_left e (omega (arith, length-drop at s))
-            ∙ onto-skipped (drop (headerOf c) (take n (drop at s))) (frame c (drop n (drop at s)))
+            ∙ onto-skipped (drop (header_of c) (take n (drop at s))) (frame c (drop n (drop at s)))
             ∙ ap (frame c) (drop-drop n at s),
       )
 
   moves-option : (own : Bool) (n : ℕ) (b : Bool) → leb n (length s - at) ≡ b → first_of c (drop at s) ≡ Head.Option own (octets n)
-      → Moves c s at (cond b (optionAt c at own n) Step.Fault)
+      → Moves c s at (cond b (option_at c at own n) Step.Fault)
   moves-option own n true t e = moves-fits own n e (leb-true _ _ t)
   moves-option own n false t e = λ _.
       let lt : length s - at < n = leb-false _ _ t in
       frame-over c (drop at s) some_left e (omega (arith, length-drop at s))
 
-  moves-head : (z : Head) → first_of c (drop at s) ≡ z → Moves c s at (headAt c (length s - at) at z)
+  moves-head : (z : Head) → first_of c (drop at s) ≡ z → Moves c s at (head_at c (length s - at) at z)
   moves-head Head.Bad e = λ _. frame-bad c (drop at s) some_left e
   moves-head Head.End e = (omega arith, frame-end c (drop at s) some_left e)
   moves-head (Head.Option own size) e = moves-option own size.0 (leb size.0 (length s - at)) refl e
 
-moves : (c : Carrier) (s : List ℕ) (at : ℕ) → Moves c s at (stepAt c s at)
+moves : (c : Carrier) (s : List ℕ) (at : ℕ) → Moves c s at (step_at c s at)
 moves c s at = go (ltb at (length s)) (ltb (length s) at) refl refl
   where
-    go : (b b' : Bool) → ltb at (length s) ≡ b → ltb (length s) at ≡ b' → Moves c s at (stepAt c s at)
+    go : (b b' : Bool) → ltb at (length s) ≡ b → ltb (length s) at ≡ b' → Moves c s at (step_at c s at)
     go true b' t u = subst⁻¹ (Moves c s at) (step-first c s at (ltb-true _ _ t)) (moves-head c s at (ltb-true _ _ t) (first_of c (drop at s)) refl)
     go false true t u =
         let h : length s < at = ltb-true _ _ u in
@@ -171,28 +171,28 @@ moves c s at = go (ltb at (length s)) (ltb (length s) at) refl refl
         subst⁻¹ (Moves c s at) (step-at-end c s at e) (le, ap (λ (k : ℕ). frame c (drop k s)) e ∙ ap (frame c) (drop-length s) ∙ frame-none c)
 
 module _ (c : Carrier) (area : List ℕ) (at : ℕ) where
-  pub step_end : stepAt c area at ≡ Step.End → frame c (drop at area) ≡ framed []
+  pub step_end : step_at c area at ≡ Step.End → frame c (drop at area) ≡ framed []
   step_end e = (subst (Moves c area at) e (moves c area at)).1
 
-  pub step-fault : stepAt c area at ≡ Step.Fault → at ≤ length area → frame c (drop at area) ≡ fault
+  pub step-fault : step_at c area at ≡ Step.Fault → at ≤ length area → frame c (drop at area) ≡ fault
   step-fault e h = subst (Moves c area at) e (moves c area at) h
 
-  pub step-skipped : {end : ℕ} → stepAt c area at ≡ Step.Skipped end
+  pub step-skipped : {end : ℕ} → step_at c area at ≡ Step.Skipped end
       → (at < end) × (end ≤ length area) × (frame c (drop at area) ≡ frame c (drop end area))
   step-skipped e = subst (Moves c area at) e (moves c area at)
 
-  pub step_block : {start end : ℕ} → stepAt c area at ≡ Step.Block start end
+  pub step_block : {start end : ℕ} → step_at c area at ≡ Step.Block start end
       → (at < end) × (start ≤ end) × (end ≤ length area) × (frame c (drop at area) ≡ onto true (part start end area) (frame c (drop end area)))
   step_block e =
       let m = subst (Moves c area at) e (moves c area at) in
       (omega (arith, header-pos c), m.1, m.2, m.3)
 
   -- a body stands just after its header
-  pub step-body : {start end : ℕ} → stepAt c area at ≡ Step.Block start end → start ≡ at + headerOf c
+  pub step-body : {start end : ℕ} → step_at c area at ≡ Step.Block start end → start ≡ at + header_of c
   step-body e = (subst (Moves c area at) e (moves c area at)).0
 
 -- in carrier 3 a header and its body are whole units of eight octets
-pub step-units : (area : List ℕ) (at : ℕ) {start end : ℕ} → stepAt Router area at ≡ Step.Block start end → (end - start + 2) % 8 ≡ 0
+pub step-units : (area : List ℕ) (at : ℕ) {start end : ℕ} → step_at Router area at ≡ Step.Block start end → (end - start + 2) % 8 ≡ 0
 step-units area at e =
     let m = subst (Moves Router area at) e (moves Router area at) in
     omega (arith, (first-own Router (drop at area) m.4).size, m.0, m.1)

@@ -4,11 +4,11 @@ use Rattle.std.proofs.Common.{sym, ap, ap₂, ◌∙◌, arith, length-drop, ne_
 use Rattle.octets.specs.Numbers.{number_at}
 use Rattle.octets.specs.ListsLaws.{take_rest}
 use Rattle.carriers.specs.declared.Carrier.{Carrier}
-use Rattle.carriers.specs.Carriers.{code_of, headerOf, bare_code, octets}
+use Rattle.carriers.specs.Carriers.{code_of, header_of, bare_code, octets}
 use Rattle.frames.specs.declared.Head.{Head}
 use Rattle.frames.specs.declared.Step.{Step}
-use Rattle.frames.specs.Frame.{code_in, sizeIn, headIn, orMark, first_of, frame}
-use Rattle.frames.specs.Step.{headAt, stepAt}
+use Rattle.frames.specs.Frame.{code_in, size_in, head_in, or_mark, first_of, frame}
+use Rattle.frames.specs.Step.{head_at, step_at}
 use Rattle.frames.specs.Skip.{Wide, Skips, none, more, Passes}
 use Rattle.frames.specs.HeadLaws.{head-option}
 use Rattle.frames.specs.Laws.{step-first, step-skipped, option-fits}
@@ -22,24 +22,24 @@ pub record Foreign (code : ℕ) (reserved : Bool) (area : List ℕ) (at n : ℕ)
 
 module _ {code : ℕ} {reserved : Bool} {area : List ℕ} {at n : ℕ} (f : Foreign code reserved area at n) {c : Carrier} (w : Wide code reserved c) where
   other_at : code_in c (drop at area) ≡ code_of c → ⊥
-  other_at e = f.other (rw (take_rest at area, ← w.width, ← w.reserved-is, ← w.code_is) e)
+  other_at e = f.other (rw (take_rest at area, ← w.width, ← w.reserved_is, ← w.code_is) e)
 
-  size-at : sizeIn c (drop at area) ≡ 4 + n
+  size-at : size_in c (drop at area) ≡ 4 + n
   size-at = rw (w.width, w.octets) (ap (λ (k : ℕ). 4 + k) (ap (number_at 2 2) (sym (take_rest at area)) ∙ sym f.says))
 
-  head_at : first_of c (drop at area) ≡ Head.Option false (octets (4 + n))
-  head_at =
-      let room : headerOf c ≤ length (drop at area) = omega (arith, w.width, f.header, length-drop at area) in
+  head_at_lem : first_of c (drop at area) ≡ Head.Option false (octets (4 + n))
+  head_at_lem =
+      let room : header_of c ≤ length (drop at area) = omega (arith, w.width, f.header, length-drop at area) in
       let size = size-at in
-      ap (λ (j : Bool). orMark j (get_or (drop at area) 0 0) (headIn c (drop at area))) w.apart
+      ap (λ (j : Bool). or_mark j (get_or (drop at area) 0 0) (head_in c (drop at area))) w.apart
       ∙ head-option c (drop at area) room (λ z. omega arith)
       ∙ ap₂ (λ (b : Bool) (k : ℕ). Head.Option b (octets k)) (ne_eqb _ _ other_at) size
 
-  foreign-step : stepAt c area at ≡ Step.Skipped (at + 4 + n)
+  foreign-step : step_at c area at ≡ Step.Skipped (at + 4 + n)
   foreign-step =
       let end : at + (4 + n) ≡ at + 4 + n = omega arith in
       step-first c area at (omega (arith, f.header))
-      ∙ ap (headAt c (length area - at) at) head_at
+      ∙ ap (head_at c (length area - at) at) head_at_lem
       ∙ option-fits c (length area - at) at false (4 + n) (omega (arith, f.header, f.whole))
       ∙ ap Step.Skipped end
 
@@ -64,7 +64,7 @@ module _ {c : Carrier} {area : List ℕ} {from : ℕ} where
   skips-then s (more t e) = more (skips-then s t) e
 
 -- a step over an option that is not the carrier's own
-pub skips-step : (c : Carrier) (area : List ℕ) (at : ℕ) {end : ℕ} → stepAt c area at ≡ Step.Skipped end → Skips c area at end
+pub skips-step : (c : Carrier) (area : List ℕ) (at : ℕ) {end : ℕ} → step_at c area at ≡ Step.Skipped end → Skips c area at end
 skips-step c area at e = let m = step-skipped c area at e in more (none (omega (arith, m.0, m.1))) e
 
 module _ {code : ℕ} {reserved : Bool} {area : List ℕ} {from : ℕ} where

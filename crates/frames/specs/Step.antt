@@ -1,7 +1,7 @@
 -- What stands at an index of an area, as the walk finds it one option at a time. Assumes nothing: these are definitions.
-use Rattle.std.specs.Prelude.{ℕ, ◌+◌, ◌-◌, Bool, true, false, cond, List, length, take, drop, ltb, leb, eqb}
+use Rattle.std.specs.Prelude.{ℕ, ◌+◌, ◌-◌, Bool, true, false, cond, List, length, take, drop, ltb, leb, eq}
 use Rattle.carriers.specs.declared.Carrier.{Carrier}
-use Rattle.carriers.specs.Carriers.{headerOf}
+use Rattle.carriers.specs.Carriers.{header_of}
 use Rattle.frames.specs.declared.Head.{Head}
 use Rattle.frames.specs.declared.Step.{Step}
 use Rattle.frames.specs.Frame.{first_of}
@@ -11,19 +11,19 @@ abbrev pub part : ℕ → ℕ → List ℕ → List ℕ
 part start end area = take (end - start) (drop start area)
 
 -- an option of n octets at an index: the carrier's own is a block
-abbrev pub optionAt : Carrier → ℕ → Bool → ℕ → Step
-optionAt c at true n = Step.Block (at + headerOf c) (at + n)
-optionAt c at false n = Step.Skipped (at + n)
+abbrev pub option_at : Carrier → ℕ → Bool → ℕ → Step
+option_at c at true n = Step.Block (at + header_of c) (at + n)
+option_at c at false n = Step.Skipped (at + n)
 
 -- with `left` octets from the index on, an option that says more runs past the end
-abbrev pub headAt : Carrier → ℕ → ℕ → Head → Step
-headAt c left at Head.Bad = Step.Fault
-headAt c left at Head.End = Step.End
-headAt c left at (Head.Option own size) = cond (leb size.0 left) (optionAt c at own size.0) Step.Fault
+abbrev pub head_at : Carrier → ℕ → ℕ → Head → Step
+head_at c left at Head.Bad = Step.Fault
+head_at c left at Head.End = Step.End
+head_at c left at (Head.Option own size) = cond (leb size.0 left) (option_at c at own size.0) Step.Fault
 
 -- at the area's end: End; past it: Fault; else what the header there says
-unfoldable pub stepAt : Carrier → List ℕ → ℕ → Step
-stepAt c area at =
-    cond (eqb at (length area)) Step.End
+unfoldable pub step_at : Carrier → List ℕ → ℕ → Step
+step_at c area at =
+    cond (eq at (length area)) Step.End
     (cond (ltb (length area) at) Step.Fault
-    (headAt c (length area - at) at (first_of c (drop at area))))
+    (head_at c (length area - at) at (first_of c (drop at area))))

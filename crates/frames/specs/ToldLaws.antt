@@ -1,23 +1,23 @@
 -- What the numbers of the answers say of an area, and that a number with its bodies is a framing. Assumes nothing.
-use Rattle.std.specs.Prelude.{◌≡◌, refl, ◌↔◌, Bool, true, false, List, [], ◌∷◌, ℕ, ◌≤◌, ltb, eqb, length, get_or, drop}
-use Rattle.std.proofs.Common.{sym, ap, ◌∙◌, inl, inr, ⊎_elim, arith, ltb-true, ltb-false, eqb-true}
+use Rattle.std.specs.Prelude.{◌≡◌, refl, ◌↔◌, Bool, true, false, List, [], ◌∷◌, ℕ, ◌≤◌, ltb, eq, length, get_or, drop}
+use Rattle.std.proofs.Common.{sym, ap, ◌∙◌, inl, inr, ⊎_elim, arith, ltb-true, ltb-false, eq-true}
 use Rattle.std.proofs.lemmas.Bool.{false≢true}
 use Rattle.numbers.specs.Refusal as refusal
 use Rattle.carriers.specs.declared.Carrier.{Carrier}
-use Rattle.carriers.specs.Carriers.{headerOf, isJoined}
+use Rattle.carriers.specs.Carriers.{header_of, is_joined}
 use Rattle.frames.specs.declared.Head.{Head}
 use Rattle.frames.specs.declared.Step.{Step}
-use Rattle.frames.specs.Frame.{sizeIn, headIn, first_of, Framed, fault, framed, framedNumber, onto, frame}
-use Rattle.frames.specs.Step.{part, stepAt}
+use Rattle.frames.specs.Frame.{size_in, head_in, first_of, Framed, fault, framed, framed_number, onto, frame}
+use Rattle.frames.specs.Step.{part, step_at}
 use Rattle.frames.specs.Walk.{prepend}
-use Rattle.frames.specs.Told.{FramedTo, headNumber, NoHeader, NothingFirst, StepSays}
+use Rattle.frames.specs.Told.{FramedTo, head_number, NoHeader, NothingFirst, StepSays}
 use Rattle.frames.specs.HeadLaws.{head-short, head-none, mark-pad, mark-end, mark-other}
 use Rattle.frames.specs.Laws.{frame-none, step_end, step-fault, step-skipped, step_block}
 use Rattle.frames.specs.WalkLaws.{prepend-none}
 
 -- ---- an area
 
-pub number-fault : (f : Framed) → framedNumber f ≡ refusal.framing → f ≡ fault
+pub number-fault : (f : Framed) → framed_number f ≡ refusal.framing → f ≡ fault
 number-fault fault e = refl
 number-fault (framed bs) e = absurd (omega arith)
 
@@ -28,45 +28,45 @@ number-framed (framed bs) e = ap framed e.1
 -- ---- a header
 
 module _ (c : Carrier) (s : List ℕ) where
-  no_header : NoHeader c s → headIn c s ≡ Head.Bad
-  no_header n = go (ltb (length s) (headerOf c)) refl
+  no_header : NoHeader c s → head_in c s ≡ Head.Bad
+  no_header n = go (ltb (length s) (header_of c)) refl
     where
-      go : (b : Bool) → ltb (length s) (headerOf c) ≡ b → headIn c s ≡ Head.Bad
+      go : (b : Bool) → ltb (length s) (header_of c) ≡ b → head_in c s ≡ Head.Bad
       go true t = head-short c s (ltb-true _ _ t)
       go false t = ⊎_elim (head-short c s) (head-none c s (ltb-false _ _ t)) n
 
-  header-none : headNumber (headIn c s) ≡ refusal.framing → NoHeader c s
-  header-none = go (ltb (length s) (headerOf c)) (eqb (sizeIn c s) 0) refl refl
+  header-none : head_number (head_in c s) ≡ refusal.framing → NoHeader c s
+  header-none = go (ltb (length s) (header_of c)) (eq (size_in c s) 0) refl refl
     where
-      go : (a b : Bool) → ltb (length s) (headerOf c) ≡ a → eqb (sizeIn c s) 0 ≡ b → headNumber (headIn c s) ≡ refusal.framing → NoHeader c s
+      go : (a b : Bool) → ltb (length s) (header_of c) ≡ a → eq (size_in c s) 0 ≡ b → head_number (head_in c s) ≡ refusal.framing → NoHeader c s
       go true b t u e = inl (ltb-true _ _ t)
-      go false true t u e = inr (eqb-true _ _ u)
+      go false true t u e = inr (eq-true _ _ u)
       go false false t u e = absurd (omega (arith, rw (t, u) at e))
 
-  pub head-exactly : (r : Head) → r ≡ headIn c s → (headNumber r ≡ refusal.framing) ↔ NoHeader c s
-  head-exactly r e = (λ n. header-none (sym (ap headNumber e) ∙ n), λ n. ap headNumber (e ∙ no_header n))
+  pub head-exactly : (r : Head) → r ≡ head_in c s → (head_number r ≡ refusal.framing) ↔ NoHeader c s
+  head-exactly r e = (λ n. header-none (sym (ap head_number e) ∙ n), λ n. ap head_number (e ∙ no_header n))
 
-  first-none : headNumber (first_of c s) ≡ refusal.framing → NothingFirst c s
-  first-none n = go (isJoined c) refl
+  first-none : head_number (first_of c s) ≡ refusal.framing → NothingFirst c s
+  first-none n = go (is_joined c) refl
     where
-      unmarked : (isJoined c ≡ true → (get_or s 0 0 ≡ 0 → ⊥) × (get_or s 0 0 ≡ 255 → ⊥)) → NothingFirst c s
-      unmarked o = (o, header-none (sym (ap headNumber (mark-other (get_or s 0 0) (headIn c s) (isJoined c) o)) ∙ n))
+      unmarked : (is_joined c ≡ true → (get_or s 0 0 ≡ 0 → ⊥) × (get_or s 0 0 ≡ 255 → ⊥)) → NothingFirst c s
+      unmarked o = (o, header-none (sym (ap head_number (mark-other (get_or s 0 0) (head_in c s) (is_joined c) o)) ∙ n))
 
-      go : (j : Bool) → isJoined c ≡ j → NothingFirst c s
+      go : (j : Bool) → is_joined c ≡ j → NothingFirst c s
       go false j = unmarked (λ i. absurd (false≢true (sym j ∙ i)))
       go true j =
           unmarked (λ _. (
-            λ z. omega (arith, n, ap headNumber (mark-pad (get_or s 0 0) (headIn c s) (isJoined c) j z)),
-            λ z. omega (arith, n, ap headNumber (mark-end (get_or s 0 0) (headIn c s) (isJoined c) j z)),
+            λ z. omega (arith, n, ap head_number (mark-pad (get_or s 0 0) (head_in c s) (is_joined c) j z)),
+            λ z. omega (arith, n, ap head_number (mark-end (get_or s 0 0) (head_in c s) (is_joined c) j z)),
           ))
 
-  pub first-exactly : (r : Head) → r ≡ first_of c s → (headNumber r ≡ refusal.framing) ↔ NothingFirst c s
+  pub first-exactly : (r : Head) → r ≡ first_of c s → (head_number r ≡ refusal.framing) ↔ NothingFirst c s
   first-exactly r e =
-      (λ n. first-none (sym (ap headNumber e) ∙ n), λ n. ap headNumber (e ∙ mark-other (get_or s 0 0) (headIn c s) (isJoined c) n.0 ∙ no_header n.1))
+      (λ n. first-none (sym (ap head_number e) ∙ n), λ n. ap head_number (e ∙ mark-other (get_or s 0 0) (head_in c s) (is_joined c) n.0 ∙ no_header n.1))
 
 -- ---- a step
 
-pub step-says : (c : Carrier) (area : List ℕ) (at : ℕ) (r : Step) → at ≤ length area → r ≡ stepAt c area at → StepSays c area at r
+pub step-says : (c : Carrier) (area : List ℕ) (at : ℕ) (r : Step) → at ≤ length area → r ≡ step_at c area at → StepSays c area at r
 step-says c area at (Step.Block start end) h e =
     record { broken = λ n. absurd (omega arith); whole = λ _. (step_block c area at (sym e)).3 ∙ one (frame c (drop end area)) }
   where
@@ -78,4 +78,4 @@ step-says c area at (Step.Skipped end) h e =
 step-says c area at Step.End h e =
     record { broken = λ n. absurd (omega arith); whole = λ _. step_end c area at (sym e) ∙ sym (ap (prepend []) (frame-none c)) }
 step-says c area at Step.Fault h e =
-    record { broken = λ _. ap framedNumber (step-fault c area at (sym e) h); whole = λ n. absurd (omega arith) }
+    record { broken = λ _. ap framed_number (step-fault c area at (sym e) h); whole = λ n. absurd (omega arith) }

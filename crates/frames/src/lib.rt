@@ -7,12 +7,12 @@ ghost use Rattle.octets.specs.Numbers.{number_at};
 ghost use Rattle.octets.specs.Over.{Wrote};
 ghost use Rattle.numbers.specs.Refusal as refusal;
 ghost use Rattle.carriers.specs.declared.Carrier.TheVariants.{Dhcp4};
-ghost use Rattle.carriers.specs.Carriers.{headWidth, headerOf, bare_code, in_eights};
-ghost use Rattle.frames.specs.Frame.{wholeSize, headIn, first_of, frame};
-ghost use Rattle.frames.specs.Step.{stepAt};
+ghost use Rattle.carriers.specs.Carriers.{head_width, header_of, bare_code, in_eights};
+ghost use Rattle.frames.specs.Frame.{whole_size, head_in, first_of, frame};
+ghost use Rattle.frames.specs.Step.{step_at};
 ghost use Rattle.frames.specs.Skip.{Skips, Passes};
-ghost use Rattle.frames.specs.Emit.{lengthSaid, head_of, CanSay};
-ghost use Rattle.frames.specs.Told.{headNumber, NoHeader, NothingFirst, StepSays, joinedLength};
+ghost use Rattle.frames.specs.Emit.{length_said, head_of, CanSay};
+ghost use Rattle.frames.specs.Told.{head_number, NoHeader, NothingFirst, StepSays, joined_length};
 ghost use Rattle.frames.specs.Gather.{GatheredFrom, Joins};
 
 use carriers::{Carrier, Eights, Octets};
@@ -104,7 +104,7 @@ fn bare_code(reserved: bool, code: usize) -> usize
 // How many octets an option with a header of `header` octets has, of which the length `n` was read.
 fn whole_size(eights: bool, header: usize, n: usize) -> Octets
     requires { (header ≤ 4) × (n < 65536) }
-    ensures { result.0 ≡ wholeSize eights header n }
+    ensures { result.0 ≡ whole_size eights header n }
 {
     if eights {
         carriers::octets_of(Eights(n))
@@ -115,8 +115,8 @@ fn whole_size(eights: bool, header: usize, n: usize) -> Octets
 
 // What a header with a code and a length says.
 fn head_in(c: Carrier, s: &[u8]) -> Head
-    ensures value { result ≡ headIn c s.now }
-    ensures variant { (headNumber result ≡ refusal.framing) ↔ NoHeader c s.now }
+    ensures value { result ≡ head_in c s.now }
+    ensures variant { (head_number result ≡ refusal.framing) ↔ NoHeader c s.now }
 {
     let f = c.facts();
     let width = f.width;
@@ -139,7 +139,7 @@ fn head_in(c: Carrier, s: &[u8]) -> Head
 pub fn first(c: Carrier, s: &[u8]) -> Head
     requires { 0 < length s.now }
     ensures value { result ≡ first_of c s.now }
-    ensures variant { (headNumber result ≡ refusal.framing) ↔ NothingFirst c s.now }
+    ensures variant { (head_number result ≡ refusal.framing) ↔ NothingFirst c s.now }
 {
     let f = c.facts();
     if f.joined {
@@ -161,7 +161,7 @@ pub fn first(c: Carrier, s: &[u8]) -> Head
 // What stands at an index of the area.
 pub fn next_block(c: Carrier, area: &[u8], at: usize) -> Step
     requires { at ≤ length area.now }
-    ensures value { result ≡ stepAt c area.now at }
+    ensures value { result ≡ step_at c area.now at }
     ensures step_says { StepSays c area.now at result }
 {
     if at == area.len() {
@@ -240,7 +240,7 @@ pub fn skip_foreign(c: Carrier, area: &[u8], at: usize) -> usize
 // The length that says a body of n octets after a header of `header` octets.
 fn length_said(eights: bool, header: usize, n: usize) -> usize
     requires { (header ≤ 4) × (n < 524288) }
-    ensures { result ≡ lengthSaid eights header n }
+    ensures { result ≡ length_said eights header n }
 {
     if eights {
         let units = carriers::eights_of(Octets(n + header));
@@ -252,8 +252,8 @@ fn length_said(eights: bool, header: usize, n: usize) -> usize
 
 // Writes the header of an own option whose body has n octets, and returns the index after it.
 pub fn put_header(out: &mut [u8], at: usize, c: Carrier, n: usize) -> usize
-    requires c_in_bounds { at + headerOf c ≤ length out.old }
-    requires can_say { CanSay (in_eights c) (headerOf c) (headWidth c) n }
+    requires c_in_bounds { at + header_of c ≤ length out.old }
+    requires can_say { CanSay (in_eights c) (header_of c) (head_width c) n }
     ensures { Wrote at (head_of c n) out.old result out.new }
 {
     let f = c.facts();
@@ -297,7 +297,7 @@ pub fn gather(area: &[u8]) -> Gathered
 pub fn join(area: &[u8], out: &mut [u8]) -> Joined
     requires { length area.now ≤ length out.old }
     ensures joins { Joins (frame Dhcp4 area.now) out.old result out.new }
-    ensures result_in_bounds { joinedLength result ≤ length area.now }
+    ensures result_in_bounds { joined_length result ≤ length area.now }
 {
     let mut at: usize = 0;
     let mut n: usize = 0;

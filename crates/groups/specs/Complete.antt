@@ -1,6 +1,6 @@
 -- What is spelled is read: groups of octets, and what stands between them, complete those octets. Assumes nothing.
 use Rattle.std.specs.Prelude.{◌≡◌, refl, Bool, true, false, cond, List, [], ◌∷◌, ◌++◌, ℕ, suc, ◌+◌, ◌*◌, ◌%◌, ◌≤◌, ◌<◌, ltb, length}
-use Rattle.std.proofs.Common.{sym, ap, ◌∙◌, subst, append_assoc, arith, eq-eqb, lt-ltb}
+use Rattle.std.proofs.Common.{sym, ap, ◌∙◌, subst, append_assoc, arith, eq-eq, lt-ltb}
 use Rattle.std.proofs.lemmas.Bool.{false≢true}
 use Rattle.octets.specs.Lists.{flat}
 use Rattle.hexes.specs.Hexes.{value}
@@ -8,7 +8,7 @@ use Rattle.hexes.specs.Spelled.{Digit, decimal, upper, lower}
 use Rattle.hexes.specs.Exactly.{digit-is}
 use Rattle.groups.specs.declared.Kind.{Kind}
 use Rattle.groups.specs.declared.state.State.{State}
-use Rattle.groups.specs.States.{fresh, blank, digitOn, prefix, allowed, close, moved}
+use Rattle.groups.specs.States.{fresh, blank, digit_on, prefix, allowed, close, moved}
 use Rattle.groups.specs.StatesLaws.{within-begins, begins-prefix, begins-digital, digital-digit}
 use Rattle.groups.specs.Spells.{Blank, Mark, Ex, Proper, Pairs, Digits, Group, Ends, Listed}
 use Rattle.groups.specs.Spells as spells
@@ -23,12 +23,12 @@ use Rattle.groups.specs.Sound as sound
 blank-under : {x : ℕ} → Blank x → (x ≡ 10 → ⊥) × (x < 48)
 blank-under (spells.space e) = ((λ n. absurd (omega arith)), omega arith)
 blank-under (spells.tab e) = ((λ n. absurd (omega arith)), omega arith)
-blank-under (spells.carriage-return e) = ((λ n. absurd (omega arith)), omega arith)
+blank-under (spells.carriage_return e) = ((λ n. absurd (omega arith)), omega arith)
 
 blank-is : {x : ℕ} → Blank x → blank x ≡ true
 blank-is (spells.space e) = rw e
 blank-is (spells.tab e) = rw e
-blank-is (spells.carriage-return e) = rw e
+blank-is (spells.carriage_return e) = rw e
 
 blank-not : (x : ℕ) → (x ≡ 10 → ⊥) → (Blank x → ⊥) → blank x ≡ false
 blank-not x n h = go (blank x) refl
@@ -37,21 +37,21 @@ blank-not x n h = go (blank x) refl
     go true e = absurd (h (blank-says x n e))
     go false e = refl
 
-abbrev gap-blank : {f : Kind} {x : ℕ} → Blank x → Gap f x
-gap-blank b = steps.at-blank (blank-under b).0 (blank-is b)
+abbrev gap_blank : {f : Kind} {x : ℕ} → Blank x → Gap f x
+gap_blank b = steps.at_blank (blank-under b).0 (blank-is b)
 
 module _ {f : Kind} (p : Proper f) where
-  abbrev gap-mark : {x : ℕ} → Mark f x → Gap f x
-  gap-mark {x} m =
-      let n : x ≡ 10 → ⊥ = λ e. p.no-break (sym m.is ∙ e) in
-      steps.at_mark n (blank-not x n (λ b. p.no-blank (subst Blank m.is b))) m.some m.is
+  abbrev gap_mark : {x : ℕ} → Mark f x → Gap f x
+  gap_mark {x} m =
+      let n : x ≡ 10 → ⊥ = λ e. p.no_break (sym m.is ∙ e) in
+      steps.at_mark n (blank-not x n (λ b. p.no_blank (subst Blank m.is b))) m.some m.is
 
   other-above : {x : ℕ} → 48 ≤ x → (x ≡ f.mark → ⊥) → Other f x
   other-above {x} h n =
       record {
-        no-break = λ e. absurd (omega arith);
-        no-blank = blank-not x (λ e. absurd (omega arith)) (λ b. let u = (blank-under b).1 in absurd (omega arith));
-        no-mark = λ m e. n e;
+        no_break = λ e. absurd (omega arith);
+        no_blank = blank-not x (λ e. absurd (omega arith)) (λ b. let u = (blank-under b).1 in absurd (omega arith));
+        no_mark = λ m e. n e;
       }
 
   other-digit : {x v : ℕ} → Digit x v → Other f x
@@ -63,7 +63,7 @@ module _ {f : Kind} (p : Proper f) where
       above (lower h k e) = omega arith
 
   other-ex : {x : ℕ} → Ex x → Other f x
-  other-ex {x} e = other-above (above e) (λ m. p.no-ex (subst Ex m e))
+  other-ex {x} e = other-above (above e) (λ m. p.no_ex (subst Ex m e))
     where
       above : {x : ℕ} → Ex x → 48 ≤ x
       above (spells.lower e) = omega arith
@@ -80,9 +80,9 @@ kept f p d o c k q m v l (x ∷ xs) bs r = r
 module _ {f : Kind} where
   gap-kept : {x : ℕ} (o : ℕ) (m v l : Bool) (xs bs : List ℕ) (g : Gap f x) → RunsOn f (past g (standing 0 0 o false true m v l)) xs bs
       → RunsOn f (past g (standing 0 0 o true true m v l)) xs (o ∷ bs)
-  gap-kept o m v l xs bs (steps.at-break e) r =
+  gap-kept o m v l xs bs (steps.at_break e) r =
       (refl, r.1, kept f 0 0 o false true false (cond f.lines false m) v l xs r.1 r.2, ap (λ (y : List ℕ). o ∷ y) r.3)
-  gap-kept o m v l xs bs (steps.at-blank n b) r =
+  gap-kept o m v l xs bs (steps.at_blank n b) r =
       (refl, r.1, kept f 0 0 o false true true m v l xs r.1 r.2, ap (λ (y : List ℕ). o ∷ y) r.3)
   gap-kept o m v l xs bs (steps.at_mark n b k e) r =
       (refl, r.1, kept f 0 0 o false true false m v l xs r.1 r.2, ap (λ (y : List ℕ). o ∷ y) r.3)
@@ -95,10 +95,10 @@ record Gapped (f : Kind) (t : List ℕ) : Type 0 where
   pub gap : Gap f x
 
 gapped : {f : Kind} {t : List ℕ} → Proper f → Ends f t → Gapped f (t ++ (10 ∷ []))
-gapped p spells.at-end = record { x = 10; xs = []; are = refl; gap = steps.at-break refl }
-gapped p (spells.at-blank {x} {t} b) = record { x = x; xs = t ++ (10 ∷ []); are = refl; gap = gap-blank b }
-gapped p (spells.at-break {x} {t} e) = record { x = x; xs = t ++ (10 ∷ []); are = refl; gap = steps.at-break e }
-gapped p (spells.at_mark {x} {t} m) = record { x = x; xs = t ++ (10 ∷ []); are = refl; gap = gap-mark p m }
+gapped p spells.at_end = record { x = 10; xs = []; are = refl; gap = steps.at_break refl }
+gapped p (spells.at_blank {x} {t} b) = record { x = x; xs = t ++ (10 ∷ []); are = refl; gap = gap_blank b }
+gapped p (spells.at_break {x} {t} e) = record { x = x; xs = t ++ (10 ∷ []); are = refl; gap = steps.at_break e }
+gapped p (spells.at_mark {x} {t} m) = record { x = x; xs = t ++ (10 ∷ []); are = refl; gap = gap_mark p m }
 
 module _ {f : Kind} where
   -- a group whose pairs are complete, and one of a single digit
@@ -129,7 +129,7 @@ data Even : ℕ → ℕ → Type 0 where
 
 module _ {f : Kind} (pr : Proper f) where
   module _ {p : ℕ} {q : Bool} (fr : f.prefix ≡ true → 2 ≤ p) (n : f.marked ≡ true → q ≡ false) where
-    digit-moved : {x a : ℕ} (d o : ℕ) (c m v l : Bool) → Digit x a → moved f x (standing p d o c q m v l) ≡ digitOn x (standing p d o false q m v l)
+    digit-moved : {x a : ℕ} (d o : ℕ) (c m v l : Bool) → Digit x a → moved f x (standing p d o c q m v l) ≡ digit_on x (standing p d o false q m v l)
     digit-moved {x} d o c m v l g =
         let s = standing p d o false q m v l in
         other-moved (other-digit pr g) (standing p d o c q m v l)
@@ -139,8 +139,8 @@ module _ {f : Kind} (pr : Proper f) where
 
     -- two digits, which make an octet
     pair-run : {x y a b : ℕ} (d k e o : ℕ) (c m v l : Bool) (xs bs : List ℕ) → Digit x a → Digit y b
-        → digitOn x (standing p d o false q m v l) ≡ standing p k (value x) false q m v l
-        → digitOn y (standing p k (value x) false q m v l) ≡ standing p e (value x % 16 * 16 + value y) true q m v l
+        → digit_on x (standing p d o false q m v l) ≡ standing p k (value x) false q m v l
+        → digit_on y (standing p k (value x) false q m v l) ≡ standing p e (value x % 16 * 16 + value y) true q m v l
         → ((o : ℕ) (c : Bool) → Runs f (standing p e o c q m v l) xs bs)
         → Runs f (standing p d o c q m v l) (x ∷ y ∷ xs) ((a * 16 + b) ∷ bs)
     pair-run {x} {y} {a} {b} d k e o c m v l xs bs g h i j r =
@@ -204,7 +204,7 @@ module _ {f : Kind} (pr : Proper f) where
         other-moved (other-digit pr d) (standing 0 0 o c q m v l)
         ∙ sym (within-begins f x s n)
         ∙ sym (begins-prefix f x s e (omega arith))
-        ∙ rw (eq-eqb x 48 z) refl
+        ∙ rw (eq-eq x 48 z) refl
 
     ex-moved : {x : ℕ} (o : ℕ) (c m v l : Bool) → Ex x → moved f x (standing 1 0 o c q m v l) ≡ standing 2 0 o false q m v l
     ex-moved {x} o c m v l y =
@@ -240,16 +240,16 @@ module _ {f : Kind} (pr : Proper f) where
   pub listed-runs : {q m v l : Bool} {t : List ℕ} {gs : List (List ℕ)} {ls : List (List (List ℕ))} → Listed f q t gs ls → Fits f m v l gs ls
       → (o : ℕ) (c : Bool) → Runs f (standing 0 0 o c q m v l) (t ++ (10 ∷ [])) (flat (flat (gs ∷ ls)))
   listed-runs {q} {m} {v} {l} spells.nothing sound.nothing o c =
-      run-gap {x = 10} (steps.at-break refl) (standing 0 0 o c q m v l) [] [] (refl, [], refl, refl)
+      run-gap {x = 10} (steps.at_break refl) (standing 0 0 o c q m v l) [] [] (refl, [], refl, refl)
   listed-runs {q} {m} {v} {l} {gs} {ls} (spells.blank {t} b k) h o c =
       let bs = flat (flat (gs ∷ ls)) in
-      run-gap (gap-blank b) (standing 0 0 o c q m v l) (t ++ (10 ∷ [])) bs (refl, bs, listed-runs k h o false, refl)
-  listed-runs {q} {m} {v} {l} (spells.break {t} {l = gs} {ls} e k) (sound.next-line h) o c =
+      run-gap (gap_blank b) (standing 0 0 o c q m v l) (t ++ (10 ∷ [])) bs (refl, bs, listed-runs k h o false, refl)
+  listed-runs {q} {m} {v} {l} (spells.break {t} {l = gs} {ls} e k) (sound.next_line h) o c =
       let bs = flat (flat (gs ∷ ls)) in
-      run-gap (steps.at-break e) (standing 0 0 o c q m v l) (t ++ (10 ∷ [])) bs (refl, bs, listed-runs k h o false, refl)
+      run-gap (steps.at_break e) (standing 0 0 o c q m v l) (t ++ (10 ∷ [])) bs (refl, bs, listed-runs k h o false, refl)
   listed-runs {q} {m} {v} {l} {gs} {ls} (spells.mark {t} b k) h o c =
       let bs = flat (flat (gs ∷ ls)) in
-      run-gap (gap-mark pr b) (standing 0 0 o c true m v l) (t ++ (10 ∷ [])) bs (refl, bs, listed-runs k h o false, refl)
+      run-gap (gap_mark pr b) (standing 0 0 o c true m v l) (t ++ (10 ∷ [])) bs (refl, bs, listed-runs k h o false, refl)
   listed-runs {q} {m} {v} {l} (spells.group {g} {t} {bs} {l = gs} {ls} n gr e k) (sound.group a h) o c =
       subst (λ (y : List ℕ). Runs f (standing 0 0 o c q m v l) y (bs ++ flat (flat (gs ∷ ls)))) (sym (append_assoc g t (10 ∷ [])))
       (group-run (flat (flat (gs ∷ ls))) m v l n (gapped pr e) a (λ o. listed-runs k h o false) gr o c)

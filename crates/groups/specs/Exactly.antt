@@ -8,13 +8,13 @@ use Rattle.inputs.specs.declared.Read.{Read}
 use Rattle.inputs.specs.declared.Read.TheVariants.{Octets}
 use Rattle.groups.specs.declared.Kind.{Kind}
 use Rattle.groups.specs.States.{begun}
-use Rattle.groups.specs.Groups.{ended, readFrom, read_of}
-use Rattle.groups.specs.Spells.{Proper, Alone, narrow, by-line, by-list, Spells}
+use Rattle.groups.specs.Groups.{ended, read_from, read_of}
+use Rattle.groups.specs.Spells.{Proper, Alone, narrow, by_line, by_list, Spells}
 use Rattle.groups.specs.Filling.{runs-one, read-runs, runs-read}
 use Rattle.groups.specs.Runs.{machine, Runs, reader}
 use Rattle.groups.specs.Steps.{Allowed}
 use Rattle.groups.specs.Steps as steps
-use Rattle.groups.specs.Sound.{Fits, nothing, next-line, group, between, runs-goes}
+use Rattle.groups.specs.Sound.{Fits, nothing, next_line, group, between, runs-goes}
 use Rattle.groups.specs.Complete.{listed-runs}
 
 -- ---- where a group of more octets than one stands
@@ -34,8 +34,8 @@ first-lone : (f : Kind) (ls : List (List (List ℕ))) (bs : List ℕ) (gs : List
     → Fits f m false l (bs ∷ gs) ls
 first-lone f ls bs gs true l next (lines e h a) = absurd (omega arith)
 first-lone f ls bs gs true l next (list e w h) = absurd (omega arith)
-first-lone f ls bs gs false l next (lines e h a) = group (steps.by-line refl e) (next true (cond (ltb 1 (length bs)) true l) (lines e (omega arith) a))
-first-lone f ls bs gs false l next (list e w h) = group (steps.by-list refl e w) (next true (cond (ltb 1 (length bs)) true l) (list e w (omega arith)))
+first-lone f ls bs gs false l next (lines e h a) = group (steps.by_line refl e) (next true (cond (ltb 1 (length bs)) true l) (lines e (omega arith) a))
+first-lone f ls bs gs false l next (list e w h) = group (steps.by_list refl e w) (next true (cond (ltb 1 (length bs)) true l) (list e w (omega arith)))
 
 first-narrow : (f : Kind) (ls : List (List (List ℕ))) (bs : List ℕ) (gs : List (List ℕ)) (m v : Bool) → length bs ≤ 1
     → Fits f true (cond m true v) false gs ls
@@ -48,23 +48,23 @@ lone-fits : (f : Kind) (ls : List (List (List ℕ))) (gs : List (List ℕ)) (m l
 lone-fits f [] [] m l k = nothing
 lone-fits f (hs ∷ ls) [] m l (lines e h a) =
     let k : before false + length hs ≤ 1 = let j = a.0 in omega arith in
-    next-line (subst (λ (b : Bool). Fits f (cond b false m) false l hs ls) (sym e) (lone-fits f ls hs false l (lines e k a.1)))
-lone-fits f (hs ∷ ls) [] m l (list e w h) = next-line (subst (λ (b : Bool). Fits f (cond b false m) false l hs ls) (sym e) (lone-fits f ls hs m l (list e w h)))
+    next_line (subst (λ (b : Bool). Fits f (cond b false m) false l hs ls) (sym e) (lone-fits f ls hs false l (lines e k a.1)))
+lone-fits f (hs ∷ ls) [] m l (list e w h) = next_line (subst (λ (b : Bool). Fits f (cond b false m) false l hs ls) (sym e) (lone-fits f ls hs m l (list e w h)))
 lone-fits f [] (bs ∷ gs) m l k = first-lone f [] bs gs m l (λ m l. lone-fits f [] gs m l) k
 lone-fits f (hs ∷ ls) (bs ∷ gs) m l k = first-lone f (hs ∷ ls) bs gs m l (λ m l. lone-fits f (hs ∷ ls) gs m l) k
 
 narrow-fits : (f : Kind) (ls : List (List (List ℕ))) (gs : List (List ℕ)) (m v : Bool) → All (All (λ (g : List ℕ). length g ≤ 1)) (gs ∷ ls)
     → Fits f m v false gs ls
 narrow-fits f [] [] m v a = nothing
-narrow-fits f (hs ∷ ls) [] m v a = next-line (narrow-fits f ls hs (cond f.lines false m) v a.1)
+narrow-fits f (hs ∷ ls) [] m v a = next_line (narrow-fits f ls hs (cond f.lines false m) v a.1)
 narrow-fits f [] (bs ∷ gs) m v a = first-narrow f [] bs gs m v a.0.0 (narrow-fits f [] gs true (cond m true v) (a.0.1, a.1))
 narrow-fits f (hs ∷ ls) (bs ∷ gs) m v a =
     first-narrow f (hs ∷ ls) bs gs m v a.0.0 (narrow-fits f (hs ∷ ls) gs true (cond m true v) (a.0.1, a.1))
 
 alone-fits : {f : Kind} {gs : List (List ℕ)} {ls : List (List (List ℕ))} → Alone f (gs ∷ ls) → Fits f false false false gs ls
 alone-fits {f} {gs} {ls} (narrow a) = narrow-fits f ls gs false false a
-alone-fits {f} {gs} {ls} (by-line e a) = lone-fits f ls gs false false (lines e (omega arith) a.1)
-alone-fits {f} {gs} {ls} (by-list e w h) = lone-fits f ls gs false false (list e w (omega arith))
+alone-fits {f} {gs} {ls} (by_line e a) = lone-fits f ls gs false false (lines e (omega arith) a.1)
+alone-fits {f} {gs} {ls} (by_list e w h) = lone-fits f ls gs false false (list e w (omega arith))
 
 before-one : (m : Bool) → before m + 0 ≤ 1
 before-one true = omega arith
@@ -85,8 +85,8 @@ Alike f = (f.lines ≡ true) ⊎ ((f.lines ≡ false) × (f.whole ≡ true))
 allowed-wide : {f : Kind} {v l : Bool} → Allowed f v l → l ≡ true → (v ≡ false) × Alike f
 unfolding Alike
 allowed-wide (steps.narrow e) w = absurd (false≢true (sym e ∙ w))
-allowed-wide (steps.by-line v e) w = (v, inl e)
-allowed-wide (steps.by-list v e k) w = (v, inr (e, k))
+allowed-wide (steps.by_line v e) w = (v, inl e)
+allowed-wide (steps.by_list v e k) w = (v, inr (e, k))
 
 neither : (m v : Bool) → cond m true v ≡ false → (m ≡ false) × (v ≡ false)
 neither true v e = absurd (false≢true (sym e))
@@ -101,7 +101,7 @@ wide-lone : {f : Kind} {m v l : Bool} {gs : List (List ℕ)} {ls : List (List (L
 unfolding Alike
 wide-lone {f} {m} nothing e d (inl p) = lines p (before-one m) tt
 wide-lone {f} {m} nothing e d (inr p) = list p.0 p.1 (before-one m)
-wide-lone (next-line k) e d p = next-lone (wide-lone k e d p)
+wide-lone (next_line k) e d p = next-lone (wide-lone k e d p)
 wide-lone {f} {m} {v} {l} {ls} (group {bs} {gs} a k) e d p =
     let w = still (ltb 1 (length bs)) l e in
     let c = (allowed-wide a w).0 in
@@ -111,7 +111,7 @@ wide-lone {f} {m} {v} {l} {ls} (group {bs} {gs} a k) e d p =
 fits-lone : {f : Kind} {m v l : Bool} {gs : List (List ℕ)} {ls : List (List (List ℕ))} → Fits f m v l gs ls
     → All (All (λ (g : List ℕ). length g ≤ 1)) (gs ∷ ls) ⊎ ((v ≡ false) × Lone f m gs ls)
 fits-lone nothing = inl (tt, tt)
-fits-lone (next-line k) = ⊎_elim (λ a. inl (tt, a)) (λ h. inr (h.0, next-lone h.1)) (fits-lone k)
+fits-lone (next_line k) = ⊎_elim (λ a. inl (tt, a)) (λ h. inr (h.0, next-lone h.1)) (fits-lone k)
 fits-lone {f} {m} {v} {l} {ls} (group {bs} {gs} a k) = go (fits-lone k) (ltb 1 (length bs)) refl
   where
     lone : cond m true v ≡ false → Lone f true gs ls → (v ≡ false) × Lone f m (bs ∷ gs) ls
@@ -129,8 +129,8 @@ fits-alone : {f : Kind} {gs : List (List ℕ)} {ls : List (List (List ℕ))} →
 fits-alone {f} {gs} {ls} k = ⊎_elim (λ a. narrow a) (λ h. go h.1) (fits-lone k)
   where
     go : Lone f false gs ls → Alone f (gs ∷ ls)
-    go (lines e h a) = by-line e (omega arith, a)
-    go (list e w h) = by-list e w (omega arith)
+    go (lines e h a) = by_line e (omega arith, a)
+    go (list e w h) = by_list e w (omega arith)
 
 -- ---- the theorems
 
@@ -140,7 +140,7 @@ unfolding read_of
 read-spelled f text out n e =
     let out' = (read_of f text out).out in
     let d = ap (λ (y : Read). ended y out') e in
-    let r = read-runs (machine f) (readFrom f) ended (reader f) (text ++ (10 ∷ [])) begun 0 0 out n out' (omega arith) d in
+    let r = read-runs (machine f) (read_from f) ended (reader f) (text ++ (10 ∷ [])) begun 0 0 out n out' (omega arith) d in
     let g = runs-goes f text begun [] [] r.0 between r.1 in
     record { first = g.first; others = g.others; listed = g.listed; alone = fits-alone g.fits; are = r.3 ∙ g.are }
 
@@ -152,7 +152,7 @@ pub spelled-read : (f : Kind) (t bs out : List ℕ) → Proper f → Spells f t 
     → read_of f t out ≡ ended (Octets (length bs)) (over 0 bs out)
 unfolding read_of
 spelled-read f t bs out p s h =
-    runs-read (machine f) (readFrom f) ended (reader f) (t ++ (10 ∷ [])) begun 0 0 out bs (spelled-runs p s) (omega arith)
+    runs-read (machine f) (read_from f) ended (reader f) (t ++ (10 ∷ [])) begun 0 0 out bs (spelled-runs p s) (omega arith)
     ∙ ap (λ (y : ℕ). ended (Octets y) (over 0 bs out)) (zero-add (length bs))
 
 -- no text spells two lists of octets as a list of one kind

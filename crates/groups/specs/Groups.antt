@@ -1,6 +1,6 @@
 -- What a text is read as that is to be a list: its characters one after the other, and a line break after the last. Assumes nothing: these are
 -- definitions.
-use Rattle.std.specs.Prelude.{◌≡◌, cond, List, [], ◌∷◌, ◌++◌, ℕ, ◌+◌, leb, eqb, length, set}
+use Rattle.std.specs.Prelude.{◌≡◌, cond, List, [], ◌∷◌, ◌++◌, ℕ, ◌+◌, leb, eq, length, set}
 use Rattle.inputs.specs.declared.Read.{Read}
 use Rattle.inputs.specs.declared.Read.TheVariants.{Octets, Bad, Long}
 use Rattle.groups.specs.declared.Kind.{Kind}
@@ -18,8 +18,8 @@ abbrev pub after : Turn → List ℕ → After
 after t out = record { turn = t; out = out }
 
 -- an octet that is complete is laid at n
-abbrev pub layOf : State → ℕ → List ℕ → After
-layOf s n out =
+abbrev pub lay_of : State → ℕ → List ℕ → After
+lay_of s n out =
     cond s.complete
     (cond (leb (length out) n) (after turns.Long out) (after (turns.Go s (n + 1)) (set out n s.octet)))
     (after (turns.Go s n) out)
@@ -27,7 +27,7 @@ layOf s n out =
 -- ---- a character
 
 abbrev pub settled : State → ℕ → List ℕ → After
-settled s n out = cond (eqb s.why 0) (layOf s n out) (after (turns.Bad s.why) out)
+settled s n out = cond (eq s.why 0) (lay_of s n out) (after (turns.Bad s.why) out)
 
 unfoldable pub take_of : Kind → State → ℕ → ℕ → List ℕ → After
 take_of f s x n out = settled (moved f x s) n out
@@ -51,13 +51,13 @@ onward (turns.Bad w) i out next = ended (Bad i w) out
 onward turns.Long i out next = ended Long out
 
 -- the characters from the i-th on
-unfoldable pub readFrom : Kind → State → ℕ → ℕ → List ℕ → List ℕ → Ended
-readFrom f s n i out [] = ended (Octets n) out
-readFrom f s n i out (x ∷ xs) =
-    onward (take_of f s x n out).turn i (take_of f s x n out).out (λ t m. readFrom f t m (i + 1) (take_of f s x n out).out xs)
+unfoldable pub read_from : Kind → State → ℕ → ℕ → List ℕ → List ℕ → Ended
+read_from f s n i out [] = ended (Octets n) out
+read_from f s n i out (x ∷ xs) =
+    onward (take_of f s x n out).turn i (take_of f s x n out).out (λ t m. read_from f t m (i + 1) (take_of f s x n out).out xs)
 
 unfoldable pub read_of : Kind → List ℕ → List ℕ → Ended
-read_of f text out = readFrom f begun 0 0 out (text ++ (10 ∷ []))
+read_of f text out = read_from f begun 0 0 out (text ++ (10 ∷ []))
 
 pub record Grouped (f : Kind) (text out : List ℕ) (r : Read) (out' : List ℕ) : Type 0 where
   pub answered : r ≡ (read_of f text out).read

@@ -8,21 +8,21 @@ use Rattle.groups.specs.declared.Turn.{Turn}
 use Rattle.groups.specs.declared.Turn.TheVariants as turns
 use Rattle.groups.specs.declared.state.State.{State}
 use Rattle.groups.specs.States.{begun}
-use Rattle.groups.specs.Groups.{take_of, onward, readFrom, read_of}
+use Rattle.groups.specs.Groups.{take_of, onward, read_from, read_of}
 
 abbrev Inside : ℕ → Read → Type 0
 Inside k (Octets n) = Unit
 Inside k (Bad at w) = at ≤ k
 Inside k Long = Unit
 
-inside-from : (f : Kind) (k : ℕ) (s : State) (n i : ℕ) (out l : List ℕ) → i + length l ≤ k + 1 → Inside k (readFrom f s n i out l).read
-unfolding readFrom
+inside-from : (f : Kind) (k : ℕ) (s : State) (n i : ℕ) (out l : List ℕ) → i + length l ≤ k + 1 → Inside k (read_from f s n i out l).read
+unfolding read_from
 inside-from f k s n i out [] h = tt
 inside-from f k s n i out (x ∷ xs) h =
     go (take_of f s x n out).turn (take_of f s x n out).out (λ t m out'. inside-from f k t m (i + 1) out' xs (omega arith))
   where
-    go : (r : Turn) (out' : List ℕ) → ((t : State) (m : ℕ) (out'' : List ℕ) → Inside k (readFrom f t m (i + 1) out'' xs).read)
-        → Inside k (onward r i out' (λ t m. readFrom f t m (i + 1) out' xs)).read
+    go : (r : Turn) (out' : List ℕ) → ((t : State) (m : ℕ) (out'' : List ℕ) → Inside k (read_from f t m (i + 1) out'' xs).read)
+        → Inside k (onward r i out' (λ t m. read_from f t m (i + 1) out' xs)).read
     go (turns.Go t m) out' q = q t m out'
     go (turns.Bad w) out' q = omega arith
     go turns.Long out' q = tt

@@ -1,6 +1,6 @@
 -- What is read is spelled: the characters of a list that completes octets are groups of those octets and what stands between them. Assumes nothing.
-use Rattle.std.specs.Prelude.{◌≡◌, refl, Bool, true, false, cond, ◌⊎◌, List, [], ◌∷◌, ◌++◌, ℕ, ◌+◌, ◌*◌, ◌%◌, ◌≤◌, ◌<◌, eqb, ltb, length}
-use Rattle.std.proofs.Common.{sym, ap, ◌∙◌, subst, ⊎_elim, append_assoc, arith, eqb-true, lt-ltb, le-ltb, length-append}
+use Rattle.std.specs.Prelude.{◌≡◌, refl, Bool, true, false, cond, ◌⊎◌, List, [], ◌∷◌, ◌++◌, ℕ, ◌+◌, ◌*◌, ◌%◌, ◌≤◌, ◌<◌, eq, ltb, length}
+use Rattle.std.proofs.Common.{sym, ap, ◌∙◌, subst, ⊎_elim, append_assoc, arith, eq-true, lt-ltb, le-ltb, length-append}
 use Rattle.std.proofs.lemmas.Bool.{false≢true}
 use Rattle.octets.specs.Lists.{flat}
 use Rattle.hexes.specs.Hexes.{value}
@@ -9,7 +9,7 @@ use Rattle.hexes.specs.Exactly.{digit-says}
 use Rattle.inputs.specs.Why as why
 use Rattle.groups.specs.declared.Kind.{Kind}
 use Rattle.groups.specs.declared.state.State.{State}
-use Rattle.groups.specs.States.{fresh, blank, but, digitOn, begins, within, allowed, close, line}
+use Rattle.groups.specs.States.{fresh, blank, but, digit_on, begins, within, allowed, close, line}
 use Rattle.groups.specs.StatesLaws.{begins-prefix, begins-digital}
 use Rattle.groups.specs.Spells.{Blank, Ex, Pairs, Digits, Group, Ends, Listed}
 use Rattle.groups.specs.Spells as spells
@@ -23,7 +23,7 @@ use Rattle.groups.specs.Steps as steps
 -- each group is allowed where it ends, after what has stood before
 pub data Fits (f : Kind) : Bool → Bool → Bool → List (List ℕ) → List (List (List ℕ)) → Type 0 where
   nothing : {m v l : Bool} → Fits f m v l [] []
-  next-line : {m v l : Bool} {gs : List (List ℕ)} {ls : List (List (List ℕ))} → Fits f (cond f.lines false m) v l gs ls → Fits f m v l [] (gs ∷ ls)
+  next_line : {m v l : Bool} {gs : List (List ℕ)} {ls : List (List (List ℕ))} → Fits f (cond f.lines false m) v l gs ls → Fits f m v l [] (gs ∷ ls)
   group : {m v l : Bool} {bs : List ℕ} {gs : List (List ℕ)} {ls : List (List (List ℕ))}
       → Allowed f (cond m true v) (cond (ltb 1 (length bs)) true l)
       → Fits f true (cond m true v) (cond (ltb 1 (length bs)) true l) gs ls
@@ -160,28 +160,28 @@ Next f xs =
     → Goes f s.after s.some s.several s.wide (p ++ xs) (bs ++ cs)
 
 pub blank-says : (x : ℕ) → (x ≡ 10 → ⊥) → blank x ≡ true → Blank x
-blank-says x n = go (eqb x 32) refl (eqb x 9) refl (eqb x 13) refl (eqb x 10) refl
+blank-says x n = go (eq x 32) refl (eq x 9) refl (eq x 13) refl (eq x 10) refl
   where
-    go : (a : Bool) → eqb x 32 ≡ a → (b : Bool) → eqb x 9 ≡ b → (c : Bool) → eqb x 13 ≡ c → (d : Bool) → eqb x 10 ≡ d
+    go : (a : Bool) → eq x 32 ≡ a → (b : Bool) → eq x 9 ≡ b → (c : Bool) → eq x 13 ≡ c → (d : Bool) → eq x 10 ≡ d
         → cond a true (cond b true (cond c true d)) ≡ true → Blank x
-    go true a b q c r d s e = spells.space (eqb-true x 32 a)
-    go false a true q c r d s e = spells.tab (eqb-true x 9 q)
-    go false a false q true r d s e = spells.carriage-return (eqb-true x 13 r)
-    go false a false q false r true s e = absurd (n (eqb-true x 10 s))
+    go true a b q c r d s e = spells.space (eq-true x 32 a)
+    go false a true q c r d s e = spells.tab (eq-true x 9 q)
+    go false a false q true r d s e = spells.carriage_return (eq-true x 13 r)
+    go false a false q false r true s e = absurd (n (eq-true x 10 s))
     go false a false q false r false s e = absurd (false≢true e)
 
 ends_at : {f : Kind} {x : ℕ} → Gap f x → (t : List ℕ) → Ends f (x ∷ t)
-ends_at (steps.at-break e) t = spells.at-break e
-ends_at {f} {x} (steps.at-blank n b) t = spells.at-blank (blank-says x n b)
+ends_at (steps.at_break e) t = spells.at_break e
+ends_at {f} {x} (steps.at_blank n b) t = spells.at_blank (blank-says x n b)
 ends_at (steps.at_mark n b m e) t = spells.at_mark record { is = e; some = m }
 
 module _ {f : Kind} {x : ℕ} {xs : List ℕ} (next : Next f xs) where
   gap-rest : {bs : List ℕ} (g : Gap f x) (o : ℕ) (c q m v l : Bool) → RunsOn f (past g (standing 0 0 o c q m v l)) (xs ++ (10 ∷ [])) bs
       → (cs : List ℕ) × (bs ≡ cond c (o ∷ []) [] ++ cs) × Goes f q m v l (x ∷ xs) cs
-  gap-rest (steps.at-break e) o c q m v l r =
+  gap-rest (steps.at_break e) o c q m v l r =
       let h = next (line f (standing 0 0 o c q m v l)) [] [] r.1 between r.2 in
-      (r.1, r.3, record { first = []; others = h.first ∷ h.others; listed = spells.break e h.listed; fits = next-line h.fits; are = h.are })
-  gap-rest (steps.at-blank n b) o c q m v l r =
+      (r.1, r.3, record { first = []; others = h.first ∷ h.others; listed = spells.break e h.listed; fits = next_line h.fits; are = h.are })
+  gap-rest (steps.at_blank n b) o c q m v l r =
       let h = next (standing 0 0 o c q m v l) [] [] r.1 between r.2 in
       (r.1, r.3, record { first = h.first; others = h.others; listed = spells.blank (blank-says x n b) h.listed; fits = h.fits; are = h.are })
   gap-rest (steps.at_mark n b k e) o c true m v l r =
@@ -212,9 +212,9 @@ module _ {f : Kind} {x : ℕ} {xs : List ℕ} (next : Next f xs) where
 last-next : {f : Kind} {s : State} {p bs cs : List ℕ} → Pending f s p bs → Runs f s (10 ∷ []) cs
     → Goes f s.after s.some s.several s.wide (p ++ []) (bs ++ cs)
 last-next {f} {s} {p} {bs} {cs} k r =
-    let r' : RunsOn f (line f (close f (fresh s))) [] cs = subst (λ (y : State). RunsOn f y [] cs) (gap-moved {f = f} {x = 10} (steps.at-break refl) s) r in
+    let r' : RunsOn f (line f (close f (fresh s))) [] cs = subst (λ (y : State). RunsOn f y [] cs) (gap-moved {f = f} {x = 10} (steps.at_break refl) s) r in
     closed k record {
-      ends = spells.at-end;
+      ends = spells.at_end;
       good = r'.0;
       rest = λ o c q m v l e.
           let r'' : RunsOn f (line f (standing 0 0 o c q m v l)) [] cs = subst (λ (y : State). RunsOn f (line f y) [] cs) e r' in
@@ -243,7 +243,7 @@ front-done (fronted e z y) h = omega arith
 
 module _ {f : Kind} (x : ℕ) {xs : List ℕ} (next : Next f xs) where
   digit-next : {p d o : ℕ} {q m v l : Bool} {fs ds bs cs : List ℕ} → Front f p fs → (f.marked ≡ true → q ≡ false) → Some d o ds bs → Digit x (value x)
-      → RunsOn f (digitOn x (standing p d o false q m v l)) (xs ++ (10 ∷ [])) cs
+      → RunsOn f (digit_on x (standing p d o false q m v l)) (xs ++ (10 ∷ [])) cs
       → Goes f q m v l ((fs ++ ds) ++ (x ∷ xs)) (bs ++ cs)
   digit-next {p} {d} {o} {q} {m} {v} {l} {fs} {ds} {bs} {cs} fr n (one {y} e) g r =
       let b = o % 16 * 16 + value x in

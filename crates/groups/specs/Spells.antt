@@ -11,7 +11,7 @@ use Rattle.groups.specs.declared.Kind.{Kind}
 pub data Blank (x : ℕ) : Type 0 where
   space : x ≡ 32 → Blank x
   tab : x ≡ 9 → Blank x
-  carriage-return : x ≡ 13 → Blank x
+  carriage_return : x ≡ 13 → Blank x
 
 -- the x of 0x
 pub data Ex (x : ℕ) : Type 0 where
@@ -25,10 +25,10 @@ pub record Mark (f : Kind) (x : ℕ) : Type 0 where
 
 -- the mark of a kind is told from blanks, digits and the x of 0x
 pub record Proper (f : Kind) : Type 0 where
-  pub no-break : f.mark ≡ 10 → ⊥
-  pub no-blank : Blank f.mark → ⊥
+  pub no_break : f.mark ≡ 10 → ⊥
+  pub no_blank : Blank f.mark → ⊥
   pub no_digit : (v : ℕ) → Digit f.mark v → ⊥
-  pub no-ex : Ex f.mark → ⊥
+  pub no_ex : Ex f.mark → ⊥
 
 -- ---- a group
 
@@ -51,9 +51,9 @@ pub data Group (f : Kind) : List ℕ → List ℕ → Type 0 where
 
 -- a group ends where the text ends, and before a blank, a line break and a mark
 pub data Ends (f : Kind) : List ℕ → Type 0 where
-  at-end : Ends f []
-  at-blank : {x : ℕ} {t : List ℕ} → Blank x → Ends f (x ∷ t)
-  at-break : {x : ℕ} {t : List ℕ} → x ≡ 10 → Ends f (x ∷ t)
+  at_end : Ends f []
+  at_blank : {x : ℕ} {t : List ℕ} → Blank x → Ends f (x ∷ t)
+  at_break : {x : ℕ} {t : List ℕ} → x ≡ 10 → Ends f (x ∷ t)
   at_mark : {x : ℕ} {t : List ℕ} → Mark f x → Ends f (x ∷ t)
 
 -- what a list, or the rest of one, has on its line and on the lines after it: groups, and the octets of each. The flag tells that a mark may stand:
@@ -74,8 +74,8 @@ pub data Listed (f : Kind) : Bool → List ℕ → List (List ℕ) → List (Lis
 -- a group of more octets than one stands alone on its line, or alone in the list, as the kind says
 pub data Alone (f : Kind) (ls : List (List (List ℕ))) : Type 0 where
   narrow : All (All (λ (g : List ℕ). length g ≤ 1)) ls → Alone f ls
-  by-line : f.lines ≡ true → All (λ (l : List (List ℕ)). length l ≤ 1) ls → Alone f ls
-  by-list : f.lines ≡ false → f.whole ≡ true → length (flat ls) ≤ 1 → Alone f ls
+  by_line : f.lines ≡ true → All (λ (l : List (List ℕ)). length l ≤ 1) ls → Alone f ls
+  by_list : f.lines ≡ false → f.whole ≡ true → length (flat ls) ≤ 1 → Alone f ls
 
 -- the text t spells the octets bs
 pub record Spells (f : Kind) (t bs : List ℕ) : Type 0 where

@@ -6,9 +6,9 @@ use Rattle.groups.specs.Spells.{Blank}
 
 -- what may stand between octets
 pub data Apart (x : ℕ) : Type 0 where
-  quotation-mark : x ≡ 34 → Apart x
+  quotation_mark : x ≡ 34 → Apart x
   blank : Blank x → Apart x
-  line-break : x ≡ 10 → Apart x
+  line_break : x ≡ 10 → Apart x
 
 -- the text spells the octets: \x and two digits each, the more significant first
 pub data SpellsEscapes : List ℕ → List ℕ → Type 0 where

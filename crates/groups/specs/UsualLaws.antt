@@ -6,7 +6,7 @@ use Rattle.std.proofs.lemmas.Bool.{false≢true}
 use Rattle.octets.specs.Lists.{All, flat}
 use Rattle.octets.specs.Numbers.{Bytes}
 use Rattle.octets.specs.Over.{over}
-use Rattle.hexes.specs.Hexes.{digitOf, two, hexOf}
+use Rattle.hexes.specs.Hexes.{digit_of, two, hex_of}
 use Rattle.hexes.specs.Spelled.{Digit, decimal, upper, lower}
 use Rattle.inputs.specs.declared.Read.TheVariants.{Octets}
 use Rattle.groups.specs.declared.Kind.{Kind}
@@ -18,8 +18,8 @@ use Rattle.groups.specs.Usual.{short, parted}
 
 -- ---- an octet
 
-digit-of : (v : ℕ) → v < 16 → Digit (digitOf v) v
-unfolding digitOf
+digit-of : (v : ℕ) → v < 16 → Digit (digit_of v) v
+unfolding digit_of
 digit-of v h = go (ltb v 10) refl
   where
     go : (b : Bool) → ltb v 10 ≡ b → Digit (cond b (48 + v) (87 + v)) v
@@ -37,7 +37,7 @@ two_digits f b h = spells.pairs (pair_of b [] [] h spells.none) (omega arith)
 short-digits : (f : Kind) → f.single ≡ true → (b : ℕ) → b < 256 → Digits f (short b) (b ∷ [])
 short-digits f s b h = go (ltb b 16) refl
   where
-    go : (c : Bool) → ltb b 16 ≡ c → Digits f (cond c (digitOf b ∷ []) (two b)) (b ∷ [])
+    go : (c : Bool) → ltb b 16 ≡ c → Digits f (cond c (digit_of b ∷ []) (two b)) (b ∷ [])
     go true e = spells.single s (digit-of b (ltb-true b 16 e))
     go false e = two_digits f b h
 
@@ -61,14 +61,14 @@ module _ (f : Kind) (x : ℕ) (form : ℕ → List ℕ) (p : f.prefix ≡ false)
     parted-listed [] h q n = spells.nothing
     parted-listed (b ∷ []) h q n =
         subst (λ (t : List ℕ). Listed f q t ((b ∷ []) ∷ []) []) (append-nil (form b))
-        (spells.group n (spells.bare p (digits b h.0)) spells.at-end spells.nothing)
+        (spells.group n (spells.bare p (digits b h.0)) spells.at_end spells.nothing)
     parted-listed (b ∷ c ∷ bs) h q n = go s (λ q n. parted-listed (c ∷ bs) h.1 q n)
       where
         go : (Blank x × (f.marked ≡ false)) ⊎ Mark f x
             → ((q : Bool) → (f.marked ≡ true → q ≡ false) → Listed f q (parted x form (c ∷ bs)) (singles (c ∷ bs)) [])
             → Listed f q (form b ++ x ∷ parted x form (c ∷ bs)) (singles (b ∷ c ∷ bs)) []
         go (inl k) next =
-            spells.group n (spells.bare p (digits b h.0)) (spells.at-blank k.0)
+            spells.group n (spells.bare p (digits b h.0)) (spells.at_blank k.0)
             (spells.blank k.0 (next true (λ m. absurd (false≢true (sym k.1 ∙ m)))))
         go (inr k) next = spells.group n (spells.bare p (digits b h.0)) (spells.at_mark k) (spells.mark k (next false (λ m. refl)))
 
@@ -84,23 +84,23 @@ module _ (f : Kind) (x : ℕ) (form : ℕ → List ℕ) (p : f.prefix ≡ false)
 
 -- ---- nothing between octets
 
-pairs_of : (bs : List ℕ) → Bytes bs → Pairs (hexOf bs) bs
+pairs_of : (bs : List ℕ) → Bytes bs → Pairs (hex_of bs) bs
 pairs_of [] h = spells.none
-pairs_of (b ∷ bs) h = pair_of b (hexOf bs) bs h.0 (pairs_of bs h.1)
+pairs_of (b ∷ bs) h = pair_of b (hex_of bs) bs h.0 (pairs_of bs h.1)
 
 module _ (f : Kind) (p : f.prefix ≡ false) where
   alone-one : (g : List ℕ) → (f.lines ≡ true) ⊎ ((f.lines ≡ false) × (f.whole ≡ true)) → Alone f ((g ∷ []) ∷ [])
-  alone-one g (inl e) = spells.by-line e (omega arith, tt)
-  alone-one g (inr e) = spells.by-list e.0 e.1 (omega arith)
+  alone-one g (inl e) = spells.by_line e (omega arith, tt)
+  alone-one g (inr e) = spells.by_list e.0 e.1 (omega arith)
 
-  joined-spelled : (f.lines ≡ true) ⊎ ((f.lines ≡ false) × (f.whole ≡ true)) → (bs : List ℕ) → Bytes bs → Spells f (hexOf bs) bs
+  joined-spelled : (f.lines ≡ true) ⊎ ((f.lines ≡ false) × (f.whole ≡ true)) → (bs : List ℕ) → Bytes bs → Spells f (hex_of bs) bs
   joined-spelled w [] h = record { first = []; others = []; listed = spells.nothing; alone = spells.narrow (tt, tt); are = refl }
   joined-spelled w (b ∷ bs) h =
       record {
         first = (b ∷ bs) ∷ [];
         others = [];
-        listed = subst (λ (t : List ℕ). Listed f false t ((b ∷ bs) ∷ []) []) (append-nil (hexOf (b ∷ bs)))
-            (spells.group (λ m. refl) (spells.bare p (spells.pairs (pairs_of (b ∷ bs) h) (omega arith))) spells.at-end spells.nothing);
+        listed = subst (λ (t : List ℕ). Listed f false t ((b ∷ bs) ∷ []) []) (append-nil (hex_of (b ∷ bs)))
+            (spells.group (λ m. refl) (spells.bare p (spells.pairs (pairs_of (b ∷ bs) h) (omega arith))) spells.at_end spells.nothing);
         alone = alone-one (b ∷ bs) w;
         are = sym (append-nil (b ∷ bs));
       }
@@ -125,8 +125,8 @@ module _ (f : Kind) (y : Proper f) (p : f.prefix ≡ false) (bs out : List ℕ) 
       r
 
   -- two digits each, and nothing between octets
-  pub joined-read : (f.lines ≡ true) ⊎ ((f.lines ≡ false) × (f.whole ≡ true)) → read_of f (hexOf bs) out ≡ ended (Octets (length bs)) (over 0 bs out)
-  joined-read w = spelled-read f (hexOf bs) bs out y (joined-spelled f p w bs h) r
+  pub joined-read : (f.lines ≡ true) ⊎ ((f.lines ≡ false) × (f.whole ≡ true)) → read_of f (hex_of bs) out ≡ ended (Octets (length bs)) (over 0 bs out)
+  joined-read w = spelled-read f (hex_of bs) bs out y (joined-spelled f p w bs h) r
 
 -- ---- marks
 
@@ -148,16 +148,16 @@ ex-where (spells.upper e) = omega arith
 blank-where : {x : ℕ} → Blank x → (1 ≤ x) × (x < 33)
 blank-where (spells.space e) = (omega arith, omega arith)
 blank-where (spells.tab e) = (omega arith, omega arith)
-blank-where (spells.carriage-return e) = (omega arith, omega arith)
+blank-where (spells.carriage_return e) = (omega arith, omega arith)
 
 -- a sign is told from blanks, digits and the x of 0x
 pub sign-proper : (f : Kind) → Sign f.mark → Proper f
 sign-proper f s =
     record {
-      no-break = λ e. break s e;
-      no-blank = λ b. apart s (blank-where b);
+      no_break = λ e. break s e;
+      no_blank = λ b. apart s (blank-where b);
       no_digit = λ v d. other s (digit-where d).0 (digit-where d).1;
-      no-ex = λ e. other s (let h = ex-where e in omega arith) (inr (ex-where e));
+      no_ex = λ e. other s (let h = ex-where e in omega arith) (inr (ex-where e));
     }
   where
     break : Sign f.mark → f.mark ≡ 10 → ⊥

@@ -51,7 +51,7 @@ fn between(x: u8) -> usize
 
 // After a digit, the first or the second.
 fn digit(x: u8, at: usize) -> usize
-    ensures { result ≡ escapes.digitTo x at }
+    ensures { result ≡ escapes.digit_to x at }
 {
     if is_digit(x) {
         return at;
@@ -80,7 +80,7 @@ fn next(at: usize, x: u8) -> usize
 
 // The octet of two digits; of other characters any octet.
 fn octet(high: u8, low: u8) -> u8
-    ensures { result ≡ escapes.octetOf high low }
+    ensures { result ≡ escapes.octet_of high low }
 {
     if !is_digit(high) {
         return 0;

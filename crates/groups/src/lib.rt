@@ -1,7 +1,7 @@
 // Octets given as a list of hexadecimal digits in groups (docs/COMMAND.md, "Lists"): blanks, colons, commas or dashes between them, or 0x before
 // each. A character moves the state of the list (`state`), and the octets that are completed are laid into a lent buffer. A text whose groups
 // may be words or offsets is refused: in such a group the octets may stand in another order, or be none.
-ghost use Rattle.groups.specs.Groups.{layOf, take_of, Turned, Grouped};
+ghost use Rattle.groups.specs.Groups.{lay_of, take_of, Turned, Grouped};
 
 pub mod escapes;
 mod state;
@@ -34,7 +34,7 @@ pub enum Turn {
 
 // Lays an octet that is complete.
 fn lay(s: State, n: usize, out: &mut [u8]) -> Turn
-    ensures { Turned (layOf s n out.old) result out.new }
+    ensures { Turned (lay_of s n out.old) result out.new }
 {
     if !s.complete {
         return Turn::Go(s, n);

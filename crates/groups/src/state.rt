@@ -81,7 +81,7 @@ impl State {
     // A digit. Every second one completes an octet.
     fn digit(mut self, x: u8) -> Self
         requires { hexes.digit x ≡ true }
-        ensures { result ≡ states.digitOn x self }
+        ensures { result ≡ states.digit_on x self }
     {
         self.digits = more(self.digits);
         if self.digits % 2 == 1 {
@@ -156,7 +156,7 @@ impl State {
 
     // A group of one digit has ended: it is an octet, or there is one digit too few.
     fn ended_one(mut self, f: Kind) -> Self
-        ensures { result ≡ states.endedOne f self }
+        ensures { result ≡ states.ended_one f self }
     {
         if f.single {
             self.complete = true;

@@ -5,24 +5,24 @@ use Rattle.octets.specs.Lists.{All, flat}
 use Rattle.octets.specs.ListsLaws.{flat_append, flat_map_append, all_append}
 use Rattle.carriers.specs.declared.Carrier.{Carrier}
 use Rattle.carriers.specs.declared.Carrier.TheVariants.{Dhcp4}
-use Rattle.carriers.specs.Carriers.{isJoined}
+use Rattle.carriers.specs.Carriers.{is_joined}
 use Rattle.carriers.specs.CarriersLaws.{by-joined}
 use Rattle.frames.specs.Frame.{frame}
 use Rattle.frames.specs.Area.{joined}
-use Rattle.frames.specs.Emit.{optionOf, Fits, optionsOf}
+use Rattle.frames.specs.Emit.{option_of, Fits, options_of}
 use Rattle.frames.specs.EmitLaws.{frame-options}
 use Rattle.pieces.specs.Pieces.{pieces, cut_of}
 use Rattle.pieces.specs.PiecesLaws.{pieces-fit, pieces-flat}
-use Rattle.headers.specs.Headers.{paddedOf, Held, areaOf, Framed}
+use Rattle.headers.specs.Headers.{padded_of, Held, area_of, Framed}
 use Rattle.headers.specs.HeadersLaws.{padded-fits}
 
 -- ---- carrier 1
 
-cut-options : (vs : List (List ℕ)) → flat (map cut_of vs) ≡ optionsOf Dhcp4 (flat (map pieces vs))
+cut-options : (vs : List (List ℕ)) → flat (map cut_of vs) ≡ options_of Dhcp4 (flat (map pieces vs))
 unfolding cut_of
 cut-options [] = refl
 cut-options (v ∷ vs) =
-    ap (λ (r : List ℕ). optionsOf Dhcp4 (pieces v) ++ r) (cut-options vs) ∙ sym (flat_map_append (optionOf Dhcp4) (pieces v) (flat (map pieces vs)))
+    ap (λ (r : List ℕ). options_of Dhcp4 (pieces v) ++ r) (cut-options vs) ∙ sym (flat_map_append (option_of Dhcp4) (pieces v) (flat (map pieces vs)))
 
 all_fit : (vs : List (List ℕ)) → All (Fits Dhcp4) (flat (map pieces vs))
 all_fit [] = tt
@@ -48,14 +48,14 @@ pieces-joined (v ∷ vs) h =
 
 -- ---- the other carriers
 
-module _ (c : Carrier) (apart : isJoined c ≡ false) where
-  area-options : (vs : List (List ℕ)) → areaOf c vs ≡ optionsOf c (map (paddedOf c) vs)
+module _ (c : Carrier) (apart : is_joined c ≡ false) where
+  area-options : (vs : List (List ℕ)) → area_of c vs ≡ options_of c (map (padded_of c) vs)
   area-options [] = refl
   area-options (v ∷ vs) =
-      ap (λ (j : Bool). cond j (cut_of v) (optionOf c (paddedOf c v)) ++ areaOf c vs) apart
-      ∙ ap (λ (r : List ℕ). optionOf c (paddedOf c v) ++ r) (area-options vs)
+      ap (λ (j : Bool). cond j (cut_of v) (option_of c (padded_of c v)) ++ area_of c vs) apart
+      ∙ ap (λ (r : List ℕ). option_of c (padded_of c v) ++ r) (area-options vs)
 
-  values-fit : (vs : List (List ℕ)) → All (Held c) vs → All (Fits c) (map (paddedOf c) vs)
+  values-fit : (vs : List (List ℕ)) → All (Held c) vs → All (Fits c) (map (padded_of c) vs)
   values-fit [] h = tt
   values-fit (v ∷ vs) h = (padded-fits c v apart h.0.1, values-fit vs h.1)
 
@@ -71,9 +71,9 @@ headed-exactly = by-joined (λ c. (vs : List (List ℕ)) → All (Held c) vs →
       blocks = pieces-joined vs h;
     }
 
-    other : (c : Carrier) → isJoined c ≡ false → (vs : List (List ℕ)) → All (Held c) vs → Framed c vs
+    other : (c : Carrier) → is_joined c ≡ false → (vs : List (List ℕ)) → All (Held c) vs → Framed c vs
     other c apart vs h =
-        let bs : List (List ℕ) = map (paddedOf c) vs in
+        let bs : List (List ℕ) = map (padded_of c) vs in
         record {
           bodies = bs;
           frames = ap (frame c) (area-options c apart vs) ∙ frame-options c bs (values-fit c apart vs h);

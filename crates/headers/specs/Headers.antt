@@ -1,16 +1,16 @@
 -- The options that hold a value, the octets of an option after its header (docs/COMMAND.md, "Input"; RULES E2, E3, W6).
 -- Assumes nothing: these are definitions.
-use Rattle.std.specs.Prelude.{◌≡◌, cond, List, [], ◌++◌, map, ℕ, ◌+◌, ◌-◌, ◌%◌, ◌≤◌, ◌<◌, ltb, eqb, length, take, drop}
+use Rattle.std.specs.Prelude.{◌≡◌, cond, List, [], ◌++◌, map, ℕ, ◌+◌, ◌-◌, ◌%◌, ◌≤◌, ◌<◌, ltb, eq, length, take, drop}
 use Rattle.octets.specs.Lists.{flat}
 use Rattle.octets.specs.Numbers.{zeros}
 use Rattle.octets.specs.Over.{over}
 use Rattle.numbers.specs.Limit as limit
 use Rattle.carriers.specs.declared.Carrier.{Carrier}
-use Rattle.carriers.specs.Carriers.{headerOf, in_eights, isJoined}
+use Rattle.carriers.specs.Carriers.{header_of, in_eights, is_joined}
 use Rattle.frames.specs.Frame.{frame, framed}
-use Rattle.frames.specs.Area.{joined, blocksOf}
-use Rattle.frames.specs.Emit.{optionOf}
-use Rattle.pieces.specs.Pieces.{cut_of, cutOctets}
+use Rattle.frames.specs.Area.{joined, blocks_of}
+use Rattle.frames.specs.Emit.{option_of}
+use Rattle.pieces.specs.Pieces.{cut_of, cut_octets}
 use Rattle.inputs.specs.Why as why
 use Rattle.inputs.specs.declared.Read.{Read}
 use Rattle.inputs.specs.declared.Read.TheVariants.{Octets, Bad, Long}
@@ -21,27 +21,27 @@ use Rattle.headers.specs.declared.Placed.TheVariants.{Next, NoRoom, Large}
 
 -- the zeros after a value of n octets: where lengths are in units of eight, the fewest that bring the option to whole units (RULES E3, W6)
 abbrev pub gap_of : Carrier → ℕ → ℕ
-gap_of c n = cond (in_eights c) ((8 - (headerOf c + n) % 8) % 8) 0
+gap_of c n = cond (in_eights c) ((8 - (header_of c + n) % 8) % 8) 0
 
-abbrev pub paddedOf : Carrier → List ℕ → List ℕ
-paddedOf c v = v ++ zeros (gap_of c (length v))
+abbrev pub padded_of : Carrier → List ℕ → List ℕ
+padded_of c v = v ++ zeros (gap_of c (length v))
 
 -- in carrier 1 options with 255 octets each and a last one with the rest (RULES E2), else one option (RULES E3)
-abbrev pub headedOf : Carrier → List ℕ → List ℕ
-headedOf c v = cond (isJoined c) (cut_of v) (optionOf c (paddedOf c v))
+abbrev pub headed_of : Carrier → List ℕ → List ℕ
+headed_of c v = cond (is_joined c) (cut_of v) (option_of c (padded_of c v))
 
 -- a value of no octets has no options
-abbrev pub optionsIn : Carrier → List ℕ → List ℕ
-optionsIn c v = cond (eqb (length v) 0) [] (headedOf c v)
+abbrev pub options_in : Carrier → List ℕ → List ℕ
+options_in c v = cond (eq (length v) 0) [] (headed_of c v)
 
 -- octets of the options of a value of n octets
 abbrev pub size_of : Carrier → ℕ → ℕ
-size_of c n = cond (isJoined c) (cutOctets n) (headerOf c + (n + gap_of c n))
+size_of c n = cond (is_joined c) (cut_octets n) (header_of c + (n + gap_of c n))
 
 -- the most octets of a value: where lengths are in units of eight, what 255 of them leave beside the header (RULES L6); else what a length of two
 -- octets says, also in carrier 1, where a value is cut
 abbrev pub most_of : Carrier → ℕ
-most_of c = cond (in_eights c) (limit.option - headerOf c) 65535
+most_of c = cond (in_eights c) (limit.option - header_of c) 65535
 
 -- ---- an area of values
 
@@ -50,18 +50,18 @@ abbrev pub Held : Carrier → List ℕ → Type 0
 Held c v = (0 < length v) × (length v ≤ most_of c)
 
 -- the options of values, one value after another
-abbrev pub areaOf : Carrier → List (List ℕ) → List ℕ
-areaOf c vs = flat (map (headedOf c) vs)
+abbrev pub area_of : Carrier → List (List ℕ) → List ℕ
+area_of c vs = flat (map (headed_of c) vs)
 
 -- the blocks that they make: in carrier 1 the values one after another, joined (RULES W4; RFC 3396), else each value, in carrier 3 with its zeros
-abbrev pub blocksIn : Carrier → List (List ℕ) → List (List ℕ)
-blocksIn c vs = cond (isJoined c) (joined vs) (map (paddedOf c) vs)
+abbrev pub blocks_in : Carrier → List (List ℕ) → List (List ℕ)
+blocks_in c vs = cond (is_joined c) (joined vs) (map (padded_of c) vs)
 
 -- the area can be framed, and its blocks are those of the values
 pub record Framed (c : Carrier) (vs : List (List ℕ)) : Type 0 where
   pub bodies : List (List ℕ)
-  pub frames : frame c (areaOf c vs) ≡ framed bodies
-  pub blocks : blocksOf c bodies ≡ blocksIn c vs
+  pub frames : frame c (area_of c vs) ≡ framed bodies
+  pub blocks : blocks_of c bodies ≡ blocks_in c vs
 
 -- ---- a value put to the front of a buffer
 
@@ -76,10 +76,10 @@ put p out = record { placed = p; out = out }
 -- a value of no octets has no options, and no room is wanted for it
 unfoldable pub put_of : List ℕ → Carrier → List ℕ → Put
 put_of out c v =
-    cond (eqb (length v) 0) (put (Next 0) out)
+    cond (eq (length v) 0) (put (Next 0) out)
     (cond (ltb (most_of c) (length v)) (put Large out)
-    (cond (ltb (length out) (length (headedOf c v))) (put NoRoom out)
-    (put (Next (length (headedOf c v))) (over 0 (headedOf c v) out))))
+    (cond (ltb (length out) (length (headed_of c v))) (put NoRoom out)
+    (put (Next (length (headed_of c v))) (over 0 (headed_of c v) out))))
 
 pub record Puts (a : Put) (r : Placed) (out' : List ℕ) : Type 0 where
   pub answered : r ≡ a.placed
@@ -96,8 +96,8 @@ told n (Next k) = Octets (n + k)
 told n NoRoom = Long
 told n Large = Bad 0 why.value
 
-abbrev pub addOf : List ℕ → ℕ → Carrier → List ℕ → Added
-addOf out n c v = record { read = told n (put_of (drop n out) c v).placed; out = take n out ++ (put_of (drop n out) c v).out }
+abbrev pub add_of : List ℕ → ℕ → Carrier → List ℕ → Added
+add_of out n c v = record { read = told n (put_of (drop n out) c v).placed; out = take n out ++ (put_of (drop n out) c v).out }
 
 pub record Adds (a : Added) (r : Read) (out' : List ℕ) : Type 0 where
   pub answered : r ≡ a.read

@@ -1,10 +1,10 @@
 -- The laws of values made options: how many octets these have, that an option can say them, and what each outcome leaves. Assumes nothing.
-use Rattle.std.specs.Prelude.{◌≡◌, Bool, true, false, cond, List, [], ◌∷◌, ◌++◌, ℕ, zero, suc, ◌+◌, ◌-◌, ◌%◌, ◌≤◌, ◌<◌, ltb, eqb, take, drop}
+use Rattle.std.specs.Prelude.{◌≡◌, Bool, true, false, cond, List, [], ◌∷◌, ◌++◌, ℕ, zero, suc, ◌+◌, ◌-◌, ◌%◌, ◌≤◌, ◌<◌, ltb, eq, take, drop}
 use Rattle.std.proofs.Math.Path.{refl, ap}
 use Rattle.std.proofs.Common.{sym, ◌∙◌, subst, true≢false, append_assoc, append-nil, arith, length-append, length-take, length-drop, take-append-drop, drop_of_length-le, take_at, take_all, drop_at, length-take-le}
 use Rattle.std.proofs.Math.ListN.{length}
 use Rattle.std.proofs.lemmas.List.{length-replicate}
-use borrow.Author.Tests.{ltb-false, eqb-true, eqb-false, lt-ltb, le-ltb, eq-eqb, ne_eqb}
+use borrow.Author.Tests.{ltb-false, eq-true, eq-false, lt-ltb, le-ltb, eq-eq, ne_eqb}
 use Rattle.octets.specs.Numbers.{zeros}
 use Rattle.octets.specs.Over.{over, Wrote}
 use Rattle.octets.specs.OverLaws.{then, over-length, over-behind}
@@ -12,36 +12,36 @@ use Rattle.numbers.specs.Limit as limit
 use Rattle.carriers.specs.declared.Carrier.{Carrier}
 use Rattle.carriers.specs.declared.Carrier.TheVariants.{Dhcp4, Dhcp6, Router, Ike4, Ike6}
 use Rattle.carriers.specs.declared.Facts.{Facts}
-use Rattle.carriers.specs.Carriers.{facts_of, headerOf, in_eights, isJoined}
+use Rattle.carriers.specs.Carriers.{facts_of, header_of, in_eights, is_joined}
 use Rattle.carriers.specs.CarriersLaws.{headed}
-use Rattle.frames.specs.Emit.{head_of, optionOf, Fits}
+use Rattle.frames.specs.Emit.{head_of, option_of, Fits}
 use Rattle.frames.specs.EmitLaws.{option-length}
-use Rattle.pieces.specs.Pieces.{cut_of, cutOctets}
+use Rattle.pieces.specs.Pieces.{cut_of, cut_octets}
 use Rattle.pieces.specs.PiecesLaws.{cut-length}
 use Rattle.inputs.specs.Why as why
 use Rattle.inputs.specs.declared.Read.{Read}
 use Rattle.inputs.specs.declared.Read.TheVariants.{Octets, Bad, Long}
 use Rattle.headers.specs.declared.Placed.{Placed}
 use Rattle.headers.specs.declared.Placed.TheVariants.{Next, NoRoom, Large}
-use Rattle.headers.specs.Headers.{gap_of, paddedOf, headedOf, size_of, most_of, Put, put, put_of, Puts, told, addOf, Adds}
-use Rattle.headers.specs.Headers.{optionsIn, Held}
+use Rattle.headers.specs.Headers.{gap_of, padded_of, headed_of, size_of, most_of, Put, put, put_of, Puts, told, add_of, Adds}
+use Rattle.headers.specs.Headers.{options_in, Held}
 
 -- ---- by the carrier's row
 
-pub header-few : (c : Carrier) → headerOf c ≤ 4
+pub header-few : (c : Carrier) → header_of c ≤ 4
 header-few c = omega (arith, (headed c).few)
 
 pub most-few : (c : Carrier) → most_of c ≤ 65535
 most-few c = go (in_eights c)
   where
-    go : (b : Bool) → cond b (limit.option - headerOf c) 65535 ≤ 65535
+    go : (b : Bool) → cond b (limit.option - header_of c) 65535 ≤ 65535
     go true = omega arith
     go false = omega arith
 
 pub gap-few : (c : Carrier) (n : ℕ) → gap_of c n < 8
 gap-few c n = go (in_eights c)
   where
-    go : (b : Bool) → cond b ((8 - (headerOf c + n) % 8) % 8) 0 < 8
+    go : (b : Bool) → cond b ((8 - (header_of c + n) % 8) % 8) 0 < 8
     go true = omega arith
     go false = omega arith
 
@@ -49,53 +49,53 @@ module _ (c : Carrier) {f : Facts} (row : f ≡ facts_of c) where
   in-eights : {b : Bool} → f.eights ≡ b → in_eights c ≡ b
   in-eights e = sym (ap (λ (f : Facts). f.eights) row) ∙ e
 
-  pub is-joined : {b : Bool} → f.joined ≡ b → isJoined c ≡ b
+  pub is-joined : {b : Bool} → f.joined ≡ b → is_joined c ≡ b
   is-joined e = sym (ap (λ (f : Facts). f.joined) row) ∙ e
 
-  pub most-eights : {h : ℕ} → h ≡ headerOf c → f.eights ≡ true → limit.option - h ≡ most_of c
-  most-eights q e = ap (λ (h : ℕ). limit.option - h) q ∙ sym (ap (λ (b : Bool). cond b (limit.option - headerOf c) 65535) (in-eights e))
+  pub most-eights : {h : ℕ} → h ≡ header_of c → f.eights ≡ true → limit.option - h ≡ most_of c
+  most-eights q e = ap (λ (h : ℕ). limit.option - h) q ∙ sym (ap (λ (b : Bool). cond b (limit.option - header_of c) 65535) (in-eights e))
 
   pub most-octets : f.eights ≡ false → 65535 ≡ most_of c
-  most-octets e = sym (ap (λ (b : Bool). cond b (limit.option - headerOf c) 65535) (in-eights e))
+  most-octets e = sym (ap (λ (b : Bool). cond b (limit.option - header_of c) 65535) (in-eights e))
 
   module _ (n : ℕ) where
-    pub gap-eights : {h : ℕ} → h ≡ headerOf c → f.eights ≡ true → ((8 - (h + n) % 8) % 8 ≡ gap_of c n) × ((8 - (h + n) % 8) % 8 < 8)
+    pub gap-eights : {h : ℕ} → h ≡ header_of c → f.eights ≡ true → ((8 - (h + n) % 8) % 8 ≡ gap_of c n) × ((8 - (h + n) % 8) % 8 < 8)
     gap-eights q e =
-        (ap (λ (h : ℕ). (8 - (h + n) % 8) % 8) q ∙ sym (ap (λ (b : Bool). cond b ((8 - (headerOf c + n) % 8) % 8) 0) (in-eights e)), omega arith)
+        (ap (λ (h : ℕ). (8 - (h + n) % 8) % 8) q ∙ sym (ap (λ (b : Bool). cond b ((8 - (header_of c + n) % 8) % 8) 0) (in-eights e)), omega arith)
 
     pub gap-octets : f.eights ≡ false → (0 ≡ gap_of c n) × (0 < 8)
-    gap-octets e = (sym (ap (λ (b : Bool). cond b ((8 - (headerOf c + n) % 8) % 8) 0) (in-eights e)), omega arith)
+    gap-octets e = (sym (ap (λ (b : Bool). cond b ((8 - (header_of c + n) % 8) % 8) 0) (in-eights e)), omega arith)
 
-    pub size-cut : f.joined ≡ true → cutOctets n ≡ size_of c n
-    size-cut e = sym (ap (λ (b : Bool). cond b (cutOctets n) (headerOf c + (n + gap_of c n))) (is-joined e))
+    pub size-cut : f.joined ≡ true → cut_octets n ≡ size_of c n
+    size-cut e = sym (ap (λ (b : Bool). cond b (cut_octets n) (header_of c + (n + gap_of c n))) (is-joined e))
 
-    pub size-option : {h g : ℕ} → h ≡ headerOf c → g ≡ gap_of c n → f.joined ≡ false → h + (n + g) ≡ size_of c n
+    pub size-option : {h g : ℕ} → h ≡ header_of c → g ≡ gap_of c n → f.joined ≡ false → h + (n + g) ≡ size_of c n
     size-option {h} {g} q p e =
-        ap (λ (h : ℕ). h + (n + g)) q ∙ ap (λ (g : ℕ). headerOf c + (n + g)) p
-        ∙ sym (ap (λ (b : Bool). cond b (cutOctets n) (headerOf c + (n + gap_of c n))) (is-joined e))
+        ap (λ (h : ℕ). h + (n + g)) q ∙ ap (λ (g : ℕ). header_of c + (n + g)) p
+        ∙ sym (ap (λ (b : Bool). cond b (cut_octets n) (header_of c + (n + gap_of c n))) (is-joined e))
 
-  pub headed-cut : (v : List ℕ) → f.joined ≡ true → headedOf c v ≡ cut_of v
-  headed-cut v e = ap (λ (b : Bool). cond b (cut_of v) (optionOf c (paddedOf c v))) (is-joined e)
+  pub headed-cut : (v : List ℕ) → f.joined ≡ true → headed_of c v ≡ cut_of v
+  headed-cut v e = ap (λ (b : Bool). cond b (cut_of v) (option_of c (padded_of c v))) (is-joined e)
 
-  pub headed-option : (v : List ℕ) → f.joined ≡ false → headedOf c v ≡ optionOf c (paddedOf c v)
-  headed-option v e = ap (λ (b : Bool). cond b (cut_of v) (optionOf c (paddedOf c v))) (is-joined e)
+  pub headed-option : (v : List ℕ) → f.joined ≡ false → headed_of c v ≡ option_of c (padded_of c v)
+  headed-option v e = ap (λ (b : Bool). cond b (cut_of v) (option_of c (padded_of c v))) (is-joined e)
 
 -- ---- octets
 
-pub padded-length : (c : Carrier) (v : List ℕ) → length (paddedOf c v) ≡ length v + gap_of c (length v)
+pub padded-length : (c : Carrier) (v : List ℕ) → length (padded_of c v) ≡ length v + gap_of c (length v)
 padded-length c v = simp (length-append, length-replicate)
 
-pub headed-length : (c : Carrier) (v : List ℕ) → length (headedOf c v) ≡ size_of c (length v)
-headed-length c v = go (isJoined c)
+pub headed-length : (c : Carrier) (v : List ℕ) → length (headed_of c v) ≡ size_of c (length v)
+headed-length c v = go (is_joined c)
   where
-    go : (b : Bool) → length (cond b (cut_of v) (optionOf c (paddedOf c v))) ≡ cond b (cutOctets (length v)) (headerOf c + (length v + gap_of c (length v)))
+    go : (b : Bool) → length (cond b (cut_of v) (option_of c (padded_of c v))) ≡ cond b (cut_octets (length v)) (header_of c + (length v + gap_of c (length v)))
     go true = cut-length v
-    go false = option-length c (paddedOf c v) ∙ ap (λ (n : ℕ). headerOf c + n) (padded-length c v)
+    go false = option-length c (padded_of c v) ∙ ap (λ (n : ℕ). header_of c + n) (padded-length c v)
 
 -- ---- one option
 
 -- a length can say every value that is not too large
-pub padded-fits : (c : Carrier) (v : List ℕ) → isJoined c ≡ false → length v ≤ most_of c → Fits c (paddedOf c v)
+pub padded-fits : (c : Carrier) (v : List ℕ) → is_joined c ≡ false → length v ≤ most_of c → Fits c (padded_of c v)
 padded-fits Dhcp4 v j h = absurd (true≢false j)
 padded-fits Dhcp6 v j h = omega (arith, padded-length Dhcp6 v)
 padded-fits Router v j h = (omega (arith, padded-length Router v), omega (arith, padded-length Router v))
@@ -110,10 +110,10 @@ take-zeros (suc n) (suc m) h = ap (λ (l : List ℕ). 0 ∷ l) (take-zeros n m (
 
 -- header, value and zeros are the option
 pub option-wrote : (c : Carrier) (v : List ℕ) {g i j r : ℕ} {l l₁ l₂ l₃ : List ℕ} → g ≡ gap_of c (length v) → Wrote 0 (head_of c (length v + g)) l i l₁
-    → Wrote i v l₁ j l₂ → Wrote j (zeros g) l₂ r l₃ → Wrote 0 (optionOf c (paddedOf c v)) l r l₃
+    → Wrote i v l₁ j l₂ → Wrote j (zeros g) l₂ r l₃ → Wrote 0 (option_of c (padded_of c v)) l r l₃
 option-wrote c v {g} {i} {j} {r} {l} {l₁} {l₂} {l₃} e x y z =
-    let size : length v + g ≡ length (paddedOf c v) = ap (λ (g : ℕ). length v + g) e ∙ sym (padded-length c v) in
-    subst (λ (n : ℕ). Wrote 0 (head_of c n ++ paddedOf c v) l r l₃) size
+    let size : length v + g ≡ length (padded_of c v) = ap (λ (g : ℕ). length v + g) e ∙ sym (padded-length c v) in
+    subst (λ (n : ℕ). Wrote 0 (head_of c n ++ padded_of c v) l r l₃) size
     (subst (λ (m : ℕ). Wrote 0 (head_of c (length v + g) ++ (v ++ zeros m)) l r l₃) e (then x (then y z)))
 
 -- ---- options cut
@@ -136,7 +136,7 @@ over-there k b l h =
     ∙ take_at b rest (length b) refl
 
 -- a value that was copied to where its options end, and cut there
-pub cut-wrote : (v : List ℕ) {k o r : ℕ} {l l₁ l₂ : List ℕ} → k + length v ≡ cutOctets (length v) → Wrote k v l o l₁
+pub cut-wrote : (v : List ℕ) {k o r : ℕ} {l l₁ l₂ : List ℕ} → k + length v ≡ cut_octets (length v) → Wrote k v l o l₁
     → Wrote 0 (cut_of (take (length v) (drop k l₁))) l₁ r l₂ → Wrote 0 (cut_of v) l r l₂
 cut-wrote v {k} {o} {r} {l} {l₁} {l₂} e w x =
     let there : take (length v) (drop k l₁) ≡ v = ap (λ (m : List ℕ). take (length v) (drop k m)) w.laid ∙ over-there k v l w.room in
@@ -153,7 +153,7 @@ cut-wrote v {k} {o} {r} {l} {l₁} {l₂} e w x =
 module _ (out : List ℕ) (c : Carrier) (v : List ℕ) where
   pub put-none : length v ≡ 0 → Puts (put_of out c v) (Next 0) out
   unfolding put_of
-  put-none e = rw (eq-eqb (length v) 0 e) (record { answered = refl; leaves = refl })
+  put-none e = rw (eq-eq (length v) 0 e) (record { answered = refl; leaves = refl })
 
   module _ (some : length v ≡ 0 → ⊥) where
     pub put-large : most_of c < length v → Puts (put_of out c v) Large out
@@ -164,37 +164,37 @@ module _ (out : List ℕ) (c : Carrier) (v : List ℕ) where
       pub put-short : length out < n → Puts (put_of out c v) NoRoom out
       unfolding put_of
       put-short h =
-          let short : length out < length (headedOf c v) = omega (arith, headed-length c v) in
-          rw (ne_eqb (length v) 0 some, le-ltb (most_of c) (length v) small, lt-ltb (length out) (length (headedOf c v)) short)
+          let short : length out < length (headed_of c v) = omega (arith, headed-length c v) in
+          rw (ne_eqb (length v) 0 some, le-ltb (most_of c) (length v) small, lt-ltb (length out) (length (headed_of c v)) short)
           (record { answered = refl; leaves = refl })
 
-      pub put-laid : {r : ℕ} {out' : List ℕ} → Wrote 0 (headedOf c v) out r out' → Puts (put_of out c v) (Next r) out'
+      pub put-laid : {r : ℕ} {out' : List ℕ} → Wrote 0 (headed_of c v) out r out' → Puts (put_of out c v) (Next r) out'
       unfolding put_of
       put-laid w =
-          rw (ne_eqb (length v) 0 some, le-ltb (most_of c) (length v) small, le-ltb (length out) (length (headedOf c v)) (omega (arith, w.room)))
+          rw (ne_eqb (length v) 0 some, le-ltb (most_of c) (length v) small, le-ltb (length out) (length (headed_of c v)) (omega (arith, w.room)))
           (record { answered = ap Next (omega (arith, w.next)); leaves = w.laid })
 
 -- what holds of every outcome: the buffer is as it was, or has room for the options, which are laid over its front
 by-outcome : (P : Placed → List ℕ → Type 0) (out : List ℕ) (c : Carrier) (v : List ℕ) → (length v ≡ 0 → P (Next 0) out) → P Large out → P NoRoom out
-    → ((length v ≡ 0 → ⊥) → length v ≤ most_of c → length (headedOf c v) ≤ length out → P (Next (length (headedOf c v))) (over 0 (headedOf c v) out))
+    → ((length v ≡ 0 → ⊥) → length v ≤ most_of c → length (headed_of c v) ≤ length out → P (Next (length (headed_of c v))) (over 0 (headed_of c v) out))
     → P (put_of out c v).placed (put_of out c v).out
 unfolding put_of
 by-outcome P out c v none large short laid =
-    go (eqb (length v) 0) refl (ltb (most_of c) (length v)) refl (ltb (length out) (length (headedOf c v))) refl
+    go (eq (length v) 0) refl (ltb (most_of c) (length v)) refl (ltb (length out) (length (headed_of c v))) refl
   where
     answer : Bool → Bool → Bool → Put
     answer x y z =
         cond x (put (Next 0) out)
         (cond y (put Large out)
-        (cond z (put NoRoom out) (put (Next (length (headedOf c v))) (over 0 (headedOf c v) out))))
+        (cond z (put NoRoom out) (put (Next (length (headed_of c v))) (over 0 (headed_of c v) out))))
 
-    go : (x : Bool) → eqb (length v) 0 ≡ x → (y : Bool) → ltb (most_of c) (length v) ≡ y → (z : Bool) → ltb (length out) (length (headedOf c v)) ≡ z
+    go : (x : Bool) → eq (length v) 0 ≡ x → (y : Bool) → ltb (most_of c) (length v) ≡ y → (z : Bool) → ltb (length out) (length (headed_of c v)) ≡ z
         → P (answer x y z).placed (answer x y z).out
-    go true p y q z e = none (eqb-true (length v) 0 p)
+    go true p y q z e = none (eq-true (length v) 0 p)
     go false p true q z e = large
     go false p false q true e = short
     go false p false q false e =
-        laid (eqb-false (length v) 0 p) (ltb-false (most_of c) (length v) q) (ltb-false (length out) (length (headedOf c v)) e)
+        laid (eq-false (length v) 0 p) (ltb-false (most_of c) (length v) q) (ltb-false (length out) (length (headed_of c v)) e)
 
 -- the options that were laid have no more octets than the buffer, which keeps its length
 abbrev Within : ℕ → Placed → Type 0
@@ -206,14 +206,14 @@ put-within : (out : List ℕ) (c : Carrier) (v : List ℕ) → Within (length ou
 put-within out c v = by-outcome (λ p l. Within (length out) p) out c v (λ e. omega arith) tt tt (λ s m h. h)
 
 pub put-length : (out : List ℕ) (c : Carrier) (v : List ℕ) → length (put_of out c v).out ≡ length out
-put-length out c v = by-outcome (λ p l. length l ≡ length out) out c v (λ e. refl) refl refl (λ s m h. over-length 0 (headedOf c v) out (omega arith))
+put-length out c v = by-outcome (λ p l. length l ≡ length out) out c v (λ e. refl) refl refl (λ s m h. over-length 0 (headed_of c v) out (omega arith))
 
 -- ---- a value added
 
 -- what is put to the rest of a buffer is added behind what stands before it
 pub add-told : (out : List ℕ) (n : ℕ) (c : Carrier) (v : List ℕ) {p : Placed} {r : Read} {m : List ℕ} → n ≤ length out
     → Puts (put_of (take (length out - n) (drop n out)) c v) p m → told n p ≡ r
-    → Adds (addOf out n c v) r (take n out ++ (m ++ drop (length out - n) (drop n out)))
+    → Adds (add_of out n c v) r (take n out ++ (m ++ drop (length out - n) (drop n out)))
 add-told out n c v {p} {r} {m} h w e =
     let size : length (drop n out) ≡ length out - n = length-drop n out in
     let rest : take (length out - n) (drop n out) ≡ drop n out = take_all (length out - n) (drop n out) (omega arith) in
@@ -234,7 +234,7 @@ add-room out n c v {p} {k} {m} h w e =
     let q : Within (length rest) (Next k) = subst (Within (length rest)) (sym w.answered ∙ e) (put-within rest c v) in
     omega (arith, q)
 
-pub add-length : (out : List ℕ) (n : ℕ) (c : Carrier) (v : List ℕ) → length (addOf out n c v).out ≡ length out
+pub add-length : (out : List ℕ) (n : ℕ) (c : Carrier) (v : List ℕ) → length (add_of out n c v).out ≡ length out
 add-length out n c v =
     length-append (take n out) (put_of (drop n out) c v).out ∙ ap (λ (k : ℕ). length (take n out) + k) (put-length (drop n out) c v)
     ∙ sym (length-append (take n out) (drop n out)) ∙ ap length (take-append-drop n out)
@@ -245,7 +245,7 @@ Sound m k (Octets n) = n ≤ m
 Sound m k (Bad at w) = at ≤ k
 Sound m k Long = Unit {0}
 
-pub add-sound : (k : ℕ) (out : List ℕ) (n : ℕ) (c : Carrier) (v : List ℕ) → n ≤ length out → Sound (length out) k (addOf out n c v).read
+pub add-sound : (k : ℕ) (out : List ℕ) (n : ℕ) (c : Carrier) (v : List ℕ) → n ≤ length out → Sound (length out) k (add_of out n c v).read
 add-sound k out n c v h = go (put_of (drop n out) c v).placed (put-within (drop n out) c v)
   where
     go : (p : Placed) → Within (length (drop n out)) p → Sound (length out) k (told n p)
@@ -261,11 +261,11 @@ front-taken a b l m e =
 
 -- what was added stands behind what stood before it
 pub record Lays (c : Carrier) (v before after : List ℕ) : Type 0 where
-  pub are : after ≡ before ++ optionsIn c v
+  pub are : after ≡ before ++ options_in c v
   pub held : (length v ≡ 0 → ⊥) → Held c v
 
-pub add-lays : (out : List ℕ) (n : ℕ) (c : Carrier) (v : List ℕ) {m : ℕ} → n ≤ length out → (addOf out n c v).read ≡ Octets m
-    → Lays c v (take n out) (take m (addOf out n c v).out)
+pub add-lays : (out : List ℕ) (n : ℕ) (c : Carrier) (v : List ℕ) {m : ℕ} → n ≤ length out → (add_of out n c v).read ≡ Octets m
+    → Lays c v (take n out) (take m (add_of out n c v).out)
 add-lays out n c v {m} h = by-outcome (λ p l. told n p ≡ Octets m → Lays c v (take n out) (take m (take n out ++ l))) (drop n out) c v none large short laid
   where
     size : length (take n out) ≡ n
@@ -275,7 +275,7 @@ add-lays out n c v {m} h = by-outcome (λ p l. told n p ≡ Octets m → Lays c 
     none z e =
         let k : n ≡ m = let q : n + 0 ≡ m = cc in omega arith in
         record {
-          are = take_at (take n out) (drop n out) m (size ∙ k) ∙ rw (eq-eqb (length v) 0 z) (sym (append-nil (take n out)));
+          are = take_at (take n out) (drop n out) m (size ∙ k) ∙ rw (eq-eq (length v) 0 z) (sym (append-nil (take n out)));
           held = λ s. absurd (s z);
         }
 
@@ -285,11 +285,11 @@ add-lays out n c v {m} h = by-outcome (λ p l. told n p ≡ Octets m → Lays c 
     short : Long ≡ Octets m → Lays c v (take n out) (take m (take n out ++ drop n out))
     short e = let z : ◌≡◌ {A = ℕ} 0 1 = cc in absurd (omega arith)
 
-    laid : (length v ≡ 0 → ⊥) → length v ≤ most_of c → length (headedOf c v) ≤ length (drop n out) → Octets (n + length (headedOf c v)) ≡ Octets m
-        → Lays c v (take n out) (take m (take n out ++ over 0 (headedOf c v) (drop n out)))
+    laid : (length v ≡ 0 → ⊥) → length v ≤ most_of c → length (headed_of c v) ≤ length (drop n out) → Octets (n + length (headed_of c v)) ≡ Octets m
+        → Lays c v (take n out) (take m (take n out ++ over 0 (headed_of c v) (drop n out)))
     laid s l r e =
-        let k : m ≡ length (take n out) + length (headedOf c v) = let q : n + length (headedOf c v) ≡ m = cc in omega (arith, size) in
+        let k : m ≡ length (take n out) + length (headed_of c v) = let q : n + length (headed_of c v) ≡ m = cc in omega (arith, size) in
         record {
-          are = front-taken (take n out) (headedOf c v) (drop n out) m k ∙ rw (ne_eqb (length v) 0 s) refl;
+          are = front-taken (take n out) (headed_of c v) (drop n out) m k ∙ rw (ne_eqb (length v) 0 s) refl;
           held = λ _. (omega (arith, s), l);
         }

@@ -4,10 +4,10 @@
 ghost use Rattle.std.specs.Prelude.{◌≡◌, false, ◌+◌, ◌≤◌, ◌<◌, length};
 ghost use Rattle.octets.specs.Numbers.{zeros};
 ghost use Rattle.octets.specs.Over.{Wrote};
-ghost use Rattle.carriers.specs.Carriers.{isJoined};
+ghost use Rattle.carriers.specs.Carriers.{is_joined};
 ghost use Rattle.pieces.specs.Pieces.{cut_of};
-ghost use Rattle.frames.specs.Emit.{optionOf};
-ghost use Rattle.headers.specs.Headers.{most_of, gap_of, paddedOf, headedOf, put_of, addOf, Puts, Adds, size_of};
+ghost use Rattle.frames.specs.Emit.{option_of};
+ghost use Rattle.headers.specs.Headers.{most_of, gap_of, padded_of, headed_of, put_of, add_of, Puts, Adds, size_of};
 
 use carriers::Carrier;
 use inputs::{Read, Why};
@@ -73,9 +73,9 @@ fn put_zeros(out: &mut [u8], at: usize, n: usize) -> usize
 
 // Writes the one option of a value to the front.
 fn put_option(out: &mut [u8], c: Carrier, value: &[u8]) -> usize
-    requires c_value { (isJoined c ≡ false) × (length value.now ≤ most_of c) }
-    requires value_in_bounds { length (optionOf c (paddedOf c value.now)) ≤ length out.old }
-    ensures { Wrote 0 (optionOf c (paddedOf c value.now)) out.old result out.new }
+    requires c_value { (is_joined c ≡ false) × (length value.now ≤ most_of c) }
+    requires value_in_bounds { length (option_of c (padded_of c value.now)) ≤ length out.old }
+    ensures { Wrote 0 (option_of c (padded_of c value.now)) out.old result out.new }
 {
     let n = value.len();
     let zeros = gap(c, n);
@@ -98,8 +98,8 @@ fn put_cut(out: &mut [u8], value: &[u8]) -> usize
 // Writes the options of a value to the front.
 fn lay(out: &mut [u8], c: Carrier, value: &[u8]) -> usize
     requires value_len_bound { length value.now ≤ most_of c }
-    requires value_in_bounds { length (headedOf c value.now) ≤ length out.old }
-    ensures { Wrote 0 (headedOf c value.now) out.old result out.new }
+    requires value_in_bounds { length (headed_of c value.now) ≤ length out.old }
+    ensures { Wrote 0 (headed_of c value.now) out.old result out.new }
 {
     let f = c.facts();
     if f.joined {
@@ -128,7 +128,7 @@ pub fn put(out: &mut [u8], c: Carrier, value: &[u8]) -> Placed
 // Puts the options of a value after the first n octets of `out`.
 pub fn add(out: &mut [u8], n: usize, c: Carrier, value: &[u8]) -> Read
     requires { n ≤ length out.old }
-    ensures { Adds (addOf out.old n c value.now) result out.new }
+    ensures { Adds (add_of out.old n c value.now) result out.new }
 {
     match put(&mut out[n..], c, value) {
         Placed::Next(size) => Read::Octets(n + size),

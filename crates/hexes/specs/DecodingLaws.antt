@@ -5,49 +5,49 @@ use Rattle.std.proofs.Common.{sym, ap, ◌∙◌, zero-add, arith, lt-ltb, le-lt
 use Rattle.octets.specs.Over.{Wrote}
 use Rattle.hexes.specs.declared.Hex.{Hex}
 use Rattle.hexes.specs.declared.Hex.TheVariants.{Octets, NoRoom, Other}
-use Rattle.hexes.specs.Hexes.{Read, octets, some, pairs, readHex}
+use Rattle.hexes.specs.Hexes.{Read, octets, some, pairs, read_hex}
 use Rattle.hexes.specs.Hexes as hexes
 use Rattle.hexes.specs.Spelled.{Spelled}
 use Rattle.hexes.specs.Exactly.{hex-exactly}
-use Rattle.hexes.specs.Decoding.{Answer, written, noRoom, other, fit, decodeOf, told, left, Decoded, octetsIn, sizeIn}
+use Rattle.hexes.specs.Decoding.{Answer, written, no_room, other, fit, decode_of, told, left, Decoded, octets_in, size_in}
 
-fit-other : (r : Read) (room : ℕ) → sizeIn (some r) ≡ 0 → fit (some r) room ≡ other
+fit-other : (r : Read) (room : ℕ) → size_in (some r) ≡ 0 → fit (some r) room ≡ other
 fit-other (octets []) room e = refl
 fit-other (octets (b ∷ bs)) room e = absurd (omega arith)
 fit-other hexes.other room e = refl
 
-fit-room : (r : Read) (room : ℕ) → room < sizeIn r → fit r room ≡ noRoom
+fit-room : (r : Read) (room : ℕ) → room < size_in r → fit r room ≡ no_room
 fit-room (octets bs) room h = rw (lt-ltb room (length bs) h)
 fit-room hexes.other room h = absurd (omega arith)
 
-fit_written : (r : Read) (room : ℕ) → 1 ≤ sizeIn r → sizeIn r ≤ room → fit r room ≡ written (octetsIn r)
+fit_written : (r : Read) (room : ℕ) → 1 ≤ size_in r → size_in r ≤ room → fit r room ≡ written (octets_in r)
 fit_written (octets bs) room k h = rw (le-ltb room (length bs) h)
 fit_written hexes.other room k h = absurd (omega arith)
 
-module _ {t out : List ℕ} {n : ℕ} (e : n ≡ sizeIn (readHex t)) where
+module _ {t out : List ℕ} {n : ℕ} (e : n ≡ size_in (read_hex t)) where
   pub no-hex : n ≡ 0 → Decoded t out Other out
   no-hex z =
-      let f : decodeOf t (length out) ≡ other = fit-other (pairs t) (length out) (sym e ∙ z) in
+      let f : decode_of t (length out) ≡ other = fit-other (pairs t) (length out) (sym e ∙ z) in
       record { answered = sym (ap told f); leaves = sym (ap (λ (a : Answer). left a out) f) }
 
-  pub no_room : length out < n → Decoded t out NoRoom out
-  no_room h =
-      let f : decodeOf t (length out) ≡ noRoom = fit-room (readHex t) (length out) (omega arith) in
+  pub no_room_lem : length out < n → Decoded t out NoRoom out
+  no_room_lem h =
+      let f : decode_of t (length out) ≡ no_room = fit-room (read_hex t) (length out) (omega arith) in
       record { answered = sym (ap told f); leaves = sym (ap (λ (a : Answer). left a out) f) }
 
-  pub read-in : {r : ℕ} {out' : List ℕ} → (n ≡ 0 → ⊥) → n ≤ length out → Wrote 0 (octetsIn (readHex t)) out r out' → Decoded t out (Octets r) out'
+  pub read-in : {r : ℕ} {out' : List ℕ} → (n ≡ 0 → ⊥) → n ≤ length out → Wrote 0 (octets_in (read_hex t)) out r out' → Decoded t out (Octets r) out'
   read-in {r} {out'} z h w =
-      let f : decodeOf t (length out) ≡ written (octetsIn (readHex t)) = fit_written (readHex t) (length out) (omega arith) (omega arith) in
+      let f : decode_of t (length out) ≡ written (octets_in (read_hex t)) = fit_written (read_hex t) (length out) (omega arith) (omega arith) in
       record {
-        answered = ap Octets (w.next ∙ zero-add (sizeIn (readHex t))) ∙ sym (ap told f);
+        answered = ap Octets (w.next ∙ zero-add (size_in (read_hex t))) ∙ sym (ap told f);
         leaves = w.laid ∙ sym (ap (λ (a : Answer). left a out) f);
       }
 
 -- a text is decoded as bs exactly where it spells them, there is one at least, and they have room
-pub decode-exactly : (t bs : List ℕ) (room : ℕ) → (decodeOf t room ≡ written bs) ↔ (Spelled t bs × (1 ≤ length bs) × (length bs ≤ room))
+pub decode-exactly : (t bs : List ℕ) (room : ℕ) → (decode_of t room ≡ written bs) ↔ (Spelled t bs × (1 ≤ length bs) × (length bs ≤ room))
 decode-exactly t bs room = (to, from)
   where
-    test : (cs : List ℕ) (b : Bool) → ltb room (length cs) ≡ b → cond b noRoom (written cs) ≡ written bs → (cs ≡ bs) × (length cs ≤ room)
+    test : (cs : List ℕ) (b : Bool) → ltb room (length cs) ≡ b → cond b no_room (written cs) ≡ written bs → (cs ≡ bs) × (length cs ≤ room)
     test cs true p e = let z : ◌≡◌ {A = ℕ} 0 1 = cc in absurd (omega arith)
     test cs false p e = (cc, ltb-false room (length cs) p)
 
@@ -55,16 +55,16 @@ decode-exactly t bs room = (to, from)
     fitted (octets cs) e = let f = test cs (ltb room (length cs)) refl e in (ap octets f.0, rw f.0 at f.1)
     fitted hexes.other e = let z : ◌≡◌ {A = ℕ} 0 1 = cc in absurd (omega arith)
 
-    to : decodeOf t room ≡ written bs → Spelled t bs × (1 ≤ length bs) × (length bs ≤ room)
-    to e = let f = fitted (readHex t) e in let s = (hex-exactly t bs).0 f.0 in (s.0, s.1, f.1)
+    to : decode_of t room ≡ written bs → Spelled t bs × (1 ≤ length bs) × (length bs ≤ room)
+    to e = let f = fitted (read_hex t) e in let s = (hex-exactly t bs).0 f.0 in (s.0, s.1, f.1)
 
-    from : Spelled t bs × (1 ≤ length bs) × (length bs ≤ room) → decodeOf t room ≡ written bs
+    from : Spelled t bs × (1 ≤ length bs) × (length bs ≤ room) → decode_of t room ≡ written bs
     from s = ap (λ (r : Read). fit r room) ((hex-exactly t bs).1 (s.0, s.1)) ∙ fit_written (octets bs) room s.1 s.2
 
 -- ---- how many octets a text is said to have had
 
 module _ (n room : ℕ) where
-  fitted : (bs : List ℕ) (b : Bool) → ltb room (length bs) ≡ b → told (cond b noRoom (written bs)) ≡ Octets n → n ≤ room
+  fitted : (bs : List ℕ) (b : Bool) → ltb room (length bs) ≡ b → told (cond b no_room (written bs)) ≡ Octets n → n ≤ room
   fitted bs true h e = let z : ◌≡◌ {A = ℕ} 0 1 = cc in absurd (omega arith)
   fitted bs false h e = let q : length bs ≡ n = cc in omega (arith, ltb-false)
 
@@ -73,4 +73,4 @@ module _ (n room : ℕ) where
   told-within hexes.other e = let z : ◌≡◌ {A = ℕ} 0 1 = cc in absurd (omega arith)
 
 pub decoded-within : {t out out' : List ℕ} {r : Hex} {n : ℕ} → Decoded t out r out' → r ≡ Octets n → n ≤ length out
-decoded-within {t} {out} {out'} {r} {n} d e = told-within n (length out) (readHex t) (sym d.answered ∙ e)
+decoded-within {t} {out} {out'} {r} {n} d e = told-within n (length out) (read_hex t) (sym d.answered ∙ e)

@@ -1,6 +1,6 @@
 -- Octets as hexadecimal text, in the form in which Wireshark copies a byte string: what each character is, how a text is read, and
 -- how octets are written. Characters are given by their ASCII numbers. Assumes nothing: these are definitions.
-use Rattle.std.specs.Prelude.{Bool, cond, ◌&&◌, ◌||◌, List, [], ◌∷◌, ◌++◌, ℕ, ◌+◌, ◌-◌, ◌*◌, ◌/◌, ◌%◌, ltb, eqb}
+use Rattle.std.specs.Prelude.{Bool, cond, ◌&&◌, ◌||◌, List, [], ◌∷◌, ◌++◌, ℕ, ◌+◌, ◌-◌, ◌*◌, ◌/◌, ◌%◌, ltb, eq}
 use Rattle.octets.specs.Numbers.{range}
 
 -- ---- characters
@@ -15,7 +15,7 @@ value x = cond (ltb x 65) (x - 48) (cond (ltb x 97) (x - 55) (x - 87))
 
 -- x is a space, tab, line feed, carriage return or colon
 unfoldable pub separator : ℕ → Bool
-separator x = eqb x 32 || eqb x 9 || eqb x 10 || eqb x 13 || eqb x 58
+separator x = eq x 32 || eq x 9 || eq x 10 || eq x 13 || eq x 58
 
 -- the octet of two digits, the more significant first
 abbrev pub octet : ℕ → ℕ → ℕ
@@ -46,20 +46,20 @@ some (octets (b ∷ bs)) = octets (b ∷ bs)
 some other = other
 
 -- pairs of digits, one at least
-abbrev pub readHex : List ℕ → Read
-readHex t = some (pairs t)
+abbrev pub read_hex : List ℕ → Read
+read_hex t = some (pairs t)
 
 -- ---- writing
 
 -- the digit of a value below 16, in lower case
-unfoldable pub digitOf : ℕ → ℕ
-digitOf v = cond (ltb v 10) (48 + v) (87 + v)
+unfoldable pub digit_of : ℕ → ℕ
+digit_of v = cond (ltb v 10) (48 + v) (87 + v)
 
 -- the two digits of an octet
 abbrev pub two : ℕ → List ℕ
-two b = digitOf (b / 16) ∷ digitOf (b % 16) ∷ []
+two b = digit_of (b / 16) ∷ digit_of (b % 16) ∷ []
 
 -- the digits of octets, with nothing between them
-abbrev pub hexOf : List ℕ → List ℕ
-hexOf [] = []
-hexOf (b ∷ bs) = two b ++ hexOf bs
+abbrev pub hex_of : List ℕ → List ℕ
+hex_of [] = []
+hex_of (b ∷ bs) = two b ++ hex_of bs

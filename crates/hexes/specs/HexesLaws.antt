@@ -1,10 +1,10 @@
 -- The laws of characters and of reading, case by case, and that what is written is read back. Assumes nothing.
-use Rattle.std.specs.Prelude.{◌≡◌, refl, Bool, true, false, ◌||◌, List, [], ◌∷◌, ◌++◌, ℕ, ◌+◌, ◌-◌, ◌*◌, ◌/◌, ◌%◌, ◌≤◌, ◌<◌, leb, eqb, length, get_or, take}
+use Rattle.std.specs.Prelude.{◌≡◌, refl, Bool, true, false, ◌||◌, List, [], ◌∷◌, ◌++◌, ℕ, ◌+◌, ◌-◌, ◌*◌, ◌/◌, ◌%◌, ◌≤◌, ◌<◌, leb, eq, length, get_or, take}
 use Rattle.std.proofs.Common.{sym, ap, ◌∙◌, add-one, arith, leb-true, leb-false, le-leb, lt-ltb, le-ltb, ne_eqb, take-suc}
 use Rattle.std.proofs.lemmas.Bool.{false≢true, lt-leb}
 use Rattle.std.proofs.Math.Bool.{and-eq-true_iff}
 use Rattle.octets.specs.Numbers.{range, Bytes}
-use Rattle.hexes.specs.Hexes.{digit, value, separator, octet, Read, octets, other, onto, pairs, some, readHex, digitOf, two, hexOf}
+use Rattle.hexes.specs.Hexes.{digit, value, separator, octet, Read, octets, other, onto, pairs, some, read_hex, digit_of, two, hex_of}
 
 -- ---- characters
 
@@ -56,7 +56,7 @@ digit-lower x h k =
     simp (le-leb 48 x l, lt-leb x 57 m, le-leb 65 x n, lt-leb x 70 o, le-leb 97 x h, le-leb x 102 k)
 
 -- what is no other separator is one where it is a colon
-pub separator-colon : (x : ℕ) → (x ≡ 32 → ⊥) → (x ≡ 9 → ⊥) → (x ≡ 10 → ⊥) → (x ≡ 13 → ⊥) → eqb x 58 ≡ separator x
+pub separator-colon : (x : ℕ) → (x ≡ 32 → ⊥) → (x ≡ 9 → ⊥) → (x ≡ 10 → ⊥) → (x ≡ 13 → ⊥) → eq x 58 ≡ separator x
 unfolding separator
 separator-colon x a b c d = simp (ne_eqb x 32 a, ne_eqb x 9 b, ne_eqb x 10 c, ne_eqb x 13 d)
 
@@ -105,11 +105,11 @@ is_some (b ∷ bs) h = refl
 -- ---- what is written is read back
 
 -- a digit written has its value
-digit-of : (v : ℕ) → v < 16 → (digit (digitOf v) ≡ true) × (value (digitOf v) ≡ v)
-unfolding digitOf
+digit-of : (v : ℕ) → v < 16 → (digit (digit_of v) ≡ true) × (value (digit_of v) ≡ v)
+unfolding digit_of
 digit-of v h = go (leb 10 v) refl
   where
-    go : (b : Bool) → leb 10 v ≡ b → (digit (digitOf v) ≡ true) × (value (digitOf v) ≡ v)
+    go : (b : Bool) → leb 10 v ≡ b → (digit (digit_of v) ≡ true) × (value (digit_of v) ≡ v)
     go true e =
         let l : 10 ≤ v = leb-true 10 v e in
         simp (le-ltb v 10 l) (digit-lower (87 + v) (omega arith) (omega arith), value-lower (87 + v) (omega arith) ∙ omega arith)
@@ -117,24 +117,24 @@ digit-of v h = go (leb 10 v) refl
         let l : v < 10 = leb-false 10 v e in
         simp (lt-ltb v 10 l) (digit-decimal (48 + v) (omega arith) (omega arith), value-decimal (48 + v) (omega arith) ∙ omega arith)
 
-pub pairs-hex : (bs : List ℕ) → Bytes bs → pairs (hexOf bs) ≡ octets bs
+pub pairs-hex : (bs : List ℕ) → Bytes bs → pairs (hex_of bs) ≡ octets bs
 unfolding pairs
 pairs-hex [] h = refl
 pairs-hex (b ∷ bs) h =
     let high = digit-of (b / 16) (omega (arith, h.0)) in
     let low = digit-of (b % 16) (omega arith) in
-    let whole : value (digitOf (b / 16)) * 16 + value (digitOf (b % 16)) ≡ b = omega (arith, high.1, low.1) in
-    pairs-pair (digitOf (b / 16)) (digitOf (b % 16)) (hexOf bs) (digit-separator (digitOf (b / 16)) high.0) high.0 low.0
-    ∙ ap (onto (octet (digitOf (b / 16)) (digitOf (b % 16)))) (pairs-hex bs h.1)
+    let whole : value (digit_of (b / 16)) * 16 + value (digit_of (b % 16)) ≡ b = omega (arith, high.1, low.1) in
+    pairs-pair (digit_of (b / 16)) (digit_of (b % 16)) (hex_of bs) (digit-separator (digit_of (b / 16)) high.0) high.0 low.0
+    ∙ ap (onto (octet (digit_of (b / 16)) (digit_of (b % 16)))) (pairs-hex bs h.1)
     ∙ ap (λ (n : ℕ). octets (n ∷ bs)) whole
 
-pub hex-read : (bs : List ℕ) → Bytes bs → 1 ≤ length bs → readHex (hexOf bs) ≡ octets bs
+pub hex-read : (bs : List ℕ) → Bytes bs → 1 ≤ length bs → read_hex (hex_of bs) ≡ octets bs
 hex-read bs h k = ap some (pairs-hex bs h) ∙ is_some bs k
 
-hex-append : (a b : List ℕ) → hexOf (a ++ b) ≡ hexOf a ++ hexOf b
+hex-append : (a b : List ℕ) → hex_of (a ++ b) ≡ hex_of a ++ hex_of b
 hex-append [] b = refl
 hex-append (x ∷ a) b = ap (λ (l : List ℕ). two x ++ l) (hex-append a b)
 
 -- one octet more
-pub hex-more : (s : List ℕ) (i : ℕ) → i < length s → hexOf (take (i + 1) s) ≡ hexOf (take i s) ++ two (get_or s i 0)
+pub hex-more : (s : List ℕ) (i : ℕ) → i < length s → hex_of (take (i + 1) s) ≡ hex_of (take i s) ++ two (get_or s i 0)
 hex-more s i h = rw (add-one i, take-suc s i 0 h) (hex-append (take i s) (get_or s i 0 ∷ []))

@@ -11,8 +11,8 @@ pub data Digit (x v : ℕ) : Type 0 where
 pub data Separator (x : ℕ) : Type 0 where
   space : x ≡ 32 → Separator x
   tab : x ≡ 9 → Separator x
-  line-feed : x ≡ 10 → Separator x
-  carriage-return : x ≡ 13 → Separator x
+  line_feed : x ≡ 10 → Separator x
+  carriage_return : x ≡ 13 → Separator x
   colon : x ≡ 58 → Separator x
 
 -- the text t spells the octets bs: the empty text spells none, a separator adds none, and a pair of digits adds one at the front

@@ -4,9 +4,9 @@ use Rattle.std.proofs.Common.{sym, ap, ◌∙◌, append-nil, zero-add, add-zero
 use Rattle.std.proofs.Math.Seq.{append_snoc}
 use Rattle.octets.specs.Over.{over, Wrote}
 use Rattle.octets.specs.OverLaws.{over-nil, over-push}
-use Rattle.hexes.specs.Hexes.{digit, value, separator, octet, Read, octets, other, onto, pairs, some, readHex}
+use Rattle.hexes.specs.Hexes.{digit, value, separator, octet, Read, octets, other, onto, pairs, some, read_hex}
 use Rattle.hexes.specs.HexesLaws.{pairs-separator, pairs-single, pairs-pair, pairs_first, pairs-second}
-use Rattle.hexes.specs.Decoding.{octetsIn, sizeIn}
+use Rattle.hexes.specs.Decoding.{octets_in, size_in}
 
 -- ---- what is left of a text, case by case
 
@@ -53,9 +53,9 @@ plus n other = 0
 pub record Counting (t : List ℕ) (i n : ℕ) : Type 0 where
   pub within : i ≤ length t
   pub few : n ≤ i
-  pub rest : plus n (pairs (drop i t)) ≡ sizeIn (readHex t)
+  pub rest : plus n (pairs (drop i t)) ≡ size_in (read_hex t)
 
-plus-zero : (r : Read) → plus 0 r ≡ sizeIn (some r)
+plus-zero : (r : Read) → plus 0 r ≡ size_in (some r)
 plus-zero (octets []) = refl
 plus-zero (octets (b ∷ bs)) = zero-add _
 plus-zero other = refl
@@ -84,20 +84,20 @@ module _ {t : List ℕ} {i n : ℕ} (c : Counting t i n) where
     rest = plus-onto n (octet (get_or t i 0) (get_or t (i + 1) 0)) (pairs (drop (i + 1 + 1) t)) ∙ ap (plus n) (sym (left-pair t i h s d e)) ∙ c.rest;
   }
 
-  count-other : pairs (drop i t) ≡ other → 0 ≡ sizeIn (readHex t)
+  count-other : pairs (drop i t) ≡ other → 0 ≡ size_in (read_hex t)
   count-other e = sym (ap (plus n) e) ∙ c.rest
 
-  pub count-single : i < length t → length t ≤ i + 1 → separator (get_or t i 0) ≡ false → 0 ≡ sizeIn (readHex t)
+  pub count-single : i < length t → length t ≤ i + 1 → separator (get_or t i 0) ≡ false → 0 ≡ size_in (read_hex t)
   count-single h k s = count-other (left-single t i h k s)
 
-  pub count-first : i + 1 < length t → separator (get_or t i 0) ≡ false → digit (get_or t i 0) ≡ false → 0 ≡ sizeIn (readHex t)
+  pub count-first : i + 1 < length t → separator (get_or t i 0) ≡ false → digit (get_or t i 0) ≡ false → 0 ≡ size_in (read_hex t)
   count-first h s d = count-other (left-first t i h s d)
 
   pub count-second : i + 1 < length t → separator (get_or t i 0) ≡ false → digit (get_or t i 0) ≡ true → digit (get_or t (i + 1) 0) ≡ false
-      → 0 ≡ sizeIn (readHex t)
+      → 0 ≡ size_in (read_hex t)
   count-second h s d e = count-other (left-second t i h s d e)
 
-  pub count-done : length t ≤ i → n ≡ sizeIn (readHex t)
+  pub count-done : length t ≤ i → n ≡ size_in (read_hex t)
   count-done h = sym (add-zero n) ∙ sym (ap (plus n) (left-none t i h)) ∙ c.rest
 
 -- ---- the second pass
@@ -105,12 +105,12 @@ module _ {t : List ℕ} {i n : ℕ} (c : Counting t i n) where
 -- the octets of the first i characters, n of them, are laid over the front of `before`, and those of what is left are to come
 pub record Laying (t before out : List ℕ) (i n : ℕ) : Type 0 where
   pub front : List ℕ
-  pub to-come : List ℕ
-  pub whole : octetsIn (readHex t) ≡ front ++ to-come
+  pub to_come : List ℕ
+  pub whole : octets_in (read_hex t) ≡ front ++ to_come
   pub size : length front ≡ n
-  pub room : n + length to-come ≤ length before
+  pub room : n + length to_come ≤ length before
   pub within : i ≤ length t
-  pub rest : pairs (drop i t) ≡ octets to-come
+  pub rest : pairs (drop i t) ≡ octets to_come
   pub laid : out ≡ over 0 front before
 
 -- the two digits at i, and the room for their octet
@@ -120,15 +120,15 @@ pub record Pair (t before : List ℕ) (i n : ℕ) : Type 0 where
   pub low : digit (get_or t (i + 1) 0) ≡ true
   pub room : n < length before
 
-some-octets : (r : Read) → 1 ≤ sizeIn (some r) → r ≡ octets (octetsIn (some r))
+some-octets : (r : Read) → 1 ≤ size_in (some r) → r ≡ octets (octets_in (some r))
 some-octets (octets []) h = absurd (omega arith)
 some-octets (octets (b ∷ bs)) h = refl
 some-octets other h = absurd (omega arith)
 
-pub lay-start : {t before : List ℕ} → 1 ≤ sizeIn (readHex t) → sizeIn (readHex t) ≤ length before → Laying t before before 0 0
+pub lay-start : {t before : List ℕ} → 1 ≤ size_in (read_hex t) → size_in (read_hex t) ≤ length before → Laying t before before 0 0
 lay-start {t} {before} h k = record {
   front = [];
-  to-come = octetsIn (readHex t);
+  to_come = octets_in (read_hex t);
   whole = refl;
   size = refl;
   room = omega arith;
@@ -146,7 +146,7 @@ module _ {t before out : List ℕ} {i n : ℕ} (l : Laying t before out i n) whe
   pub lay-separator : i < length t → separator (get_or t i 0) ≡ true → Laying t before out (i + 1) n
   lay-separator h s = record {
     front = l.front;
-    to-come = l.to-come;
+    to_come = l.to_come;
     whole = l.whole;
     size = l.size;
     room = l.room;
@@ -157,8 +157,8 @@ module _ {t before out : List ℕ} {i n : ℕ} (l : Laying t before out i n) whe
 
   -- the octet of the two digits at i is the next
   first-to-come : i + 1 < length t → separator (get_or t i 0) ≡ false → digit (get_or t i 0) ≡ true → digit (get_or t (i + 1) 0) ≡ true
-      → (ds : List ℕ) × (pairs (drop (i + 1 + 1) t) ≡ octets ds) × (l.to-come ≡ octet (get_or t i 0) (get_or t (i + 1) 0) ∷ ds)
-  first-to-come h s d e = onto-octets (octet (get_or t i 0) (get_or t (i + 1) 0)) (pairs (drop (i + 1 + 1) t)) l.to-come (sym (left-pair t i h s d e) ∙ l.rest)
+      → (ds : List ℕ) × (pairs (drop (i + 1 + 1) t) ≡ octets ds) × (l.to_come ≡ octet (get_or t i 0) (get_or t (i + 1) 0) ∷ ds)
+  first-to-come h s d e = onto-octets (octet (get_or t i 0) (get_or t (i + 1) 0)) (pairs (drop (i + 1 + 1) t)) l.to_come (sym (left-pair t i h s d e) ∙ l.rest)
 
   never : {P : Type 0} → pairs (drop i t) ≡ other → P
   never e = let f = l.rest in let z : ◌≡◌ {A = ℕ} 0 1 = cc in absurd (omega arith)
@@ -173,7 +173,7 @@ module _ {t before out : List ℕ} {i n : ℕ} (l : Laying t before out i n) whe
       both true p true q true r =
           let k : i + 1 < length t = ltb-true (i + 1) (length t) p in
           let o = first-to-come k s q r in
-          let m : length l.to-come ≡ suc (length o.0) = ap length o.2 in
+          let m : length l.to_come ≡ suc (length o.0) = ap length o.2 in
           record { both = k; high = q; low = r; room = omega (arith, l.room) }
 
   pub lay-pair : (p : Pair t before i n) → separator (get_or t i 0) ≡ false
@@ -181,11 +181,11 @@ module _ {t before out : List ℕ} {i n : ℕ} (l : Laying t before out i n) whe
   lay-pair p s =
       let b : ℕ = octet (get_or t i 0) (get_or t (i + 1) 0) in
       let o = first-to-come p.both s p.high p.low in
-      let m : length l.to-come ≡ suc (length o.0) = ap length o.2 in
+      let m : length l.to_come ≡ suc (length o.0) = ap length o.2 in
       let e : 0 + length l.front ≡ n = zero-add (length l.front) ∙ l.size in
       record {
         front = l.front ++ (b ∷ []);
-        to-come = o.0;
+        to_come = o.0;
         whole = l.whole ∙ ap (λ (m : List ℕ). l.front ++ m) o.2 ∙ sym (append_snoc l.front b o.0);
         size = simp length-append (omega (arith, l.size));
         room = omega (arith, l.room);
@@ -194,9 +194,9 @@ module _ {t before out : List ℕ} {i n : ℕ} (l : Laying t before out i n) whe
         laid = ap (λ (m : List ℕ). set m n b) l.laid ∙ (rw e at (over-push 0 b l.front before (rw e p.room)));
       }
 
-  pub lay_done : length t ≤ i → Wrote 0 (octetsIn (readHex t)) before n out
+  pub lay_done : length t ≤ i → Wrote 0 (octets_in (read_hex t)) before n out
   lay_done h =
-      let f : l.to-come ≡ [] = cc (left-none t i h, l.rest) in
-      let g : octetsIn (readHex t) ≡ l.front = l.whole ∙ ap (λ (m : List ℕ). l.front ++ m) f ∙ append-nil l.front in
-      let e : length (octetsIn (readHex t)) ≡ n = ap length g ∙ l.size in
+      let f : l.to_come ≡ [] = cc (left-none t i h, l.rest) in
+      let g : octets_in (read_hex t) ≡ l.front = l.whole ∙ ap (λ (m : List ℕ). l.front ++ m) f ∙ append-nil l.front in
+      let e : length (octets_in (read_hex t)) ≡ n = ap length g ∙ l.size in
       record { room = omega (arith, l.room); next = omega arith; laid = l.laid ∙ ap (λ (m : List ℕ). over 0 m before) (sym g) }

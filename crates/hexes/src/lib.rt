@@ -7,8 +7,8 @@ ghost use Rattle.octets.specs.Over.{Wrote};
 ghost use Rattle.io.specs.Counts.{IsPrefixLen};
 ghost use Rattle.chars.specs.Puts.{Puts};
 ghost use Rattle.hexes.specs.Hexes as hexes;
-ghost use Rattle.hexes.specs.Hexes.{readHex, digitOf, two, hexOf};
-ghost use Rattle.hexes.specs.Decoding.{Decoded, octetsIn, sizeIn};
+ghost use Rattle.hexes.specs.Hexes.{read_hex, digit_of, two, hex_of};
+ghost use Rattle.hexes.specs.Decoding.{Decoded, octets_in, size_in};
 
 use chars::put;
 use octets::{lesser, within};
@@ -72,7 +72,7 @@ pub fn is_separator(x: u8) -> bool
 
 // How many octets a hexadecimal text spells; 0 for any other text.
 fn count(text: &[u8]) -> usize
-    ensures { result ≡ sizeIn (readHex text.now) }
+    ensures { result ≡ size_in (read_hex text.now) }
 {
     let size = text.len();
     let mut i = 0;
@@ -100,8 +100,8 @@ fn count(text: &[u8]) -> usize
 
 // Writes the octets of a hexadecimal text at the front of `out`, and returns how many.
 fn lay(text: &[u8], out: &mut [u8]) -> usize
-    requires { (1 ≤ sizeIn (readHex text.now)) × (sizeIn (readHex text.now) ≤ length out.old) }
-    ensures { Wrote 0 (octetsIn (readHex text.now)) out.old result out.new }
+    requires { (1 ≤ size_in (read_hex text.now)) × (size_in (read_hex text.now) ≤ length out.old) }
+    ensures { Wrote 0 (octets_in (read_hex text.now)) out.old result out.new }
 {
     let mut at = 0;
     let mut n = 0;
@@ -138,7 +138,7 @@ pub fn decode(text: &[u8], out: &mut [u8]) -> Hex
 // The digit of a value below 16, in lower case.
 fn digit_of(v: u8) -> u8
     requires { v < 16 }
-    ensures { result ≡ digitOf v }
+    ensures { result ≡ digit_of v }
 {
     if v < 10 {
         return b'0' + v;
@@ -158,7 +158,7 @@ pub fn put_octet(out: &mut [u8], at: usize, b: u8) -> usize
 // Writes the digits of the octets of s.
 pub fn put_octets(out: &mut [u8], at: usize, s: &[u8]) -> usize
     ensures prefix_len { IsPrefixLen result out.new }
-    ensures puts { Puts at (hexOf s.now) out.old result out.new }
+    ensures puts { Puts at (hex_of s.now) out.old result out.new }
 {
     let mut o = lesser(at, out.len());
     let mut i = 0;

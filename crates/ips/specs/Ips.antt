@@ -1,7 +1,7 @@
 -- IP addresses as text: IPv4 in dotted decimal, IPv6 as RFC 5952 §4 and §5 recommend. An address is its octets; a text is the codes of its
 -- characters, where `0` is 48, `a` is 97, the dot is 46 and the colon is 58. Assumes nothing: these are definitions.
-use Rattle.std.specs.Prelude.{Bool, cond, ◌&&◌, List, [], ◌∷◌, ◌++◌, map, ℕ, zero, suc, ◌+◌, ◌-◌, ◌/◌, ◌%◌, eqb, ltb, take, drop}
-use Rattle.octets.specs.Numbers.{at16, words, allZero}
+use Rattle.std.specs.Prelude.{Bool, cond, ◌&&◌, List, [], ◌∷◌, ◌++◌, map, ℕ, zero, suc, ◌+◌, ◌-◌, ◌/◌, ◌%◌, eq, ltb, take, drop}
+use Rattle.octets.specs.Numbers.{at16, words, all_zero}
 use Rattle.ips.specs.declared.Run.{Run}
 
 -- ---- numbers
@@ -42,9 +42,9 @@ text4 a = joined 46 (map decimal a)
 -- ---- IPv6
 
 -- how many zero fields stand at the front
-unfoldable pub zerosAhead : List ℕ → ℕ
-zerosAhead [] = 0
-zerosAhead (f ∷ fs) = cond (eqb f 0) (zerosAhead fs + 1) 0
+unfoldable pub zeros_ahead : List ℕ → ℕ
+zeros_ahead [] = 0
+zeros_ahead (f ∷ fs) = cond (eq f 0) (zeros_ahead fs + 1) 0
 
 -- n fields from the one with index i on
 abbrev pub run : ℕ → ℕ → Run
@@ -55,9 +55,9 @@ abbrev pub longer : Run → Run → Run
 longer p q = cond (ltb p.count q.count) q p
 
 -- the longest run of zeros in fields of which the first has index i; the first of the longest
-unfoldable pub longestFrom : ℕ → List ℕ → Run
-longestFrom i [] = run i 0
-longestFrom i (f ∷ fs) = longer (run i (zerosAhead (f ∷ fs))) (longestFrom (i + 1) fs)
+unfoldable pub longest_from : ℕ → List ℕ → Run
+longest_from i [] = run i 0
+longest_from i (f ∷ fs) = longer (run i (zeros_ahead (f ∷ fs))) (longest_from (i + 1) fs)
 
 -- a run that may be shortened: one field alone may not (RFC 5952 §4.2.2), and then the run has a count of 0
 abbrev pub shortening : Run → Run
@@ -65,7 +65,7 @@ shortening r = cond (ltb r.count 2) (run 0 0) r
 
 -- the run that is shortened: the longest, and the first where several are as long (RFC 5952 §4.2.3)
 unfoldable pub run_of : List ℕ → Run
-run_of fs = shortening (longestFrom 0 fs)
+run_of fs = shortening (longest_from 0 fs)
 
 -- fields with colons between them
 unfoldable pub colons : List ℕ → List ℕ
@@ -77,11 +77,11 @@ around r fs = colons (take r.start fs) ++ (58 ∷ 58 ∷ colons (drop (r.start +
 
 -- fields with a run shortened, if it has any
 unfoldable pub shortened : Run → List ℕ → List ℕ
-shortened r fs = cond (eqb r.count 0) (colons fs) (around r fs)
+shortened r fs = cond (eq r.count 0) (colons fs) (around r fs)
 
 -- whether an address has the prefix ::ffff:0:0/96 (RFC 4291 §2.5.5.2, IPv4-mapped addresses)
 unfoldable pub mapped : List ℕ → Bool
-mapped a = allZero (take 10 a) && eqb (at16 a 10) 65535
+mapped a = all_zero (take 10 a) && eq (at16 a 10) 65535
 
 -- ::ffff: and the IPv4 address in the last four octets (RFC 5952 §5, mixed notation under a well-known prefix)
 unfoldable pub mixed : List ℕ → List ℕ

@@ -1,12 +1,12 @@
 -- The run that is shortened is the one that RFC 5952 §4.2 asks for: a run of zeros, with none longer, the first where several are as
 -- long, so that the fields next to it are not zero; and none where no two zeros stand side by side. Assumes nothing.
-use Rattle.std.specs.Prelude.{◌≡◌, refl, Bool, true, false, cond, ◌⊎◌, List, [], ◌∷◌, ℕ, zero, suc, ◌+◌, ◌-◌, ◌≤◌, ◌<◌, eqb, length, get_or, drop}
-use Rattle.std.proofs.Common.{ap, inl, inr, ⊎_elim, add-zero, zero-add, add-suc, suc-add, arith, eqb-true, length-drop}
+use Rattle.std.specs.Prelude.{◌≡◌, refl, Bool, true, false, cond, ◌⊎◌, List, [], ◌∷◌, ℕ, zero, suc, ◌+◌, ◌-◌, ◌≤◌, ◌<◌, eq, length, get_or, drop}
+use Rattle.std.proofs.Common.{ap, inl, inr, ⊎_elim, add-zero, zero-add, add-suc, suc-add, arith, eq-true, length-drop}
 use Rattle.std.proofs.Math.Nat.{sub-zero}
-use Rattle.std.proofs.lemmas.Bool.{eqb-false}
+use Rattle.std.proofs.lemmas.Bool.{eq-false}
 use Rattle.octets.specs.Cases.{by_less}
 use Rattle.ips.specs.declared.Run.{Run}
-use Rattle.ips.specs.Ips.{zerosAhead, run, longer, longestFrom, shortening, run_of}
+use Rattle.ips.specs.Ips.{zeros_ahead, run, longer, longest_from, shortening, run_of}
 use Rattle.ips.specs.Claims.{Zeros, Longest}
 
 -- ---- a run, one field further in
@@ -19,27 +19,27 @@ zeros-pred {f} {s} {n} z = record { inside = omega (arith, z.inside); zero = λ 
 
 -- ---- the zeros at the front
 
-ahead-zeros : (fs : List ℕ) → Zeros fs 0 (zerosAhead fs)
-unfolding zerosAhead
+ahead-zeros : (fs : List ℕ) → Zeros fs 0 (zeros_ahead fs)
+unfolding zeros_ahead
 ahead-zeros [] = record { inside = omega arith; zero = λ i h. absurd (omega arith) }
-ahead-zeros (f ∷ fs) = go (eqb f 0) refl (ahead-zeros fs)
+ahead-zeros (f ∷ fs) = go (eq f 0) refl (ahead-zeros fs)
   where
-    go : (b : Bool) → eqb f 0 ≡ b → Zeros fs 0 (zerosAhead fs) → Zeros (f ∷ fs) 0 (cond b (zerosAhead fs + 1) 0)
+    go : (b : Bool) → eq f 0 ≡ b → Zeros fs 0 (zeros_ahead fs) → Zeros (f ∷ fs) 0 (cond b (zeros_ahead fs + 1) 0)
     go false t z = record { inside = omega arith; zero = λ i h. absurd (omega arith) }
     go true t z = record { inside = omega (arith, z.inside); zero = at }
       where
-        at : (i : ℕ) → i < zerosAhead fs + 1 → get_or (f ∷ fs) (0 + i) 0 ≡ 0
-        at zero h = eqb-true _ _ t
+        at : (i : ℕ) → i < zeros_ahead fs + 1 → get_or (f ∷ fs) (0 + i) 0 ≡ 0
+        at zero h = eq-true _ _ t
         at (suc i) h = rw (zero-add (suc i)) (rw (zero-add i) at (z.zero i (omega arith)))
 
-ahead-most : (fs : List ℕ) (m : ℕ) → Zeros fs 0 m → m ≤ zerosAhead fs
-unfolding zerosAhead
+ahead-most : (fs : List ℕ) (m : ℕ) → Zeros fs 0 m → m ≤ zeros_ahead fs
+unfolding zeros_ahead
 ahead-most [] m z = omega (arith, z.inside)
 ahead-most (f ∷ fs) zero z = omega arith
-ahead-most (f ∷ fs) (suc m) z = go (eqb f 0) refl (ahead-most fs m)
+ahead-most (f ∷ fs) (suc m) z = go (eq f 0) refl (ahead-most fs m)
   where
-    go : (b : Bool) → eqb f 0 ≡ b → (Zeros fs 0 m → m ≤ zerosAhead fs) → suc m ≤ cond b (zerosAhead fs + 1) 0
-    go false t ih = absurd (eqb-false _ _ t (z.zero 0 (omega arith)))
+    go : (b : Bool) → eq f 0 ≡ b → (Zeros fs 0 m → m ≤ zeros_ahead fs) → suc m ≤ cond b (zeros_ahead fs + 1) 0
+    go false t ih = absurd (eq-false _ _ t (z.zero 0 (omega arith)))
     go true t ih =
         let tail : Zeros fs 0 m = record { inside = omega (arith, z.inside); zero = λ i h. rw (zero-add i) (rw (zero-add (suc i)) at (z.zero (suc i) (omega arith))) } in
         omega (arith, ih tail)
@@ -47,7 +47,7 @@ ahead-most (f ∷ fs) (suc m) z = go (eqb f 0) refl (ahead-most fs m)
 -- ---- the longest
 
 -- where the run at the front is shorter than the longest after it, and where it is not
-longest-after : {f s n : ℕ} {fs : List ℕ} → Longest fs s n → zerosAhead (f ∷ fs) < n → Longest (f ∷ fs) (suc s) n
+longest-after : {f s n : ℕ} {fs : List ℕ} → Longest fs s n → zeros_ahead (f ∷ fs) < n → Longest (f ∷ fs) (suc s) n
 longest-after {f} {s} {n} {fs} l h = record { zeros = zeros-suc l.zeros; most = most; first = first }
   where
     most : (t m : ℕ) → Zeros (f ∷ fs) t m → m ≤ n
@@ -58,10 +58,10 @@ longest-after {f} {s} {n} {fs} l h = record { zeros = zeros-suc l.zeros; most = 
     first zero z = absurd (omega (arith, ahead-most (f ∷ fs) n z))
     first (suc t) z = omega (arith, l.first t (zeros-pred z))
 
-longest-ahead : {f s n : ℕ} {fs : List ℕ} → Longest fs s n → n ≤ zerosAhead (f ∷ fs) → Longest (f ∷ fs) 0 (zerosAhead (f ∷ fs))
+longest-ahead : {f s n : ℕ} {fs : List ℕ} → Longest fs s n → n ≤ zeros_ahead (f ∷ fs) → Longest (f ∷ fs) 0 (zeros_ahead (f ∷ fs))
 longest-ahead {f} {s} {n} {fs} l h = record { zeros = ahead-zeros (f ∷ fs); most = most; first = λ t z. omega arith }
   where
-    most : (t m : ℕ) → Zeros (f ∷ fs) t m → m ≤ zerosAhead (f ∷ fs)
+    most : (t m : ℕ) → Zeros (f ∷ fs) t m → m ≤ zeros_ahead (f ∷ fs)
     most zero m z = ahead-most (f ∷ fs) m z
     most (suc t) m z = omega (arith, l.most t m (zeros-pred z))
 
@@ -69,17 +69,17 @@ longest-ahead {f} {s} {n} {fs} l h = record { zeros = ahead-zeros (f ∷ fs); mo
 abbrev From : ℕ → List ℕ → Run → Type 0
 From i fs r = (i ≤ r.start) × Longest fs (r.start - i) r.count
 
-longest-from : (i : ℕ) (fs : List ℕ) → From i fs (longestFrom i fs)
-unfolding longestFrom
+longest-from : (i : ℕ) (fs : List ℕ) → From i fs (longest_from i fs)
+unfolding longest_from
 longest-from i [] =
     let e : i - i ≡ 0 = omega arith in
     let z : Zeros [] 0 0 = record { inside = omega arith; zero = λ i h. absurd (omega arith) } in
     (omega arith, rw e (record { zeros = z; most = λ t m y. omega (arith, y.inside); first = λ t y. omega arith }))
-longest-from i (f ∷ fs) = go (longestFrom (i + 1) fs) (longest-from (i + 1) fs)
+longest-from i (f ∷ fs) = go (longest_from (i + 1) fs) (longest-from (i + 1) fs)
   where
-    go : (q : Run) → From (i + 1) fs q → From i (f ∷ fs) (longer (run i (zerosAhead (f ∷ fs))) q)
+    go : (q : Run) → From (i + 1) fs q → From i (f ∷ fs) (longer (run i (zeros_ahead (f ∷ fs))) q)
     go q h =
-        by_less (From i (f ∷ fs)) (zerosAhead (f ∷ fs)) q.count q (run i (zerosAhead (f ∷ fs)))
+        by_less (From i (f ∷ fs)) (zeros_ahead (f ∷ fs)) q.count q (run i (zeros_ahead (f ∷ fs)))
         (λ t. let e : q.start - i ≡ suc (q.start - (i + 1)) = omega (arith, h.0) in (omega (arith, h.0), rw e (longest-after h.1 t)))
         (λ t. let e : i - i ≡ 0 = omega arith in (omega arith, rw e (longest-ahead h.1 t)))
 
@@ -88,14 +88,14 @@ longest-from i (f ∷ fs) = go (longestFrom (i + 1) fs) (longest-from (i + 1) fs
 by_count : (P : Run → Type 0) (r : Run) → (r.count < 2 → P (run 0 0)) → (2 ≤ r.count → P r) → P (shortening r)
 by_count P r = by_less P r.count 2 (run 0 0) r
 
-longest-of : (fs : List ℕ) → Longest fs (longestFrom 0 fs).start (longestFrom 0 fs).count
-longest-of fs = rw (sub-zero (longestFrom 0 fs).start) at (longest-from 0 fs).1
+longest-of : (fs : List ℕ) → Longest fs (longest_from 0 fs).start (longest_from 0 fs).count
+longest-of fs = rw (sub-zero (longest_from 0 fs).start) at (longest-from 0 fs).1
 
 -- there is none, and no two zeros stand side by side; or there is the longest
 pub none-or-longest : (fs : List ℕ)
     → ((run_of fs ≡ run 0 0) × ((t m : ℕ) → Zeros fs t m → m < 2)) ⊎ ((2 ≤ (run_of fs).count) × Longest fs (run_of fs).start (run_of fs).count)
 unfolding run_of
-none-or-longest fs = by_count (λ r. ((r ≡ run 0 0) × ((t m : ℕ) → Zeros fs t m → m < 2)) ⊎ ((2 ≤ r.count) × Longest fs r.start r.count)) (longestFrom 0 fs)
+none-or-longest fs = by_count (λ r. ((r ≡ run 0 0) × ((t m : ℕ) → Zeros fs t m → m < 2)) ⊎ ((2 ≤ r.count) × Longest fs r.start r.count)) (longest_from 0 fs)
     (λ h. inl (refl, λ t m z. omega (arith, (longest-of fs).most t m z)))
     (λ h. inr (h, longest-of fs))
 
@@ -134,5 +134,5 @@ run_is {s} {n} {fs} h l = ⊎_elim
     (none-or-longest fs)
 
 -- no more zeros stand from an index on than fields
-pub ahead-few : (fs : List ℕ) (i : ℕ) → zerosAhead (drop i fs) ≤ length fs - i
+pub ahead-few : (fs : List ℕ) (i : ℕ) → zeros_ahead (drop i fs) ≤ length fs - i
 ahead-few fs i = omega (arith, (ahead-zeros (drop i fs)).inside, length-drop i fs)

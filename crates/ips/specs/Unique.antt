@@ -1,9 +1,9 @@
 -- A text is of one address: two addresses with the same text are the same, in IPv4 and in IPv6. Assumes nothing.
-use Rattle.std.specs.Prelude.{◌≡◌, refl, Bool, true, false, ◌⊎◌, List, [], ◌∷◌, ◌++◌, map, ℕ, zero, ◌+◌, ◌-◌, ◌/◌, ◌≤◌, ◌<◌, eqb, ltb, length, get_or, take, drop}
-use Rattle.std.proofs.Common.{sym, ap, ◌∙◌, inl, inr, append-nil, append_assoc, arith, eqb-true, ltb-true, ltb-false, length-append, length-drop, take-append-drop, length-take-le, get_or-take, get_or-drop, drop-cons, ext_get_or}
+use Rattle.std.specs.Prelude.{◌≡◌, refl, Bool, true, false, ◌⊎◌, List, [], ◌∷◌, ◌++◌, map, ℕ, zero, ◌+◌, ◌-◌, ◌/◌, ◌≤◌, ◌<◌, eq, ltb, length, get_or, take, drop}
+use Rattle.std.proofs.Common.{sym, ap, ◌∙◌, inl, inr, append-nil, append_assoc, arith, eq-true, ltb-true, ltb-false, length-append, length-drop, take-append-drop, length-take-le, get_or-take, get_or-drop, drop-cons, ext_get_or}
 use Rattle.std.proofs.Math.Bool.{and-eq-true_iff}
-use Rattle.octets.specs.Numbers.{Octet, Bytes, at16, words, numbersOf, zeros, allZero}
-use Rattle.octets.specs.NumbersLaws.{bytes-getD, words-length, words_small, numbers-words, zero-zeros}
+use Rattle.octets.specs.Numbers.{Octet, Bytes, at16, words, numbers_of, zeros, all_zero}
+use Rattle.octets.specs.NumbersLaws.{bytes-get_or, words-length, words_small, numbers-words, zero-zeros}
 use Rattle.octets.specs.Lists.{All}
 use Rattle.octets.specs.ListsLaws.{all_right, all_take, all_drop, all_map}
 use Rattle.ips.specs.Ips.{decimal, hex, led, joined, text4, run_of, colons, around, shortened, mapped, mixed, text6}
@@ -175,7 +175,7 @@ shortened_same fs gs hf hg e = by-run (λ l. l ≡ shortened (run_of gs) gs → 
 -- ---- IPv6: octets
 
 pub fields-same : (a b : List ℕ) → Bytes a → Bytes b → length a ≡ 16 → length b ≡ 16 → words a ≡ words b → a ≡ b
-fields-same a b ha hb la lb e = sym (numbers-words a ha (omega arith)) ∙ ap numbersOf e ∙ numbers-words b hb (omega arith)
+fields-same a b ha hb la lb e = sym (numbers-words a ha (omega arith)) ∙ ap numbers_of e ∙ numbers-words b hb (omega arith)
 
 -- ---- IPv6: mapped addresses
 
@@ -183,12 +183,12 @@ fields-same a b ha hb la lb e = sym (numbers-words a ha (omega arith)) ∙ ap nu
 pub mapped-octets : (a : List ℕ) → Bytes a → length a ≡ 16 → mapped a ≡ true → a ≡ zeros 10 ++ (255 ∷ 255 ∷ drop 12 a)
 unfolding mapped
 mapped-octets a h l e =
-    let both = (and-eq-true_iff (allZero (take 10 a)) (eqb (at16 a 10) 65535)).0 e in
+    let both = (and-eq-true_iff (all_zero (take 10 a)) (eq (at16 a 10) 65535)).0 e in
     let ten : length (take 10 a) ≡ 10 = length-take-le 10 a (omega arith) in
     let front : take 10 a ≡ zeros 10 = zero-zeros (take 10 a) both.0 ∙ ap zeros ten in
-    let ones : at16 a 10 ≡ 65535 = eqb-true _ _ both.1 in
-    let low : get_or a 11 0 < 256 = bytes-getD a 11 h in
-    let high : get_or a 10 0 < 256 = bytes-getD a 10 h in
+    let ones : at16 a 10 ≡ 65535 = eq-true _ _ both.1 in
+    let low : get_or a 11 0 < 256 = bytes-get_or a 11 h in
+    let high : get_or a 10 0 < 256 = bytes-get_or a 10 h in
     let p : get_or a 10 0 ≡ 255 = omega arith in
     let q : get_or a 11 0 ≡ 255 = omega arith in
     let back : drop 10 a ≡ 255 ∷ 255 ∷ drop 12 a = drop-cons a 10 0 (omega arith) ∙ rw p (ap (λ (r : List ℕ). 255 ∷ r) (drop-cons a 11 0 (omega arith) ∙ rw q)) in

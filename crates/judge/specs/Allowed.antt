@@ -5,7 +5,7 @@ use Rattle.octets.specs.Lists.{All}
 use Rattle.numbers.specs.Fault as fault
 use Rattle.numbers.specs.Limit as limit
 use Rattle.carriers.specs.declared.Carrier.{Carrier}
-use Rattle.carriers.specs.Carriers.{addressWidth, asText}
+use Rattle.carriers.specs.Carriers.{address_width, as_text}
 use Rattle.names.specs.Names.{IsName, FirstBad}
 use Rattle.texts.specs.Texts.{IsText}
 use Rattle.addresses.specs.Addresses.{list_of}
@@ -26,7 +26,7 @@ NameBy false name = IsName name
 
 -- when read, the name is as the carrier brings it; when written, as a sheet holds it (RULES N4)
 abbrev pub NameAllowed : Side → Carrier → List ℕ → Type 0
-NameAllowed Reading c name = NameBy (asText c) name
+NameAllowed Reading c name = NameBy (as_text c) name
 NameAllowed Writing c name = IsName name
 
 -- addresses of w octets: one at least, and whole (RULES R23; RFC 9463 §3.1.8, §4.1, §5.1, §6.1; RFC 9464 §3.1)
@@ -49,14 +49,14 @@ pub record TailAllowed (side : Side) (w : ℕ) (addresses parameters : List ℕ)
   pub whole : Whole w addresses
   pub few : Few w addresses parameters
   pub usable : Usable side w addresses
-  pub parameters-allowed : Accepted parameters
+  pub parameters_allowed : Accepted parameters
 
 -- ServiceMode (priority not 0), a name, and either the full form or, in carriers 1 to 3, the name alone (RULES R21 to R28)
 pub record Allowed (side : Side) (c : Carrier) (f : Fields) : Type 0 where
   pub service : f.priority ≡ 0 → ⊥
   pub named : NameAllowed side c f.name
-  pub full-form : f.full ≡ true → TailAllowed side (addressWidth c) f.addresses f.parameters
-  pub name-only : f.full ≡ false → asText c ≡ false
+  pub full_form : f.full ≡ true → TailAllowed side (address_width c) f.addresses f.parameters
+  pub name_only : f.full ≡ false → as_text c ≡ false
 
 -- ---- the first rule that is broken
 
@@ -86,8 +86,8 @@ TailBroken side w addresses parameters =
 
 -- name only skips 24 to 28, and in carriers 1 to 3 also 23 (RULES T4)
 abbrev pub FormBroken : Bool → Side → Carrier → Fields → ℕ → Type 0
-FormBroken true side c f = TailBroken side (addressWidth c) f.addresses f.parameters
-FormBroken false side c f = Rule fault.addresses (asText c ≡ false) Unbroken
+FormBroken true side c f = TailBroken side (address_width c) f.addresses f.parameters
+FormBroken false side c f = Rule fault.addresses (as_text c ≡ false) Unbroken
 
 -- k is the number of the first rule that is broken, and 0 where every rule is kept (RULES T2)
 abbrev pub FirstBroken : Side → Carrier → Fields → ℕ → Type 0
@@ -101,5 +101,5 @@ FirstBroken side c f =
 -- p is the place of fault k, where the name stands from `at` on: of 22 that of the name's first bad octet (RULES N5), and 0 of any other
 -- fault (RULES W11, T8)
 pub data PlaceOf (Acceptable : List ℕ → Type 0) (name : List ℕ) (at : ℕ) : (k p : ℕ) → Type 0 where
-  in-name : {i : ℕ} → FirstBad Acceptable name i → PlaceOf Acceptable name at fault.name (at + i)
+  in_name : {i : ℕ} → FirstBad Acceptable name i → PlaceOf Acceptable name at fault.name (at + i)
   nowhere : {k : ℕ} → (k ≡ fault.name → ⊥) → PlaceOf Acceptable name at k 0

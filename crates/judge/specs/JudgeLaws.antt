@@ -4,13 +4,13 @@ use Rattle.std.proofs.Math.Path.{refl}
 use Rattle.std.proofs.Common.{sym, ap, ◌∙◌, true≢false, arith}
 use Rattle.std.proofs.Math.Bool.{true, false, cond}
 use Rattle.std.proofs.lemmas.Bool.{false≢true}
-use Rattle.std.proofs.Math.Dec.{ltb, eqb}
+use Rattle.std.proofs.Math.Dec.{ltb, eq}
 use Rattle.std.proofs.Math.ListN.{length}
-use borrow.Author.Tests.{eqb-true, eqb-false, ltb-false}
+use borrow.Author.Tests.{eq-true, eq-false, ltb-false}
 use Rattle.numbers.specs.Fault as fault
 use Rattle.numbers.specs.Limit as limit
 use Rattle.carriers.specs.declared.Carrier.{Carrier}
-use Rattle.carriers.specs.Carriers.{addressWidth, asText}
+use Rattle.carriers.specs.Carriers.{address_width, as_text}
 use Rattle.carriers.specs.CarriersLaws.{by_address}
 use Rattle.names.specs.declared.Name.{Name}
 use Rattle.names.specs.declared.Name.TheVariants.{Good, Bad}
@@ -20,32 +20,32 @@ use Rattle.texts.specs.Texts.{IsText}
 use Rattle.texts.specs.Exact as texts
 use Rattle.addresses.specs.Addresses.{Width, list_of}
 use Rattle.addresses.specs.AddressesLaws.{four, sixteen}
-use Rattle.svcparams.specs.Params.{paramsFault}
+use Rattle.svcparams.specs.Params.{params_fault}
 use Rattle.blocks.specs.Block.{Fields}
 use Rattle.judge.specs.declared.Side.{Side}
 use Rattle.judge.specs.declared.Side.TheVariants.{Reading, Writing}
 use Rattle.judge.specs.Place.{judged}
-use Rattle.judge.specs.Judge.{name_of, refusedOf, tailFault, nameOnlyFault, onName, judgedOf, faultOf}
+use Rattle.judge.specs.Judge.{name_of, refused_of, tail_fault, name_only_fault, on_name, judged_of, fault_of}
 use Rattle.judge.specs.Passed.{PassedTail, Passed}
 use Rattle.judge.specs.Outcomes.{tail-parameters, judged-full, judged-name-only}
 
 -- a carrier's addresses have 4 octets or 16
-pub carrier-width : (c : Carrier) → Width (addressWidth c)
+pub carrier-width : (c : Carrier) → Width (address_width c)
 carrier-width = by_address Width four sixteen
 
 -- ---- 23 to 28
 
 module _ (side : Side) (w : ℕ) (a p : List ℕ) where
-  pub tail-passed : tailFault side w a p ≡ 0 → PassedTail side w a p
-  unfolding tailFault
+  pub tail-passed : tail_fault side w a p ≡ 0 → PassedTail side w a p
+  unfolding tail_fault
   tail-passed =
-      go (eqb (length a) 0) (eqb (length a % w) 0) (ltb limit.addresses (length a / w)) (ltb limit.parameters (length p))
-      (refusedOf side w (list_of w a)) refl refl refl refl refl
+      go (eq (length a) 0) (eq (length a % w) 0) (ltb limit.addresses (length a / w)) (ltb limit.parameters (length p))
+      (refused_of side w (list_of w a)) refl refl refl refl refl
     where
-      go : (none whole many long refused : Bool) → eqb (length a) 0 ≡ none → eqb (length a % w) 0 ≡ whole
-          → ltb limit.addresses (length a / w) ≡ many → ltb limit.parameters (length p) ≡ long → refusedOf side w (list_of w a) ≡ refused
+      go : (none whole many long refused : Bool) → eq (length a) 0 ≡ none → eq (length a % w) 0 ≡ whole
+          → ltb limit.addresses (length a / w) ≡ many → ltb limit.parameters (length p) ≡ long → refused_of side w (list_of w a) ≡ refused
           → cond none fault.addresses
-          (cond (not whole) fault.addresses (cond many fault.limit (cond long fault.limit (cond refused fault.dropped (paramsFault p))))) ≡ 0
+          (cond (not whole) fault.addresses (cond many fault.limit (cond long fault.limit (cond refused fault.dropped (params_fault p))))) ≡ 0
           → PassedTail side w a p
       go true whole many long refused n h m l r e = absurd (omega arith)
       go false false many long refused n h m l r e = absurd (omega arith)
@@ -53,78 +53,78 @@ module _ (side : Side) (w : ℕ) (a p : List ℕ) where
       go false true false true refused n h m l r e = absurd (omega arith)
       go false true false false true n h m l r e = absurd (omega arith)
       go false true false false false n h m l r e =
-          let some : length a ≡ 0 → ⊥ = eqb-false _ _ n in
+          let some : length a ≡ 0 → ⊥ = eq-false _ _ n in
           record {
             some = omega arith;
-            whole = eqb-true _ _ h;
+            whole = eq-true _ _ h;
             few = ltb-false _ _ m;
             short = ltb-false _ _ l;
             usable = r;
             sound = e;
           }
 
-  pub passed-tail : PassedTail side w a p → tailFault side w a p ≡ 0
+  pub passed-tail : PassedTail side w a p → tail_fault side w a p ≡ 0
   passed-tail k =
       let some : length a ≡ 0 → ⊥ = λ e. omega (arith, k.some) in
       sym (tail-parameters side w a p some k.whole k.few k.short _ refl 0 k.usable (sym k.sound))
 
-name-only-passed : (c : Carrier) → nameOnlyFault c ≡ 0 → asText c ≡ false
-name-only-passed c = go (asText c) refl
+name-only-passed : (c : Carrier) → name_only_fault c ≡ 0 → as_text c ≡ false
+name-only-passed c = go (as_text c) refl
   where
-    go : (text : Bool) → asText c ≡ text → cond text fault.addresses 0 ≡ 0 → asText c ≡ false
+    go : (text : Bool) → as_text c ≡ text → cond text fault.addresses 0 ≡ 0 → as_text c ≡ false
     go true t e = absurd (omega arith)
     go false t e = t
 
 -- ---- 21 to 28
 
 module _ (side : Side) (c : Carrier) (f : Fields) where
-  pub fault-passed : faultOf side c f ≡ 0 → Passed side c f
-  unfolding judgedOf
-  fault-passed = go (eqb f.priority 0) (name_of side c f.name) f.full refl refl refl
+  pub fault-passed : fault_of side c f ≡ 0 → Passed side c f
+  unfolding judged_of
+  fault-passed = go (eq f.priority 0) (name_of side c f.name) f.full refl refl refl
     where
-      go : (zero : Bool) (n : Name) (full : Bool) → eqb f.priority 0 ≡ zero → name_of side c f.name ≡ n → f.full ≡ full
+      go : (zero : Bool) (n : Name) (full : Bool) → eq f.priority 0 ≡ zero → name_of side c f.name ≡ n → f.full ≡ full
           → (cond zero (judged fault.priority 0)
-          (onName n (λ place. judged fault.name place)
-          (judged (cond full (tailFault side (addressWidth c) f.addresses f.parameters) (nameOnlyFault c)) 0))).fault ≡ 0
+          (on_name n (λ place. judged fault.name place)
+          (judged (cond full (tail_fault side (address_width c) f.addresses f.parameters) (name_only_fault c)) 0))).fault ≡ 0
           → Passed side c f
       go true n full p m u e = absurd (omega arith)
       go false (Bad place) full p m u e = absurd (omega arith)
       go false Good true p m u e =
           record {
-            service = eqb-false _ _ p;
+            service = eq-false _ _ p;
             named = m;
-            tail = λ _. tail-passed side (addressWidth c) f.addresses f.parameters e;
-            name-only = λ v. absurd (true≢false (sym u ∙ v));
+            tail = λ _. tail-passed side (address_width c) f.addresses f.parameters e;
+            name_only = λ v. absurd (true≢false (sym u ∙ v));
           }
       go false Good false p m u e =
           record {
-            service = eqb-false _ _ p;
+            service = eq-false _ _ p;
             named = m;
             tail = λ v. absurd (false≢true (sym u ∙ v));
-            name-only = λ _. name-only-passed c e;
+            name_only = λ _. name-only-passed c e;
           }
 
-  pub passed-fault : Passed side c f → faultOf side c f ≡ 0
+  pub passed-fault : Passed side c f → fault_of side c f ≡ 0
   passed-fault k = go f.full refl
     where
-      go : (full : Bool) → f.full ≡ full → faultOf side c f ≡ 0
+      go : (full : Bool) → f.full ≡ full → fault_of side c f ≡ 0
       go true u =
-          let t = sym (passed-tail side (addressWidth c) f.addresses f.parameters (k.tail u)) in
+          let t = sym (passed-tail side (address_width c) f.addresses f.parameters (k.tail u)) in
           ap (λ j. j.fault) (sym (judged-full side c f.priority f.name f.full f.addresses f.parameters k.service 0 (sym k.named) u t))
       go false u =
-          let t : 0 ≡ nameOnlyFault c = simp (k.name-only u) in
+          let t : 0 ≡ name_only_fault c = simp (k.name_only u) in
           ap (λ j. j.fault) (sym (judged-name-only side c f.priority f.name f.full f.addresses f.parameters k.service 0 (sym k.named) u t))
 
-  pub judge-exactly : (faultOf side c f ≡ 0) ↔ Passed side c f
+  pub judge-exactly : (fault_of side c f ≡ 0) ↔ Passed side c f
   judge-exactly = (fault-passed, passed-fault)
 
 -- ---- names that pass
 
 module _ (c : Carrier) (name : List ℕ) where
-  pub read-text : asText c ≡ true → name_of Reading c name ≡ Good → IsText name
+  pub read-text : as_text c ≡ true → name_of Reading c name ≡ Good → IsText name
   read-text t e = (texts.good name).0 (rw t at e)
 
-  pub read_name : asText c ≡ false → name_of Reading c name ≡ Good → IsName name
+  pub read_name : as_text c ≡ false → name_of Reading c name ≡ Good → IsName name
   read_name t e = (names.good name).0 (rw t at e)
 
   pub written-name : name_of Writing c name ≡ Good → IsName name

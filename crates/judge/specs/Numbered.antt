@@ -1,19 +1,19 @@
 -- Which numbers the judge gives: 0, or 21 to 28 (RULES R21 to R28). Assumes nothing.
-use Rattle.std.specs.Prelude.{refl, Bool, true, false, cond, not, List, ℕ, ◌/◌, ◌%◌, ◌≤◌, ltb, eqb, length}
+use Rattle.std.specs.Prelude.{refl, Bool, true, false, cond, not, List, ℕ, ◌/◌, ◌%◌, ◌≤◌, ltb, eq, length}
 use Rattle.std.proofs.Common.{inl, inr, arith}
 use Rattle.numbers.specs.Fault as fault
 use Rattle.numbers.specs.Limit as limit
 use Rattle.carriers.specs.declared.Carrier.{Carrier}
-use Rattle.carriers.specs.Carriers.{addressWidth, asText}
+use Rattle.carriers.specs.Carriers.{address_width, as_text}
 use Rattle.names.specs.declared.Name.{Name}
 use Rattle.names.specs.declared.Name.TheVariants.{Good, Bad}
 use Rattle.addresses.specs.Addresses.{list_of}
-use Rattle.svcparams.specs.Params.{paramsFault}
+use Rattle.svcparams.specs.Params.{params_fault}
 use Rattle.svcparams.specs.Exactly as params
 use Rattle.blocks.specs.Block.{Fields}
 use Rattle.judge.specs.declared.Side.{Side}
 use Rattle.judge.specs.Place.{judged}
-use Rattle.judge.specs.Judge.{name_of, refusedOf, tailFault, nameOnlyFault, onName, judgedOf, faultOf}
+use Rattle.judge.specs.Judge.{name_of, refused_of, tail_fault, name_only_fault, on_name, judged_of, fault_of}
 use Rattle.judge.specs.Passed.{FaultNumber}
 
 within : (k : ℕ) → fault.priority ≤ k → k ≤ fault.value → FaultNumber k
@@ -25,39 +25,39 @@ of_params k (inr (inl e)) = within k (omega arith) (omega arith)
 of_params k (inr (inr (inl e))) = within k (omega arith) (omega arith)
 of_params k (inr (inr (inr e))) = within k (omega arith) (omega arith)
 
-tail-number : (side : Side) (w : ℕ) (a p : List ℕ) → FaultNumber (tailFault side w a p)
-unfolding tailFault
+tail-number : (side : Side) (w : ℕ) (a p : List ℕ) → FaultNumber (tail_fault side w a p)
+unfolding tail_fault
 tail-number side w a p =
-    go (eqb (length a) 0) (eqb (length a % w) 0) (ltb limit.addresses (length a / w)) (ltb limit.parameters (length p)) (refusedOf side w (list_of w a))
+    go (eq (length a) 0) (eq (length a % w) 0) (ltb limit.addresses (length a / w)) (ltb limit.parameters (length p)) (refused_of side w (list_of w a))
   where
     go : (none whole many long refused : Bool)
         → FaultNumber (cond none fault.addresses
-        (cond (not whole) fault.addresses (cond many fault.limit (cond long fault.limit (cond refused fault.dropped (paramsFault p))))))
+        (cond (not whole) fault.addresses (cond many fault.limit (cond long fault.limit (cond refused fault.dropped (params_fault p))))))
     go true whole many long refused = within _ (omega arith) (omega arith)
     go false false many long refused = within _ (omega arith) (omega arith)
     go false true true long refused = within _ (omega arith) (omega arith)
     go false true false true refused = within _ (omega arith) (omega arith)
     go false true false false true = within _ (omega arith) (omega arith)
-    go false true false false false = of_params (paramsFault p) (params.fault-number p)
+    go false true false false false = of_params (params_fault p) (params.fault-number p)
 
-name-only-number : (c : Carrier) → FaultNumber (nameOnlyFault c)
-name-only-number c = go (asText c)
+name-only-number : (c : Carrier) → FaultNumber (name_only_fault c)
+name-only-number c = go (as_text c)
   where
     go : (text : Bool) → FaultNumber (cond text fault.addresses 0)
     go true = within _ (omega arith) (omega arith)
     go false = inl refl
 
-pub fault-number : (side : Side) (c : Carrier) (f : Fields) → FaultNumber (faultOf side c f)
-unfolding judgedOf
-fault-number side c f = go (eqb f.priority 0) (name_of side c f.name) f.full
+pub fault-number : (side : Side) (c : Carrier) (f : Fields) → FaultNumber (fault_of side c f)
+unfolding judged_of
+fault-number side c f = go (eq f.priority 0) (name_of side c f.name) f.full
   where
     tail : ℕ
-    tail = tailFault side (addressWidth c) f.addresses f.parameters
+    tail = tail_fault side (address_width c) f.addresses f.parameters
 
     go : (zero : Bool) (n : Name) (full : Bool)
         → FaultNumber (cond zero (judged fault.priority 0)
-        (onName n (λ place. judged fault.name place) (judged (cond full tail (nameOnlyFault c)) 0))).fault
+        (on_name n (λ place. judged fault.name place) (judged (cond full tail (name_only_fault c)) 0))).fault
     go true n full = within _ (omega arith) (omega arith)
     go false (Bad place) full = within _ (omega arith) (omega arith)
-    go false Good true = tail-number side (addressWidth c) f.addresses f.parameters
+    go false Good true = tail-number side (address_width c) f.addresses f.parameters
     go false Good false = name-only-number c

@@ -3,13 +3,13 @@
 use Rattle.std.specs.Prelude.{◌≡◌, true, false, List, ℕ, ◌/◌, ◌%◌, ◌≤◌, ◌<◌, length, ◌⊎◌}
 use Rattle.numbers.specs.Limit as limit
 use Rattle.carriers.specs.declared.Carrier.{Carrier}
-use Rattle.carriers.specs.Carriers.{addressWidth, asText}
+use Rattle.carriers.specs.Carriers.{address_width, as_text}
 use Rattle.names.specs.declared.Name.TheVariants.{Good}
 use Rattle.addresses.specs.Addresses.{list_of}
-use Rattle.svcparams.specs.Params.{paramsFault}
+use Rattle.svcparams.specs.Params.{params_fault}
 use Rattle.blocks.specs.Block.{Fields}
 use Rattle.judge.specs.declared.Side.{Side}
-use Rattle.judge.specs.Judge.{name_of, refusedOf}
+use Rattle.judge.specs.Judge.{name_of, refused_of}
 use Rattle.numbers.specs.Fault as fault
 
 -- what the judge gives: 0, or 21 to 28
@@ -22,11 +22,11 @@ pub record PassedTail (side : Side) (w : ℕ) (addresses parameters : List ℕ) 
   pub whole : length addresses % w ≡ 0  -- 23
   pub few : length addresses / w ≤ limit.addresses  -- 24
   pub short : length parameters ≤ limit.parameters  -- 24
-  pub usable : refusedOf side w (list_of w addresses) ≡ false  -- 25
-  pub sound : paramsFault parameters ≡ 0  -- 26 to 28
+  pub usable : refused_of side w (list_of w addresses) ≡ false  -- 25
+  pub sound : params_fault parameters ≡ 0  -- 26 to 28
 
 pub record Passed (side : Side) (c : Carrier) (f : Fields) : Type 0 where
   pub service : f.priority ≡ 0 → ⊥  -- 21
   pub named : name_of side c f.name ≡ Good  -- 22
-  pub tail : f.full ≡ true → PassedTail side (addressWidth c) f.addresses f.parameters  -- 23 to 28
-  pub name-only : f.full ≡ false → asText c ≡ false  -- 23
+  pub tail : f.full ≡ true → PassedTail side (address_width c) f.addresses f.parameters  -- 23 to 28
+  pub name_only : f.full ≡ false → as_text c ≡ false  -- 23

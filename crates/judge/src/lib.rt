@@ -3,8 +3,8 @@
 // writing asks there whether one is to be dropped. Nothing here drops an address.
 ghost use Rattle.std.specs.Prelude.{◌≡◌, ◌+◌, ◌<◌, ◌^◌};
 ghost use Rattle.addresses.specs.Addresses.{Width, list_of};
-ghost use Rattle.judge.specs.Place.{placeFrom};
-ghost use Rattle.judge.specs.Judge.{name_of, refusedOf, tailFault, nameOnlyFault, judgedOf};
+ghost use Rattle.judge.specs.Place.{place_from};
+ghost use Rattle.judge.specs.Judge.{name_of, refused_of, tail_fault, name_only_fault, judged_of};
 
 use carriers::Carrier;
 use names::Name;
@@ -43,7 +43,7 @@ fn check_name(side: Side, c: Carrier, name: &[u8]) -> Name
 // Fault 25: no address is left, or one is to be dropped.
 fn refused(side: Side, w: usize, addresses: &[u8]) -> bool
     requires { Width w }
-    ensures { result ≡ refusedOf side w (list_of w addresses.now) }
+    ensures { result ≡ refused_of side w (list_of w addresses.now) }
 {
     match side {
         Side::Reading => addresses::none_kept(w, addresses),
@@ -54,7 +54,7 @@ fn refused(side: Side, w: usize, addresses: &[u8]) -> bool
 // Faults 23 to 28 of a record in full form, with addresses of `w` octets.
 fn tail_fault(side: Side, w: usize, addresses: &[u8], parameters: &[u8]) -> usize
     requires { Width w }
-    ensures { result ≡ tailFault side w addresses.now parameters.now }
+    ensures { result ≡ tail_fault side w addresses.now parameters.now }
 {
     let n = addresses.len();
     if n == 0 {
@@ -77,7 +77,7 @@ fn tail_fault(side: Side, w: usize, addresses: &[u8], parameters: &[u8]) -> usiz
 
 // Name only skips 24 to 28, and in carriers 1 to 3 also 23.
 fn name_only_fault(c: Carrier) -> usize
-    ensures { result ≡ nameOnlyFault c }
+    ensures { result ≡ name_only_fault c }
 {
     if c.as_text() {
         return Fault::ADDRESSES;
@@ -85,7 +85,7 @@ fn name_only_fault(c: Carrier) -> usize
     0
 }
 
-// The first of faults 21 to 28 of a record's fields; a name-only record has neither addresses nor parameters. (`&name[..]`:
+// The first of faults 21 to 28 of a record's fields; a name_only record has neither addresses nor parameters. (`&name[..]`:
 // docs/DESIGN.md, Speed.)
 pub fn judge_fields(
     side: Side,
@@ -96,7 +96,7 @@ pub fn judge_fields(
     addresses: &[u8],
     parameters: &[u8],
 ) -> Judged
-    ensures { result ≡ judgedOf side c priority name.now full addresses.now parameters.now }
+    ensures { result ≡ judged_of side c priority name.now full addresses.now parameters.now }
 {
     if priority == 0 {
         return Judged {
@@ -128,7 +128,7 @@ pub fn judge_fields(
 // The place of a fault, counted from `n` octets further back; only fault 22 has one.
 pub fn place_from(n: usize, fault: usize, place: usize) -> usize
     requires { n + place < 2 ^ 63 }
-    ensures { result ≡ placeFrom n fault place }
+    ensures { result ≡ place_from n fault place }
 {
     if fault == Fault::NAME {
         return n + place;

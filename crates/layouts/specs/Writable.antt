@@ -5,8 +5,8 @@ use Rattle.numbers.specs.Limit as limit
 use Rattle.carriers.specs.declared.Carrier.{Carrier}
 use Rattle.carriers.specs.declared.Carrier.TheVariants.{Dhcp4, Router}
 use Rattle.carriers.specs.declared.Form.{Form}
-use Rattle.carriers.specs.Carriers.{headerOf, addressWidth, form_of, lifetimeWidth, textIn, asText}
-use Rattle.blocks.specs.Block.{Fields, sizeBy, optionSize}
+use Rattle.carriers.specs.Carriers.{header_of, address_width, form_of, lifetime_width, text_in, as_text}
+use Rattle.blocks.specs.Block.{Fields, size_by, option_size}
 
 -- the full form, with addresses of w octets: one address or more, and both within their limits (RULES R23, R24)
 pub record WritableTail (w : ℕ) (r : Fields) : Type 0 where
@@ -18,42 +18,42 @@ pub record WritableTail (w : ℕ) (r : Fields) : Type 0 where
 -- a record that has room in its carrier, the name in wire form; a lifetime is 0 but in carrier 3
 pub record Writable (c : Carrier) (r : Fields) : Type 0 where
   pub priority : r.priority < 65536
-  pub lifetime : r.lifetime < 256 ^ lifetimeWidth c
+  pub lifetime : r.lifetime < 256 ^ lifetime_width c
   pub some : 2 ≤ length r.name  -- as text the name is 2 octets shorter
   pub short : length r.name ≤ 255
-  pub tail : r.full ≡ true → WritableTail (addressWidth c) r
-  pub name-only : r.full ≡ false → (r.addresses ≡ []) × (r.parameters ≡ []) × (asText c ≡ false)
-  pub units : c ≡ Router → optionSize r ≤ limit.option  -- RULES R44
+  pub tail : r.full ≡ true → WritableTail (address_width c) r
+  pub name_only : r.full ≡ false → (r.addresses ≡ []) × (r.parameters ≡ []) × (as_text c ≡ false)
+  pub units : c ≡ Router → option_size r ≤ limit.option  -- RULES R44
 
 -- ---- octets by lengths: a name of n octets in wire form, a of addresses, p of parameters
 
 -- the body; as text the name is 2 octets shorter
-abbrev pub bodyBy : Form → Carrier → Bool → ℕ → ℕ → ℕ → ℕ
-bodyBy k c full n a p = sizeBy k c full (cond (textIn k) (n - 2) n) a p
+abbrev pub body_by : Form → Carrier → Bool → ℕ → ℕ → ℕ → ℕ
+body_by k c full n a p = size_by k c full (cond (text_in k) (n - 2) n) a p
 
-abbrev pub bodyOctets : Carrier → Bool → ℕ → ℕ → ℕ → ℕ
-bodyOctets c full n a p = bodyBy (form_of c) c full n a p
+abbrev pub body_octets : Carrier → Bool → ℕ → ℕ → ℕ → ℕ
+body_octets c full n a p = body_by (form_of c) c full n a p
 
 -- octets that a body has at most beside name, addresses and parameters: 12 in carrier 3, and padding of 7
 abbrev pub overhead : ℕ
 overhead = 19
 
 -- octets of addresses, and of a body, at most: 63 addresses of 16; a name of 255 with as many addresses and 1,024 octets of parameters
-abbrev pub mostAddresses : ℕ
-mostAddresses = limit.addresses * 16
+abbrev pub most_addresses : ℕ
+most_addresses = limit.addresses * 16
 
-abbrev pub mostBody : ℕ
-mostBody = overhead + (255 + mostAddresses + limit.parameters)
+abbrev pub most_body : ℕ
+most_body = overhead + (255 + most_addresses + limit.parameters)
 
 -- carriers 2 to 5: the option or attribute
-abbrev pub optionOctets : Carrier → Bool → ℕ → ℕ → ℕ → ℕ
-optionOctets c full n a p = headerOf c + bodyOctets c full n a p
+abbrev pub option_octets : Carrier → Bool → ℕ → ℕ → ℕ → ℕ
+option_octets c full n a p = header_of c + body_octets c full n a p
 
 -- carrier 1: the instance with its length
-abbrev pub instanceOctets : Bool → ℕ → ℕ → ℕ → ℕ
-instanceOctets full n a p = 2 + bodyOctets Dhcp4 full n a p
+abbrev pub instance_octets : Bool → ℕ → ℕ → ℕ → ℕ
+instance_octets full n a p = 2 + body_octets Dhcp4 full n a p
 
 -- carrier 1: the instances of the records
-abbrev pub joinedOctets : List Fields → ℕ
-joinedOctets [] = 0
-joinedOctets (r ∷ rs) = instanceOctets r.full (length r.name) (length r.addresses) (length r.parameters) + joinedOctets rs
+abbrev pub joined_octets : List Fields → ℕ
+joined_octets [] = 0
+joined_octets (r ∷ rs) = instance_octets r.full (length r.name) (length r.addresses) (length r.parameters) + joined_octets rs

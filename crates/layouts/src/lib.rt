@@ -5,11 +5,11 @@ ghost use Rattle.std.specs.Prelude.{◌≡◌, true, cond, ◌++◌, ◌+◌, �
 ghost use Rattle.octets.specs.Numbers.{be, zeros};
 ghost use Rattle.octets.specs.Over.{Wrote};
 ghost use Rattle.carriers.specs.declared.Carrier.TheVariants.{Dhcp4, Router};
-ghost use Rattle.carriers.specs.Carriers.{headerOf, asText, Plain};
-ghost use Rattle.blocks.specs.Block.{fields_of, unpadded, paddingAfter, layout, Fits};
+ghost use Rattle.carriers.specs.Carriers.{header_of, as_text, Plain};
+ghost use Rattle.blocks.specs.Block.{fields_of, unpadded, padding_after, layout, Fits};
 ghost use Rattle.blocks.specs.Places.{Named};
-ghost use Rattle.layouts.specs.Layouts.{carried_of, ownOption, instanceOf};
-ghost use Rattle.layouts.specs.Writable.{Writable, overhead, bodyOctets, optionOctets, instanceOctets};
+ghost use Rattle.layouts.specs.Layouts.{carried_of, own_option, instance_of};
+ghost use Rattle.layouts.specs.Writable.{Writable, overhead, body_octets, option_octets, instance_octets};
 
 use blocks::Head;
 use carriers::{Carrier, Form};
@@ -35,7 +35,7 @@ fn unpadded_size(full: bool, nlen: usize, alen: usize, plen: usize) -> usize
 // The zeros after a carrier 3 body of `size` octets.
 fn padding_size(size: usize) -> usize
     requires { size < overhead + 65536 }
-    ensures { (result ≡ paddingAfter size) × (result < 8) }
+    ensures { (result ≡ padding_after size) × (result < 8) }
 {
     let n = Carrier::Router.header_size() + size;
     (Carrier::UNIT - n % Carrier::UNIT) % Carrier::UNIT
@@ -44,7 +44,7 @@ fn padding_size(size: usize) -> usize
 // Octets of a carrier 3 body, its padding counted.
 fn padded_size(full: bool, nlen: usize, alen: usize, plen: usize) -> usize
     requires { nlen + alen + plen < 65536 }
-    ensures { result ≡ bodyOctets Router full nlen alen plen }
+    ensures { result ≡ body_octets Router full nlen alen plen }
 {
     let size = unpadded_size(full, nlen, alen, plen);
     size + padding_size(size)
@@ -53,7 +53,7 @@ fn padded_size(full: bool, nlen: usize, alen: usize, plen: usize) -> usize
 // Octets of a record's body, with a name of `nlen` octets in wire form; as text it has two fewer, no first length octet and no root octet.
 fn body_size(c: Carrier, full: bool, nlen: usize, alen: usize, plen: usize) -> usize
     requires { (2 ≤ nlen) × (nlen + alen + plen < 65536) }
-    ensures value { result ≡ bodyOctets c full nlen alen plen }
+    ensures value { result ≡ body_octets c full nlen alen plen }
     ensures upper_bound { result ≤ overhead + (nlen + alen + plen) }
 {
     match c.form() {
@@ -73,8 +73,8 @@ fn body_size(c: Carrier, full: bool, nlen: usize, alen: usize, plen: usize) -> u
 // Octets of a record's option or attribute.
 pub fn option_size(c: Carrier, full: bool, nlen: usize, alen: usize, plen: usize) -> usize
     requires { (2 ≤ nlen) × (nlen + alen + plen < 65536) }
-    ensures value { result ≡ optionOctets c full nlen alen plen }
-    ensures upper_bound { result ≤ headerOf c + (overhead + (nlen + alen + plen)) }
+    ensures value { result ≡ option_octets c full nlen alen plen }
+    ensures upper_bound { result ≤ header_of c + (overhead + (nlen + alen + plen)) }
 {
     c.header_size() + body_size(c, full, nlen, alen, plen)
 }
@@ -82,7 +82,7 @@ pub fn option_size(c: Carrier, full: bool, nlen: usize, alen: usize, plen: usize
 // Octets of a record's instance in carrier 1, its length counted.
 pub fn instance_size(full: bool, nlen: usize, alen: usize, plen: usize) -> usize
     requires { (2 ≤ nlen) × (nlen + alen + plen < 65536) }
-    ensures value { result ≡ instanceOctets full nlen alen plen }
+    ensures value { result ≡ instance_octets full nlen alen plen }
     ensures upper_bound { result ≤ 2 + (overhead + (nlen + alen + plen)) }
 {
     2 + body_size(Carrier::Dhcp4, full, nlen, alen, plen)
@@ -179,7 +179,7 @@ fn put_attribute(
     addresses: &[u8],
     parameters: &[u8],
 ) -> usize
-    requires c_value { asText c ≡ true }
+    requires c_value { as_text c ≡ true }
     requires in_bounds { 2 ≤ length name.now }
     requires fits { Fits c (carried_of c (fields_of head name.now addresses.now parameters.now)) }
     requires parameters_in_bounds { at + length (layout c (carried_of c (fields_of head name.now addresses.now parameters.now))) ≤ length out.old }
@@ -231,8 +231,8 @@ pub fn put_option(
 ) -> usize
     requires plain { Plain c }
     requires writable { Writable c (fields_of head name.now addresses.now parameters.now) }
-    requires parameters_in_bounds { at + length (ownOption c (fields_of head name.now addresses.now parameters.now)) ≤ length out.old }
-    ensures { Wrote at (ownOption c (fields_of head name.now addresses.now parameters.now))
+    requires parameters_in_bounds { at + length (own_option c (fields_of head name.now addresses.now parameters.now)) ≤ length out.old }
+    ensures { Wrote at (own_option c (fields_of head name.now addresses.now parameters.now))
         out.old result out.new }
 {
     let size = body_size(c, head.full, name.len(), addresses.len(), parameters.len());
@@ -250,8 +250,8 @@ pub fn put_instance(
     parameters: &[u8],
 ) -> usize
     requires writable { Writable Dhcp4 (fields_of head name.now addresses.now parameters.now) }
-    requires parameters_in_bounds { at + length (instanceOf (fields_of head name.now addresses.now parameters.now)) ≤ length out.old }
-    ensures { Wrote at (instanceOf (fields_of head name.now addresses.now parameters.now))
+    requires parameters_in_bounds { at + length (instance_of (fields_of head name.now addresses.now parameters.now)) ≤ length out.old }
+    ensures { Wrote at (instance_of (fields_of head name.now addresses.now parameters.now))
         out.old result out.new }
 {
     let c = Carrier::Dhcp4;

@@ -1,13 +1,13 @@
 -- What the command says of an input (docs/COMMAND.md): that it spells no octets, is refused, that nothing or less than all is found in it, and that a file is
 -- kept; each message whole. Assumes nothing: these are definitions.
 use Rattle.std.specs.Prelude.{List, [], ◌∷◌, ◌++◌, ℕ}
-use Rattle.chars.specs.Ascii.{ascii, decimalOf}
+use Rattle.chars.specs.Ascii.{ascii, decimal_of}
 use Rattle.words.specs.Words.{Worded, worded, words_in}
 use Rattle.inputs.specs.Why as why
 use Rattle.numbers.specs.Fault as fault
 use Rattle.reasons.specs.Params.{none}
-use Rattle.lines.specs.Messages.{count_of, wordedOf, aboutOf}
-use Rattle.lines.specs.Listed.{causeOf}
+use Rattle.lines.specs.Messages.{count_of, worded_of, about_of}
+use Rattle.lines.specs.Listed.{cause_of}
 
 -- ---- no octets
 
@@ -23,12 +23,12 @@ whys =
     ∷ worded why.value (ascii "no option of this carrier holds a value so long")
     ∷ []
 
-unfoldable pub unreadOf : List ℕ → ℕ → ℕ → List ℕ
-unreadOf name line k = aboutOf name ++ (count_of (ascii ": line ") line ++ (ascii ": " ++ (words_in whys k ++ ascii "\n")))
+unfoldable pub unread_of : List ℕ → ℕ → ℕ → List ℕ
+unread_of name line k = about_of name ++ (count_of (ascii ": line ") line ++ (ascii ": " ++ (words_in whys k ++ ascii "\n")))
 
 -- more characters than any text of the longest input
-unfoldable pub longOf : List ℕ → List ℕ
-longOf name = aboutOf name ++ ascii ": longer than 655,360 octets\n"
+unfoldable pub long_of : List ℕ → List ℕ
+long_of name = about_of name ++ ascii ": longer than 655,360 octets\n"
 
 -- ---- refused, nothing found, less than all
 
@@ -44,13 +44,13 @@ hints =
     ∷ []
 
 -- the input is refused by a number
-unfoldable pub refusedOf : List ℕ → ℕ → ℕ → List ℕ
-refusedOf name number hint = aboutOf name ++ (ascii ": refused, " ++ (wordedOf number ++ (words_in hints hint ++ ascii "\n")))
+unfoldable pub refused_of : List ℕ → ℕ → ℕ → List ℕ
+refused_of name number hint = about_of name ++ (ascii ": refused, " ++ (worded_of number ++ (words_in hints hint ++ ascii "\n")))
 
 -- a sheet, the input of this name, is refused for the name of a resolver: at which octet, and why that is bad (RULES T8)
-unfoldable pub refusedAtOf : List ℕ → ℕ → ℕ → List ℕ
-refusedAtOf name octet reason =
-    aboutOf name ++ (count_of (ascii ": octet ") octet ++ (ascii ": refused, " ++ causeOf fault.name reason none))
+unfoldable pub refused_at_of : List ℕ → ℕ → ℕ → List ℕ
+refused_at_of name octet reason =
+    about_of name ++ (count_of (ascii ": octet ") octet ++ (ascii ": refused, " ++ cause_of fault.name reason none))
 
 -- what was looked for, by the carrier
 unfoldable pub missing : List Worded
@@ -63,15 +63,15 @@ missing =
     ∷ []
 
 -- nothing is found in n octets
-unfoldable pub nothingOf : List ℕ → ℕ → ℕ → ℕ → List ℕ
-nothingOf name carrier n hint =
-    aboutOf name ++ (words_in missing carrier ++ (decimalOf n ++ (ascii " octets" ++ (words_in hints hint ++ ascii "\n"))))
+unfoldable pub nothing_of : List ℕ → ℕ → ℕ → ℕ → List ℕ
+nothing_of name carrier n hint =
+    about_of name ++ (words_in missing carrier ++ (decimal_of n ++ (ascii " octets" ++ (words_in hints hint ++ ascii "\n"))))
 
 -- blocks were discarded, of those that were found
 unfoldable pub less_of : List ℕ → ℕ → ℕ → ℕ → List ℕ
 less_of name discarded found hint =
-    aboutOf name ++ (count_of (ascii ": ") discarded ++ (count_of (ascii " of ") found ++ (ascii " blocks discarded" ++ (words_in hints hint ++ ascii "\n"))))
+    about_of name ++ (count_of (ascii ": ") discarded ++ (count_of (ascii " of ") found ++ (ascii " blocks discarded" ++ (words_in hints hint ++ ascii "\n"))))
 
 -- a file that has records is not replaced by a sheet that has none
-unfoldable pub keptOf : List ℕ → List ℕ
-keptOf name = aboutOf name ++ ascii ": left as it is: it has records, and the new sheet has none; --force replaces it\n"
+unfoldable pub kept_of : List ℕ → List ℕ
+kept_of name = about_of name ++ ascii ": left as it is: it has records, and the new sheet has none; --force replaces it\n"

@@ -8,8 +8,8 @@ ghost use Rattle.std.specs.Prelude.{◌≡◌, ◌<◌};
 ghost use Rattle.io.specs.Counts.{IsPrefixLen};
 ghost use Rattle.chars.specs.Puts.{Puts};
 ghost use Rattle.words.specs.Words.{words_in};
-ghost use Rattle.lines.specs.Messages.{count_of, wordedOf, aboutOf, failedOf, besideOf, table, culprit, usageOf};
-ghost use Rattle.lines.specs.HexLines.{after_of, hexLinesOf};
+ghost use Rattle.lines.specs.Messages.{count_of, worded_of, about_of, failed_of, beside_of, table, culprit, usage_of};
+ghost use Rattle.lines.specs.HexLines.{after_of, hex_lines_of};
 
 use arguments::Wrong;
 use chars::{put, put_all, put_number};
@@ -27,7 +27,7 @@ pub fn put_count(out: &mut [u8], at: usize, before: &[u8], n: usize) -> usize
 
 // Writes a number and its words.
 fn put_worded(out: &mut [u8], at: usize, number: usize) -> usize
-    ensures { Puts at (wordedOf number) out.old result out.new }
+    ensures { Puts at (worded_of number) out.old result out.new }
 {
     let numbered = put_number(out, at, number);
     let from = put_all(out, numbered, b": ");
@@ -37,7 +37,7 @@ fn put_worded(out: &mut [u8], at: usize, number: usize) -> usize
 // Writes the program's name and a name that the message is about.
 pub fn put_about(out: &mut [u8], name: &[u8]) -> usize
     ensures prefix_len { IsPrefixLen result out.new }
-    ensures puts { Puts 0 (aboutOf name.now) out.old result out.new }
+    ensures puts { Puts 0 (about_of name.now) out.old result out.new }
 {
     let next = put_all(out, 0, b"dnr: ");
     put_all(out, next, name)
@@ -48,7 +48,7 @@ pub fn put_about(out: &mut [u8], name: &[u8]) -> usize
 // Writes that a call failed on a file, and why by its number.
 pub fn put_failed(out: &mut [u8], name: &[u8], errno: usize) -> usize
     ensures prefix_len { IsPrefixLen result out.new }
-    ensures puts { Puts 0 (failedOf name.now errno) out.old result out.new }
+    ensures puts { Puts 0 (failed_of name.now errno) out.old result out.new }
 {
     let next = put_about(out, name);
     let end = put_count(out, next, b": errno ", errno);
@@ -58,7 +58,7 @@ pub fn put_failed(out: &mut [u8], name: &[u8], errno: usize) -> usize
 // Writes that no file can be made beside one that is to be replaced, and why by its number.
 pub fn put_beside(out: &mut [u8], name: &[u8], errno: usize) -> usize
     ensures prefix_len { IsPrefixLen result out.new }
-    ensures puts { Puts 0 (besideOf name.now errno) out.old result out.new }
+    ensures puts { Puts 0 (beside_of name.now errno) out.old result out.new }
 {
     let next = put_about(out, name);
     let end = put_count(out, next, b": cannot make a file beside it: errno ", errno);
@@ -103,7 +103,7 @@ fn put_culprit(out: &mut [u8], at: usize, wrong: usize, argument: &[u8]) -> usiz
 // Writes that the command line is wrong.
 pub fn put_usage(out: &mut [u8], wrong: usize, argument: &[u8]) -> usize
     ensures prefix_len { IsPrefixLen result out.new }
-    ensures puts { Puts 0 (usageOf wrong argument.now) out.old result out.new }
+    ensures puts { Puts 0 (usage_of wrong argument.now) out.old result out.new }
 {
     let from = put_all(out, 0, b"dnr: ");
     let next = put_text(out, from, wrong);
@@ -130,7 +130,7 @@ fn after(i: usize, n: usize) -> u8
 // Writes octets as hexadecimal text, and returns how long it is.
 pub fn put_hex(out: &mut [u8], s: &[u8]) -> usize
     ensures prefix_len { IsPrefixLen result out.new }
-    ensures puts { Puts 0 (hexLinesOf s.now) out.old result out.new }
+    ensures puts { Puts 0 (hex_lines_of s.now) out.old result out.new }
 {
     let mut o = 0;
     let mut i = 0;

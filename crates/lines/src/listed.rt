@@ -1,7 +1,7 @@
 // What is listed of an area that is not taken whole: the blocks that are discarded, the addresses that are dropped.
 ghost use Rattle.io.specs.Counts.{IsPrefixLen};
 ghost use Rattle.chars.specs.Puts.{Puts};
-ghost use Rattle.lines.specs.Listed.{reasonPart, keyPart, causeOf, discardedOf, droppedOf};
+ghost use Rattle.lines.specs.Listed.{reason_part, key_part, cause_of, discarded_of, dropped_of};
 
 use crate::{put_about, put_count, put_worded};
 use chars::put_all;
@@ -26,7 +26,7 @@ pub struct Discard {
 
 // Writes why a name is bad, where one is.
 fn put_reason_part(out: &mut [u8], at: usize, reason: usize) -> usize
-    ensures { Puts at (reasonPart reason) out.old result out.new }
+    ensures { Puts at (reason_part reason) out.old result out.new }
 {
     if reason == 0 {
         return lesser(at, out.len());
@@ -37,7 +37,7 @@ fn put_reason_part(out: &mut [u8], at: usize, reason: usize) -> usize
 
 // Writes the key of a parameter, where there is one.
 fn put_key_part(out: &mut [u8], at: usize, key: usize) -> usize
-    ensures { Puts at (keyPart key) out.old result out.new }
+    ensures { Puts at (key_part key) out.old result out.new }
 {
     if Param::NONE <= key {
         return lesser(at, out.len());
@@ -49,7 +49,7 @@ fn put_key_part(out: &mut [u8], at: usize, key: usize) -> usize
 // Writes why a block is discarded or a sheet refused, to the end of the line.
 pub fn put_cause(out: &mut [u8], at: usize, fault: usize, reason: usize, key: usize) -> usize
     ensures prefix_len { IsPrefixLen result out.new }
-    ensures puts { Puts at (causeOf fault reason key) out.old result out.new }
+    ensures puts { Puts at (cause_of fault reason key) out.old result out.new }
 {
     let worded = put_worded(out, at, fault);
     let reasoned = put_reason_part(out, worded, reason);
@@ -60,7 +60,7 @@ pub fn put_cause(out: &mut [u8], at: usize, fault: usize, reason: usize, key: us
 // Writes that a block is discarded: where, and why.
 pub fn put_discarded(out: &mut [u8], name: &[u8], d: Discard) -> usize
     ensures prefix_len { IsPrefixLen result out.new }
-    ensures puts { Puts 0 (discardedOf name.now d.block d.octet d.fault d.reason d.key) out.old result out.new }
+    ensures puts { Puts 0 (discarded_of name.now d.block d.octet d.fault d.reason d.key) out.old result out.new }
 {
     let next = put_about(out, name);
     let counted = put_count(out, next, b": block ", d.block);
@@ -74,7 +74,7 @@ pub fn put_discarded(out: &mut [u8], name: &[u8], d: Discard) -> usize
 // Writes that an address is dropped, and where.
 pub fn put_dropped(out: &mut [u8], name: &[u8], block: usize, octet: usize, a: &[u8]) -> usize
     ensures prefix_len { IsPrefixLen result out.new }
-    ensures puts { Puts 0 (droppedOf name.now block octet a.now) out.old result out.new }
+    ensures puts { Puts 0 (dropped_of name.now block octet a.now) out.old result out.new }
 {
     let next = put_about(out, name);
     let counted = put_count(out, next, b": block ", block);

@@ -2,7 +2,7 @@
 ghost use Rattle.std.specs.Prelude.{◌≡◌, ◌-◌, length};
 ghost use Rattle.io.specs.Counts.{IsPrefixLen};
 ghost use Rattle.chars.specs.Puts.{Puts};
-ghost use Rattle.lines.specs.Objects.{unit_of, letterOf, stringOf, memberOf, members_of, inner_of, objectOf, octetsOf, savedOf};
+ghost use Rattle.lines.specs.Objects.{unit_of, letter_of, string_of, member_of, members_of, inner_of, object_of, octets_of, saved_of};
 
 use crate::put_count;
 use chars::{put, put_all};
@@ -36,7 +36,7 @@ fn put_unit(out: &mut [u8], at: usize, b: u8) -> usize
 
 // Writes an octet of a string.
 fn put_letter(out: &mut [u8], at: usize, b: u8) -> usize
-    ensures { Puts at (letterOf b) out.old result out.new }
+    ensures { Puts at (letter_of b) out.old result out.new }
 {
     if b < b' ' {
         return put_unit(out, at, b);
@@ -55,7 +55,7 @@ fn put_letter(out: &mut [u8], at: usize, b: u8) -> usize
 
 // Writes the octets of a string.
 fn put_string(out: &mut [u8], at: usize, s: &[u8]) -> usize
-    ensures { Puts at (stringOf s.now) out.old result out.new }
+    ensures { Puts at (string_of s.now) out.old result out.new }
 {
     let mut o = lesser(at, out.len());
     let mut i = 0;
@@ -70,7 +70,7 @@ fn put_string(out: &mut [u8], at: usize, s: &[u8]) -> usize
 
 // Writes a member that is a number, unless it is 0.
 fn put_member(out: &mut [u8], at: usize, before: &[u8], n: usize) -> usize
-    ensures { Puts at (memberOf before.now n) out.old result out.new }
+    ensures { Puts at (member_of before.now n) out.old result out.new }
 {
     if n == 0 {
         return lesser(at, out.len());
@@ -103,7 +103,7 @@ fn last(line: &[u8]) -> usize
 
 // Writes what a line says as a string.
 fn put_inner(out: &mut [u8], at: usize, line: &[u8]) -> usize
-    ensures { Puts at (stringOf (inner_of line.now)) out.old result out.new }
+    ensures { Puts at (string_of (inner_of line.now)) out.old result out.new }
 {
     let end = last(line);
     let from = lesser(FRONT, end);
@@ -113,7 +113,7 @@ fn put_inner(out: &mut [u8], at: usize, line: &[u8]) -> usize
 // Writes the object of a message, whose line it is.
 pub fn put_object(out: &mut [u8], note: Note, line: &[u8]) -> usize
     ensures prefix_len { IsPrefixLen result out.new }
-    ensures puts { Puts 0 (objectOf note line.now) out.old result out.new }
+    ensures puts { Puts 0 (object_of note line.now) out.old result out.new }
 {
     let from = put_all(out, 0, b"{\"message\":\"");
     let end = put_inner(out, from, line);
@@ -126,7 +126,7 @@ pub fn put_object(out: &mut [u8], note: Note, line: &[u8]) -> usize
 // Writes the object of octets.
 pub fn put_octets(out: &mut [u8], s: &[u8]) -> usize
     ensures prefix_len { IsPrefixLen result out.new }
-    ensures puts { Puts 0 (octetsOf s.now) out.old result out.new }
+    ensures puts { Puts 0 (octets_of s.now) out.old result out.new }
 {
     let counted = put_count(out, 0, b"{\"length\":", s.len());
     let from = put_all(out, counted, b",\"octets\":\"");
@@ -137,7 +137,7 @@ pub fn put_octets(out: &mut [u8], s: &[u8]) -> usize
 // Writes the object of n octets that are saved.
 pub fn put_saved(out: &mut [u8], n: usize) -> usize
     ensures prefix_len { IsPrefixLen result out.new }
-    ensures puts { Puts 0 (savedOf n) out.old result out.new }
+    ensures puts { Puts 0 (saved_of n) out.old result out.new }
 {
     let next = put_count(out, 0, b"{\"saved\":", n);
     put_all(out, next, b"}\n")

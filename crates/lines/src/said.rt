@@ -2,7 +2,7 @@
 ghost use Rattle.io.specs.Counts.{IsPrefixLen};
 ghost use Rattle.chars.specs.Puts.{Puts};
 ghost use Rattle.words.specs.Words.{words_in};
-ghost use Rattle.lines.specs.Said.{whys, unreadOf, longOf, hints, refusedOf, refusedAtOf, missing, nothingOf, less_of, keptOf};
+ghost use Rattle.lines.specs.Said.{whys, unread_of, long_of, hints, refused_of, refused_at_of, missing, nothing_of, less_of, kept_of};
 
 use crate::listed::put_cause;
 use crate::{put_about, put_count, put_worded};
@@ -34,7 +34,7 @@ fn put_why(out: &mut [u8], at: usize, why: usize) -> usize
 // Writes why the input spells no octets, and at which line.
 pub fn put_unread(out: &mut [u8], name: &[u8], line: usize, why: usize) -> usize
     ensures prefix_len { IsPrefixLen result out.new }
-    ensures puts { Puts 0 (unreadOf name.now line why) out.old result out.new }
+    ensures puts { Puts 0 (unread_of name.now line why) out.old result out.new }
 {
     let next = put_about(out, name);
     let numbered = put_count(out, next, b": line ", line);
@@ -46,7 +46,7 @@ pub fn put_unread(out: &mut [u8], name: &[u8], line: usize, why: usize) -> usize
 // Writes that the input has more characters than any text of the longest input.
 pub fn put_long(out: &mut [u8], name: &[u8]) -> usize
     ensures prefix_len { IsPrefixLen result out.new }
-    ensures puts { Puts 0 (longOf name.now) out.old result out.new }
+    ensures puts { Puts 0 (long_of name.now) out.old result out.new }
 {
     let next = put_about(out, name);
     put_all(out, next, b": longer than 655,360 octets\n")
@@ -74,7 +74,7 @@ fn put_hint(out: &mut [u8], at: usize, hint: usize) -> usize
 // Writes that the input is refused by a number.
 pub fn put_refused(out: &mut [u8], name: &[u8], number: usize, hint: usize) -> usize
     ensures prefix_len { IsPrefixLen result out.new }
-    ensures puts { Puts 0 (refusedOf name.now number hint) out.old result out.new }
+    ensures puts { Puts 0 (refused_of name.now number hint) out.old result out.new }
 {
     let next = put_about(out, name);
     let from = put_all(out, next, b": refused, ");
@@ -86,7 +86,7 @@ pub fn put_refused(out: &mut [u8], name: &[u8], number: usize, hint: usize) -> u
 // Writes that a sheet, the input of this name, is refused for the name of a resolver: at which octet, and why that is bad, where it is known.
 pub fn put_refused_at(out: &mut [u8], name: &[u8], octet: usize, reason: usize) -> usize
     ensures prefix_len { IsPrefixLen result out.new }
-    ensures puts { Puts 0 (refusedAtOf name.now octet reason) out.old result out.new }
+    ensures puts { Puts 0 (refused_at_of name.now octet reason) out.old result out.new }
 {
     let next = put_about(out, name);
     let placed = put_count(out, next, b": octet ", octet);
@@ -113,7 +113,7 @@ fn put_missing(out: &mut [u8], at: usize, carrier: usize) -> usize
 // Writes that nothing was found in n octets.
 pub fn put_nothing(out: &mut [u8], name: &[u8], carrier: usize, n: usize, hint: usize) -> usize
     ensures prefix_len { IsPrefixLen result out.new }
-    ensures puts { Puts 0 (nothingOf name.now carrier n hint) out.old result out.new }
+    ensures puts { Puts 0 (nothing_of name.now carrier n hint) out.old result out.new }
 {
     let next = put_about(out, name);
     let counted = put_missing(out, next, carrier);
@@ -139,7 +139,7 @@ pub fn put_less(out: &mut [u8], name: &[u8], discarded: usize, found: usize, hin
 // Writes that a file is not replaced.
 pub fn put_kept(out: &mut [u8], name: &[u8]) -> usize
     ensures prefix_len { IsPrefixLen result out.new }
-    ensures puts { Puts 0 (keptOf name.now) out.old result out.new }
+    ensures puts { Puts 0 (kept_of name.now) out.old result out.new }
 {
     let next = put_about(out, name);
     put_all(

@@ -46,8 +46,8 @@ module _ {S : Type 0} (a : Automaton S) where
     pub goes_on : walk a st at (front ++ end) ≡ Good
     pub halts : (z : ℕ) (zs t : List ℕ) → back ≡ z ∷ zs → walk a st at (front ++ (z ∷ t)) ≡ Bad p
 
-  at-end : (st : S) (at p : ℕ) → Ending st at → Bad at ≡ Bad p → StopsAt st at [] p
-  at-end st at p f e =
+  at_end : (st : S) (at p : ℕ) → Ending st at → Bad at ≡ Bad p → StopsAt st at [] p
+  at_end st at p f e =
       let q : at ≡ p = cc in
       record {
         front = [];
@@ -120,7 +120,7 @@ module _ {S : Type 0} (a : Automaton S) where
         stopped [] st y at p v e =
             by-test (a.ends st) (λ b. cond b Good (Bad at) ≡ Bad p → StopsAt st at [] p)
             (λ _ g. not_good (sym g))
-            (λ _ g. at-end st at p (ending st y at v) g)
+            (λ _ g. at_end st at p (ending st y at v) g)
             e
         stopped (x ∷ xs) st y at p v e =
             on-stopped st y at x p xs (a.step st at x) refl (stepped st y at x xs v) (ending st y at v) (λ st'. λ w. stopped xs st' x (at + 1) p w) e

@@ -36,14 +36,14 @@ module _ {S : Type 0} (a : Automaton S) (st : S) (Acceptable : List ℕ → Type
       let g = ap length r.is in
       let f : take p s ≡ r.front = ap (λ (l : List ℕ). take p l) r.is ∙ take_at r.front r.back p (omega arith) in
       record {
-        not-acceptable = λ o. not_good (sym e ∙ complete s o);
+        not_acceptable = λ o. not_good (sym e ∙ complete s o);
         within = omega arith;
         goes_on = (r.end, sound (take p s ++ r.end) (rw f r.goes_on));
         halts = no-halt s r.back p r refl;
       }
 
   from-result : (s : List ℕ) (p : ℕ) (r : Name) → walk a st 0 s ≡ r → FirstBad Acceptable s p → walk a st 0 s ≡ Bad p
-  from-result s p Good e b = absurd (b.not-acceptable (sound s e))
+  from-result s p Good e b = absurd (b.not_acceptable (sound s e))
   from-result s p (Bad q) e b = e ∙ ap Bad (one_place s q p (bad-first s q e) b)
 
   pub bad : (s : List ℕ) (p : ℕ) → (walk a st 0 s ≡ Bad p) ↔ FirstBad Acceptable s p
@@ -72,7 +72,7 @@ module _ {S : Type 0} (a : Automaton S) (st : S) (Acceptable : List ℕ → Type
         let q = place_of s p b in
         let f = length-take-le n s (omega arith) in
         (bad (take n s) p).1 record {
-          not-acceptable = λ o. (let i = short (take n s) o in omega arith);
+          not_acceptable = λ o. (let i = short (take n s) o in omega arith);
           within = omega arith;
           goes_on = (b.goes_on.0, rw (take-take p n s (omega arith)) b.goes_on.1);
           halts = λ l t o. b.halts (omega arith) t (rw (take-take (p + 1) n s (omega arith)) at o);

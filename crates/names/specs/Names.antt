@@ -44,7 +44,7 @@ pub record IsName (s : List ℕ) : Type 0 where
 
 -- p is the place, from 0, of the first octet of s at which nothing acceptable can continue, or the length of s where s is cut short (RULES N5)
 pub record FirstBad (Acceptable : List ℕ → Type 0) (s : List ℕ) (p : ℕ) : Type 0 where
-  pub not-acceptable : Acceptable s → ⊥
+  pub not_acceptable : Acceptable s → ⊥
   pub within : p ≤ length s
   pub goes_on : (t : List ℕ) × Acceptable (take p s ++ t)
   pub halts : p < length s → (t : List ℕ) → Acceptable (take (p + 1) s ++ t) → ⊥

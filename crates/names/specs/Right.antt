@@ -4,7 +4,7 @@ use Rattle.std.specs.Prelude.{◌≡◌, refl, ℕ, ◌≤◌, length, List, [],
 use Rattle.std.proofs.Common.{ap, inl, inr, arith, length-append}
 use Rattle.names.specs.declared.Name.{Name}
 use Rattle.names.specs.declared.Name.TheVariants.{Good, Bad}
-use Rattle.names.specs.Wire.{nameCheck}
+use Rattle.names.specs.Wire.{name_check}
 use Rattle.octets.specs.Lists.{All}
 use Rattle.names.specs.Names.{IsName, wire, Label}
 use Rattle.names.specs.Told.{Claims}
@@ -15,7 +15,7 @@ use Rattle.names.specs.Exact.{good, bad}
 abbrev pub Right : List ℕ → Name → Type 0
 Right s r = Claims IsName s r
 
-pub right : (s : List ℕ) (r : Name) → r ≡ nameCheck s → Right s r
+pub right : (s : List ℕ) (r : Name) → r ≡ name_check s → Right s r
 right s Good e = inl (refl, (good s).0 (cc))
 right s (Bad p) e = inr (refl, (bad s p).0 (cc))
 

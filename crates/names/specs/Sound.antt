@@ -1,10 +1,10 @@
--- What `nameCheck` takes is a name. Assumes nothing.
+-- What `name_check` takes is a name. Assumes nothing.
 use Rattle.std.specs.Prelude.{◌≡◌, refl, List, [], ◌∷◌, ◌++◌, true, ℕ, suc, ◌+◌, ◌-◌, ◌≤◌, length}
 use Rattle.std.proofs.Common.{ap, inl, inr, arith}
 use Rattle.names.specs.declared.Name.TheVariants.{Good}
 use Rattle.names.specs.Automaton.{Move}
 use Rattle.names.specs.AutomatonLaws.{After, taken}
-use Rattle.names.specs.Wire.{State, letter, hyphen, first, root, step, ended, inside, nameAutomaton, nameCheck}
+use Rattle.names.specs.Wire.{State, letter, hyphen, first, root, step, ended, inside, name_automaton, name_check}
 use Rattle.octets.specs.Lists.{All}
 use Rattle.names.specs.Names.{alnum, last, Ldh, Label, wire, IsName}
 use Rattle.names.specs.Cases.{by-inside, by_length, by-letter, by_first}
@@ -85,7 +85,7 @@ rooted n y k at xs b h z e p g =
 
 -- what holds of each step
 abbrev Stepped : State → ℕ → ℕ → ℕ → List ℕ → Move State → Type 0
-Stepped = After nameAutomaton Valid Claim
+Stepped = After name_automaton Valid Claim
 
 inside-stepped : (st : State) (left x y at : ℕ) (xs : List ℕ) → (left ≡ 0 → ⊥) → at + left ≤ 254 → (Rest y left at (x ∷ xs) → Claim st y at (x ∷ xs))
     → Stepped st y at x xs (inside left x)
@@ -95,7 +95,7 @@ inside-stepped st left x y at xs n h c =
     (λ q l. ((omega arith, omega arith), λ r. c (more x y left at xs (inr q) n r)))
     tt
 
-pub stepped : (st : State) (y at x : ℕ) (xs : List ℕ) → Valid st y at → After nameAutomaton Valid Claim st y at x xs (step st at x)
+pub stepped : (st : State) (y at x : ℕ) (xs : List ℕ) → Valid st y at → After name_automaton Valid Claim st y at x xs (step st at x)
 stepped (letter k) y at x xs v =
     by-letter k at x (Stepped (letter k) y at x xs)
     (λ z. by_length at x (Stepped (letter k) y at x xs)
@@ -107,20 +107,20 @@ stepped (hyphen k) y at x xs v = inside-stepped (hyphen k) k x y at xs (omega ar
 stepped (first k) y at x xs v = by_first k at x (Stepped (first k) y at x xs) (λ a. ((a, omega arith), λ r. (x, xs, refl, a, r))) tt
 stepped root y at x xs v = tt
 
-at-end : (st : State) (y at : ℕ) → Valid st y at → ended st ≡ true → Claim st y at []
-at-end (letter k) y at v e = let z : ◌≡◌ {A = ℕ} 0 1 = cc in absurd (omega arith)
-at-end (hyphen k) y at v e = let z : ◌≡◌ {A = ℕ} 0 1 = cc in absurd (omega arith)
-at-end (first k) y at v e = let z : ◌≡◌ {A = ℕ} 0 1 = cc in absurd (omega arith)
-at-end root y at v e = refl
+at_end : (st : State) (y at : ℕ) → Valid st y at → ended st ≡ true → Claim st y at []
+at_end (letter k) y at v e = let z : ◌≡◌ {A = ℕ} 0 1 = cc in absurd (omega arith)
+at_end (hyphen k) y at v e = let z : ◌≡◌ {A = ℕ} 0 1 = cc in absurd (omega arith)
+at_end (first k) y at v e = let z : ◌≡◌ {A = ℕ} 0 1 = cc in absurd (omega arith)
+at_end root y at v e = refl
 
 pub nil-of : (l : List ℕ) → length l ≡ 0 → l ≡ []
 nil-of [] e = refl
 nil-of (x ∷ l) e = absurd (omega arith)
 
-pub good-sound : (s : List ℕ) → nameCheck s ≡ Good → IsName s
-unfolding nameCheck alnum
+pub good-sound : (s : List ℕ) → name_check s ≡ Good → IsName s
+unfolding name_check alnum
 good-sound s e =
-    let r : Rest 48 0 0 s = taken nameAutomaton Valid Claim stepped at-end s (letter 0) 48 0 (refl, omega arith) e in
+    let r : Rest 48 0 0 s = taken name_automaton Valid Claim stepped at_end s (letter 0) 48 0 (refl, omega arith) e in
     let n : r.label ≡ [] = nil-of r.label r.long in
     let h = r.short in
     record {

@@ -7,9 +7,9 @@ use Rattle.names.specs.declared.Name.TheVariants.{Good, Bad}
 use Rattle.names.specs.Names.{FirstBad}
 
 -- the number of the answer
-abbrev pub nameNumber : Name → ℕ
-nameNumber Good = 0
-nameNumber (Bad p) = fault.name
+abbrev pub name_number : Name → ℕ
+name_number Good = 0
+name_number (Bad p) = fault.name
 
 -- its value: the place of the first bad octet, and 0 where there is none
 abbrev pub place_in : Name → ℕ
@@ -18,4 +18,4 @@ place_in (Bad p) = p
 
 -- what an answer claims of a slice: 0, and it is acceptable; or 22, and at this place nothing acceptable can continue
 abbrev pub Claims : (List ℕ → Type 0) → List ℕ → Name → Type 0
-Claims Acceptable s r = ((nameNumber r ≡ 0) × Acceptable s) ⊎ ((nameNumber r ≡ fault.name) × FirstBad Acceptable s (place_in r))
+Claims Acceptable s r = ((name_number r ≡ 0) × Acceptable s) ⊎ ((name_number r ≡ fault.name) × FirstBad Acceptable s (place_in r))

@@ -5,7 +5,7 @@
 ghost use Rattle.std.specs.Prelude.{◌≡◌, ◌-◌, ◌≤◌, ◌<◌, length};
 ghost use Rattle.names.specs.Names.{alnum};
 ghost use Rattle.names.specs.Right.{Right};
-ghost use Rattle.names.specs.Wire.{nameCheck, nameAutomaton, letter, hyphen, labelFits, hyphenFits};
+ghost use Rattle.names.specs.Wire.{name_check, name_automaton, letter, hyphen, label_fits, hyphen_fits};
 ghost use Rattle.names.specs.Answered.{answer_in, named};
 
 use octets::{lesser, wide, within};
@@ -36,7 +36,7 @@ pub fn is_alnum(b: u8) -> bool
 
 // Whether b is a hyphen that does not end its label, with `left` octets of the label to come, b among them.
 fn hyphen_fits(b: u8, left: usize) -> bool
-    ensures { result ≡ hyphenFits left b }
+    ensures { result ≡ hyphen_fits left b }
 {
     b == b'-' && 1 < left
 }
@@ -44,7 +44,7 @@ fn hyphen_fits(b: u8, left: usize) -> bool
 // Whether a label of `size` octets may follow a length octet at `at`: it is not too long, nor is the name with it and a root octet.
 fn label_fits(at: usize, size: usize) -> bool
     requires { (at ≤ 256) × (size ≤ 256) }
-    ensures { result ≡ labelFits at size }
+    ensures { result ≡ label_fits at size }
 {
     size <= 63 && at + size <= 253
 }
@@ -56,7 +56,7 @@ fn label_fits(at: usize, size: usize) -> bool
 #[cycle(after_hyphen_after_letter)]
 fn after_letter(s: &&[u8], n: usize, left: usize, label: usize, stop: usize) -> usize
     requires { (n ≤ 256) × (n ≤ length s.now.now) × (left ≤ n) × (stop ≡ left - label) }
-    ensures { result ≡ answer_in nameAutomaton s.now.now n (letter label) left }
+    ensures { result ≡ answer_in name_automaton s.now.now n (letter label) left }
 {
     let at = n - left;
     if left == stop {
@@ -101,7 +101,7 @@ fn after_letter(s: &&[u8], n: usize, left: usize, label: usize, stop: usize) -> 
 #[cycle(after_hyphen_after_letter)]
 fn after_hyphen(s: &&[u8], n: usize, left: usize, label: usize, stop: usize) -> usize
     requires { (n ≤ 256) × (n ≤ length s.now.now) × (left ≤ n) × (1 ≤ label) × (stop ≡ left - label) }
-    ensures { result ≡ answer_in nameAutomaton s.now.now n (hyphen label) left }
+    ensures { result ≡ answer_in name_automaton s.now.now n (hyphen label) left }
 {
     if left == stop {
         return n;
@@ -130,7 +130,7 @@ pub fn name_of(place: usize) -> Name
 // The check of at most 256 octets. (`&s[..]`: so that s itself comes in registers.)
 fn check_held(s: &[u8]) -> Name
     requires { length s.now ≤ 256 }
-    ensures { result ≡ nameCheck s.now }
+    ensures { result ≡ name_check s.now }
 {
     let held = &s[..];
     let n = s.len();
@@ -139,7 +139,7 @@ fn check_held(s: &[u8]) -> Name
 
 // Whether s is a name, filling s exactly. No name has more than 255 octets, so that what comes after 256 changes nothing.
 pub fn check_wire(s: &[u8]) -> Name
-    ensures value { result ≡ nameCheck s.now }
+    ensures value { result ≡ name_check s.now }
     ensures right { Right s.now result }
 {
     if s.len() <= 256 {

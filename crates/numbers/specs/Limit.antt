@@ -19,12 +19,12 @@ parameters = 1024
 
 -- octets of a record in a sheet (RULES L5): a head of 8, a name of 255, an address count of 1, 63 addresses of 16, a parameter length of 2,
 -- 1,024 of parameters
-abbrev pub recordSize : ℕ
-recordSize = 2298
+abbrev pub record_size : ℕ
+record_size = 2298
 
 -- octets of a sheet: a head of 7, and 16 such records (RULES L5)
-abbrev pub sheetSize : ℕ
-sheetSize = 36775
+abbrev pub sheet_size : ℕ
+sheet_size = 36775
 
 -- octets of a carrier 3 option: 255 units of 8 (RULES L6)
 abbrev pub option : ℕ

@@ -30,8 +30,8 @@ abbrev pub version : ℕ
 version = 41
 
 -- a sheet's carrier is not 1 to 5 (RULES R42)
-abbrev pub sheetCarrier : ℕ
-sheetCarrier = 42
+abbrev pub sheet_carrier : ℕ
+sheet_carrier = 42
 
 -- a sheet does not tile, a mode is not 0 or 1, priorities fall, or a lifetime stands where none belongs (RULES R43)
 abbrev pub tiling : ℕ

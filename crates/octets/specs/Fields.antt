@@ -17,5 +17,5 @@ module _ {R : Type 0} where
   counted stop w l next = number stop w l (λ n l. part stop n l next)
 
 -- x after its count in w octets, and then l (RULES B1)
-abbrev pub putCounted : ℕ → List ℕ → List ℕ → List ℕ
-putCounted w x l = be w (length x) ++ (x ++ l)
+abbrev pub put_counted : ℕ → List ℕ → List ℕ → List ℕ
+put_counted w x l = be w (length x) ++ (x ++ l)

@@ -9,7 +9,7 @@ use Rattle.std.proofs.Math.Seq.{take_at, drop_at}
 use Rattle.octets.specs.ListsLaws.{all_take, all_drop}
 use Rattle.octets.specs.Numbers.{be, val, Octet, Bytes}
 use Rattle.octets.specs.NumbersLaws.{length-be, val-be, be-val, val-small}
-use Rattle.octets.specs.Fields.{part, number, counted, putCounted}
+use Rattle.octets.specs.Fields.{part, number, counted, put_counted}
 
 module _ {R : Type 0} (stop : R) where
   -- ---- written, then read
@@ -24,7 +24,7 @@ module _ {R : Type 0} (stop : R) where
   unfolding number
   number_read w v l next h = part-read w (be w v) l (λ x l. next (val x) l) (length-be w v) ∙ ap (λ (n : ℕ). next n l) (val-be w v h)
 
-  pub counted-read : (w : ℕ) (x l : List ℕ) (next : List ℕ → List ℕ → R) → length x < 256 ^ w → counted stop w (putCounted w x l) next ≡ next x l
+  pub counted-read : (w : ℕ) (x l : List ℕ) (next : List ℕ → List ℕ → R) → length x < 256 ^ w → counted stop w (put_counted w x l) next ≡ next x l
   unfolding counted
   counted-read w x l next h = number_read w (length x) (x ++ l) (λ n l. part stop n l next) h ∙ part-read (length x) x l next refl
 
@@ -48,7 +48,7 @@ module _ {R : Type 0} (stop : R) where
       rw same at (k (val x) r small hr))
 
   pub counted-says : (w : ℕ) (S : List ℕ → R → Type 0) (l : List ℕ) (next : List ℕ → List ℕ → R) → Bytes l → ((l : List ℕ) → S l stop)
-      → ((x r : List ℕ) → length x < 256 ^ w → Bytes x → Bytes r → S (putCounted w x r) (next x r)) → S l (counted stop w l next)
+      → ((x r : List ℕ) → length x < 256 ^ w → Bytes x → Bytes r → S (put_counted w x r) (next x r)) → S l (counted stop w l next)
   unfolding counted
   counted-says w S l next h s k = number-says w S l (λ n l. part stop n l next) h (s l) (λ n l hn h.
       part_says n (λ l. S (be w n ++ l)) l next h (s (be w n ++ l)) (λ x r e hx hr. rw e at (k x r (rw e hn) hx hr)))

@@ -1,5 +1,5 @@
 -- Numbers as octets, the most significant first (RULES C2), over the width in octets. Assumes nothing: these are definitions.
-use Rattle.std.specs.Prelude.{Bool, true, ◌&&◌, List, [], ◌∷◌, ◌++◌, map, ℕ, zero, suc, ◌+◌, ◌*◌, ◌/◌, ◌%◌, ◌<◌, eqb, leb, get_or, take, drop, replicate}
+use Rattle.std.specs.Prelude.{Bool, true, ◌&&◌, List, [], ◌∷◌, ◌++◌, map, ℕ, zero, suc, ◌+◌, ◌*◌, ◌/◌, ◌%◌, ◌<◌, eq, leb, get_or, take, drop, replicate}
 use Rattle.octets.specs.Lists.{All, flat}
 
 -- x is from lo to hi
@@ -12,13 +12,13 @@ be zero v = []
 be (suc w) v = be w (v / 256) ++ (v % 256 ∷ [])
 
 -- the number that octets are, after those that made a (RULES C2)
-abbrev pub valFrom : ℕ → List ℕ → ℕ
-valFrom a [] = a
-valFrom a (x ∷ xs) = valFrom (a * 256 + x) xs
+abbrev pub val_from : ℕ → List ℕ → ℕ
+val_from a [] = a
+val_from a (x ∷ xs) = val_from (a * 256 + x) xs
 
 -- the number that octets are (RULES C2)
 abbrev pub val : List ℕ → ℕ
-val l = valFrom 0 l
+val l = val_from 0 l
 
 -- the numbers of two and of four octets at an index (RULES C2)
 abbrev pub at16 : List ℕ → ℕ → ℕ
@@ -44,13 +44,13 @@ words [] = []
 words (a ∷ []) = []
 words (a ∷ b ∷ s) = (a * 256 + b) ∷ words s
 
-abbrev pub numbersOf : List ℕ → List ℕ
-numbersOf ws = flat (map (be 2) ws)
+abbrev pub numbers_of : List ℕ → List ℕ
+numbers_of ws = flat (map (be 2) ws)
 
 -- n zeros, and whether octets are all zero (RULES B7)
 abbrev pub zeros : ℕ → List ℕ
 zeros n = replicate n 0
 
-unfoldable pub allZero : List ℕ → Bool
-allZero [] = true
-allZero (x ∷ xs) = eqb x 0 && allZero xs
+unfoldable pub all_zero : List ℕ → Bool
+all_zero [] = true
+all_zero (x ∷ xs) = eq x 0 && all_zero xs

@@ -1,11 +1,11 @@
 -- The laws of numbers as octets, over the width: what is written is read, and what is read is written. Assumes nothing.
-use Rattle.std.specs.Prelude.{◌≡◌, refl, true, false, ◌↔◌, List, [], ◌∷◌, ◌++◌, ℕ, zero, suc, ◌+◌, ◌*◌, ◌/◌, ◌%◌, ◌^◌, ◌≤◌, ◌<◌, eqb, length, get_or, take, drop}
-use Rattle.std.proofs.Common.{sym, ap, ap₂, ◌∙◌, append-nil, mul_comm, mul_assoc, pow-suc, add-zero, zero-add, one-mul, add-suc, suc-add, add_assoc, add-one, arith, eqb-true, ne_eqb, length-append, length-drop, drop_of_length-le, take-suc, drop-cons, get_or-drop, take_at, drop_at}
+use Rattle.std.specs.Prelude.{◌≡◌, refl, true, false, ◌↔◌, List, [], ◌∷◌, ◌++◌, ℕ, zero, suc, ◌+◌, ◌*◌, ◌/◌, ◌%◌, ◌^◌, ◌≤◌, ◌<◌, eq, length, get_or, take, drop}
+use Rattle.std.proofs.Common.{sym, ap, ap₂, ◌∙◌, append-nil, mul_comm, mul_assoc, pow-suc, add-zero, zero-add, one-mul, add-suc, suc-add, add_assoc, add-one, arith, eq-true, ne_eqb, length-append, length-drop, drop_of_length-le, take-suc, drop-cons, get_or-drop, take_at, drop_at}
 use Rattle.std.proofs.Math.Bool.{and-eq-true_iff}
 use Rattle.std.proofs.Math.Seq.{append_snoc}
 use Rattle.std.proofs.lemmas.List.{take-append-le, drop-append-le}
 use Rattle.octets.specs.Lists.{All}
-use Rattle.octets.specs.Numbers.{be, val, valFrom, at16, at32, number_at, Bytes, words, numbersOf, zeros, allZero}
+use Rattle.octets.specs.Numbers.{be, val, val_from, at16, at32, number_at, Bytes, words, numbers_of, zeros, all_zero}
 
 pub bytes-at : (l : List ℕ) → ((i : ℕ) → get_or l i 0 < 256) → Bytes l
 bytes-at [] h = tt
@@ -15,7 +15,7 @@ pub length-be : (w v : ℕ) → length (be w v) ≡ w
 length-be zero v = refl
 length-be (suc w) v = length-append (be w (v / 256)) (v % 256 ∷ []) ∙ ap (λ (n : ℕ). n + 1) (length-be w (v / 256)) ∙ add-one w
 
-val-snoc : (a x : ℕ) (l : List ℕ) → valFrom a (l ++ (x ∷ [])) ≡ valFrom a l * 256 + x
+val-snoc : (a x : ℕ) (l : List ℕ) → val_from a (l ++ (x ∷ [])) ≡ val_from a l * 256 + x
 val-snoc a x [] = refl
 val-snoc a x (y ∷ ys) = val-snoc (a * 256 + y) x ys
 
@@ -27,7 +27,7 @@ val-be (suc w) v h =
     let k : v / 256 < 256 ^ w = omega arith in
     val-snoc 0 (v % 256) (be w (v / 256)) ∙ rw (val-be w (v / 256) k) (omega arith)
 
-be-from : (w a : ℕ) (l : List ℕ) → Bytes l → be (w + length l) (valFrom a l) ≡ be w a ++ l
+be-from : (w a : ℕ) (l : List ℕ) → Bytes l → be (w + length l) (val_from a l) ≡ be w a ++ l
 be-from w a [] h = rw (add-zero, append-nil)
 be-from w a (x ∷ xs) h =
     let q : (a * 256 + x) / 256 ≡ a = omega (arith, h.0) in
@@ -48,12 +48,12 @@ halves v =
     let e : v % 256 ≡ v % 65536 % 256 = omega arith in
     cc
 
-pub bytes-getD : (l : List ℕ) (i : ℕ) → Bytes l → get_or l i 0 < 256
-bytes-getD [] i h = omega arith
-bytes-getD (x ∷ xs) zero h = h.0
-bytes-getD (x ∷ xs) (suc i) h = bytes-getD xs i h.1
+pub bytes-get_or : (l : List ℕ) (i : ℕ) → Bytes l → get_or l i 0 < 256
+bytes-get_or [] i h = omega arith
+bytes-get_or (x ∷ xs) zero h = h.0
+bytes-get_or (x ∷ xs) (suc i) h = bytes-get_or xs i h.1
 
-val-small-from : (a m : ℕ) (l : List ℕ) → Bytes l → a < m → valFrom a l < m * 256 ^ length l
+val-small-from : (a m : ℕ) (l : List ℕ) → Bytes l → a < m → val_from a l < m * 256 ^ length l
 val-small-from a m [] h k = omega arith
 val-small-from a m (x ∷ xs) h k =
     let i = val-small-from (a * 256 + x) (m * 256) xs h.1 (omega (arith, h.0)) in
@@ -140,12 +140,12 @@ words-short (a ∷ b ∷ s) h = absurd (omega arith)
 pub words-end : (s : List ℕ) (i : ℕ) → length s ≤ i + 1 → words (drop i s) ≡ []
 words-end s i h = words-short (drop i s) (simp length-drop (omega arith))
 
-pub length-numbers : (ws : List ℕ) → length (numbersOf ws) ≡ 2 * length ws
+pub length-numbers : (ws : List ℕ) → length (numbers_of ws) ≡ 2 * length ws
 length-numbers [] = refl
 length-numbers (w ∷ ws) = let i = length-numbers ws in omega arith
 
 -- what was written is read
-pub words-numbers : (ws : List ℕ) → All (λ w. w < 65536) ws → words (numbersOf ws) ≡ ws
+pub words-numbers : (ws : List ℕ) → All (λ w. w < 65536) ws → words (numbers_of ws) ≡ ws
 unfolding words
 words-numbers [] h = refl
 words-numbers (w ∷ ws) h =
@@ -153,7 +153,7 @@ words-numbers (w ∷ ws) h =
     ap₂ (λ (x : ℕ) (l : List ℕ). x ∷ l) e (words-numbers ws h.1)
 
 -- and what was read is written
-pub numbers-words : (v : List ℕ) → Bytes v → length v % 2 ≡ 0 → numbersOf (words v) ≡ v
+pub numbers-words : (v : List ℕ) → Bytes v → length v % 2 ≡ 0 → numbers_of (words v) ≡ v
 unfolding words
 numbers-words [] o h = refl
 numbers-words (a ∷ []) o h = absurd (omega arith)
@@ -165,33 +165,33 @@ numbers-words (a ∷ b ∷ v) o h =
 -- ---- zeros
 
 -- one octet more, a nonzero octet, and none left: the turns of a loop over the octets
-pub zero_turn : (l : List ℕ) (i : ℕ) → i < length l → get_or l i 0 ≡ 0 → allZero (drop (i + 1) l) ≡ allZero (drop i l)
-unfolding allZero
+pub zero_turn : (l : List ℕ) (i : ℕ) → i < length l → get_or l i 0 ≡ 0 → all_zero (drop (i + 1) l) ≡ all_zero (drop i l)
+unfolding all_zero
 zero_turn l i h e = rw (add-one, drop-cons l i 0, e)
 
-pub zero-not : (l : List ℕ) (i : ℕ) → i < length l → (get_or l i 0 ≡ 0 → ⊥) → false ≡ allZero (drop i l)
-unfolding allZero
+pub zero-not : (l : List ℕ) (i : ℕ) → i < length l → (get_or l i 0 ≡ 0 → ⊥) → false ≡ all_zero (drop i l)
+unfolding all_zero
 zero-not l i h n = rw (drop-cons l i 0, ne_eqb (get_or l i 0) 0 n)
 
-pub zero-end : (l : List ℕ) (i : ℕ) → length l ≤ i → true ≡ allZero (drop i l)
-unfolding allZero
+pub zero-end : (l : List ℕ) (i : ℕ) → length l ≤ i → true ≡ all_zero (drop i l)
+unfolding all_zero
 zero-end l i h = rw (drop_of_length-le l h)
 
-pub zeros-zero : (n : ℕ) → allZero (zeros n) ≡ true
-unfolding allZero
+pub zeros-zero : (n : ℕ) → all_zero (zeros n) ≡ true
+unfolding all_zero
 zeros-zero zero = refl
 zeros-zero (suc n) = zeros-zero n
 
-pub zero-exactly : (l : List ℕ) → (allZero l ≡ true) ↔ All (λ x. x ≡ 0) l
-unfolding allZero
+pub zero-exactly : (l : List ℕ) → (all_zero l ≡ true) ↔ All (λ x. x ≡ 0) l
+unfolding all_zero
 zero-exactly [] = (λ _. tt, λ _. refl)
 zero-exactly (x ∷ xs) =
-    let both = and-eq-true_iff (eqb x 0) (allZero xs) in
+    let both = and-eq-true_iff (eq x 0) (all_zero xs) in
     let rest = zero-exactly xs in
-    (λ e. (eqb-true x 0 (both.0 e).0, rest.0 (both.0 e).1), λ h. both.1 (rw h.0, rest.1 h.1))
+    (λ e. (eq-true x 0 (both.0 e).0, rest.0 (both.0 e).1), λ h. both.1 (rw h.0, rest.1 h.1))
 
 -- so they are as many zeros
-pub zero-zeros : (l : List ℕ) → allZero l ≡ true → l ≡ zeros (length l)
+pub zero-zeros : (l : List ℕ) → all_zero l ≡ true → l ≡ zeros (length l)
 zero-zeros l h = zeros-are l ((zero-exactly l).0 h)
   where
     zeros-are : (l : List ℕ) → All (λ x. x ≡ 0) l → l ≡ zeros (length l)

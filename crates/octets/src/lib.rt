@@ -4,7 +4,7 @@
 // Nothing here knows of carriers, records or limits.
 ghost use Rattle.std.specs.Prelude.{◌≡◌, ◌+◌, ◌*◌, ◌^◌, ◌≤◌, ◌<◌, min, length, take, drop};
 ghost use Rattle.octets.specs.Lists as lists;
-ghost use Rattle.octets.specs.Numbers.{range, be, at16, at32, number_at, allZero};
+ghost use Rattle.octets.specs.Numbers.{range, be, at16, at32, number_at, all_zero};
 ghost use Rattle.octets.specs.Over.{Wrote};
 
 // The most octets that are held at once.
@@ -96,7 +96,7 @@ pub fn same(a: &[u8], b: &[u8]) -> bool
 
 // Whether all octets are zero.
 pub fn zeros(s: &[u8]) -> bool
-    ensures { result ≡ allZero s.now }
+    ensures { result ≡ all_zero s.now }
 {
     let mut i: usize = 0;
     while i < s.len() {

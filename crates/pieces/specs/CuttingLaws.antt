@@ -6,9 +6,9 @@ use Rattle.octets.specs.ListsLaws.{drop-take}
 use Rattle.octets.specs.Over.{Wrote}
 use Rattle.octets.specs.OverLaws.{wrote_none, then, over-behind}
 use Rattle.carriers.specs.declared.Carrier.TheVariants.{Dhcp4}
-use Rattle.frames.specs.Emit.{head_of, optionOf}
+use Rattle.frames.specs.Emit.{head_of, option_of}
 use Rattle.frames.specs.EmitLaws.{option-length}
-use Rattle.pieces.specs.Pieces.{cut_of, cutOctets}
+use Rattle.pieces.specs.Pieces.{cut_of, cut_octets}
 use Rattle.pieces.specs.PiecesLaws.{cut-none, cut_step}
 use Rattle.pieces.specs.Cutting.{Cutting}
 
@@ -21,7 +21,7 @@ wrote-behind {at} {r} {bs} {l} {l'} k w h = ap (λ (m : List ℕ). drop k m) w.l
 
 -- the body stood in the same buffer, behind the header
 pub piece-written : (from n : ℕ) {at k r : ℕ} {l l₁ l₂ : List ℕ} → from + n ≤ length l → k ≤ from → Wrote at (head_of Dhcp4 n) l k l₁
-    → Wrote k (take n (drop from l₁)) l₁ r l₂ → Wrote at (optionOf Dhcp4 (take n (drop from l))) l r l₂
+    → Wrote k (take n (drop from l₁)) l₁ r l₂ → Wrote at (option_of Dhcp4 (take n (drop from l))) l r l₂
 piece-written from n {at} {k} {r} {l} {l₁} {l₂} h e x y =
     let behind : drop from l₁ ≡ drop from l = wrote-behind from x e in
     let size : n ≡ length (take n (drop from l)) = simp (length-take, length-drop) (omega arith) in
@@ -47,13 +47,13 @@ drop-same (suc m) (suc n) [] e = absurd (omega arith)
 drop-same (suc m) (suc n) (x ∷ xs) e = drop-same m n xs (omega arith)
 
 -- what is left of j from i on, with an option of n octets in front
-cut-turn : (j : List ℕ) (i n : ℕ) → i < length j → n ≡ min 255 (length j - i) → cut_of (drop i j) ≡ optionOf Dhcp4 (take n (drop i j)) ++ cut_of (drop (i + n) j)
+cut-turn : (j : List ℕ) (i n : ℕ) → i < length j → n ≡ min 255 (length j - i) → cut_of (drop i j) ≡ option_of Dhcp4 (take n (drop i j)) ++ cut_of (drop (i + n) j)
 cut-turn j i n h e =
     let d : length (drop i j) ≡ length j - i = length-drop i j in
     let k : n ≡ min 255 (length (drop i j)) = omega arith in
     cut_step (drop i j) (omega arith)
-    ∙ ap (λ (t : List ℕ). optionOf Dhcp4 t ++ cut_of (drop 255 (drop i j))) (take_same 255 n (drop i j) k)
-    ∙ ap (λ (d : List ℕ). optionOf Dhcp4 (take n (drop i j)) ++ cut_of d) (drop-same 255 n (drop i j) k ∙ drop-drop n i j)
+    ∙ ap (λ (t : List ℕ). option_of Dhcp4 t ++ cut_of (drop 255 (drop i j))) (take_same 255 n (drop i j) k)
+    ∙ ap (λ (d : List ℕ). option_of Dhcp4 (take n (drop i j)) ++ cut_of d) (drop-same 255 n (drop i j) k ∙ drop-drop n i j)
 
 -- k of n elements from an index, after i of them
 part_of : (from n i k : ℕ) (l : List ℕ) → i + k ≤ n → take k (drop i (take n (drop from l))) ≡ take k (drop (from + i) l)
@@ -75,22 +75,22 @@ module _ {from n : ℕ} {out₀ : List ℕ} {i o : ℕ} {out : List ℕ} (k : �
       ∙ sym (part_of from n i k out₀ (omega arith))
 
   cutting-whole : from + n ≤ length out₀ → cut_of (take n (drop from out₀))
-      ≡ (c.passed ++ optionOf Dhcp4 (take k (drop (from + i) out))) ++ cut_of (drop (i + k) (take n (drop from out₀)))
+      ≡ (c.passed ++ option_of Dhcp4 (take k (drop (from + i) out))) ++ cut_of (drop (i + k) (take n (drop from out₀)))
   cutting-whole h =
       let j : List ℕ = take n (drop from out₀) in
       let size : length j ≡ n = simp (length-take, length-drop) (omega arith) in
       c.whole ∙ ap (λ (r : List ℕ). c.passed ++ r) (cut-turn j i k (omega arith) (omega arith))
-      ∙ sym (append_assoc c.passed (optionOf Dhcp4 (take k (drop i j))) (cut_of (drop (i + k) j)))
-      ∙ ap (λ (b : List ℕ). (c.passed ++ optionOf Dhcp4 b) ++ cut_of (drop (i + k) j)) (sym cutting-body)
+      ∙ sym (append_assoc c.passed (option_of Dhcp4 (take k (drop i j))) (cut_of (drop (i + k) j)))
+      ∙ ap (λ (b : List ℕ). (c.passed ++ option_of Dhcp4 b) ++ cut_of (drop (i + k) j)) (sym cutting-body)
 
   -- the next option, written
-  pub cutting-turn : {o' : ℕ} {out' : List ℕ} → from + n ≤ length out₀ → Wrote o (optionOf Dhcp4 (take k (drop (from + i) out))) out o' out'
+  pub cutting-turn : {o' : ℕ} {out' : List ℕ} → from + n ≤ length out₀ → Wrote o (option_of Dhcp4 (take k (drop (from + i) out))) out o' out'
       → length out' ≡ length out → Cutting from n out₀ (i + k) o' out'
   cutting-turn h w l =
       let b : List ℕ = take k (drop (from + i) out) in
       let size : length b ≡ k = simp (length-take, length-drop) (omega (arith, c.same)) in
       record {
-        passed = c.passed ++ optionOf Dhcp4 b;
+        passed = c.passed ++ option_of Dhcp4 b;
         within = omega arith;
         wrote = then c.wrote w;
         whole = cutting-whole h;
@@ -98,7 +98,7 @@ module _ {from n : ℕ} {out₀ : List ℕ} {i o : ℕ} {out : List ℕ} (k : �
         same = l ∙ c.same;
       }
 
-pub cutting-start : {from n : ℕ} {out₀ : List ℕ} → from + n ≡ cutOctets n → Cutting from n out₀ 0 0 out₀
+pub cutting-start : {from n : ℕ} {out₀ : List ℕ} → from + n ≡ cut_octets n → Cutting from n out₀ 0 0 out₀
 cutting-start h = record { passed = []; within = omega arith; wrote = wrote_none (omega arith); whole = refl; room = omega arith; same = refl }
 
 pub cutting-done : {from n : ℕ} {out₀ : List ℕ} {i o : ℕ} {out : List ℕ} → Cutting from n out₀ i o out → n ≤ i → Wrote 0 (cut_of (take n (drop from out₀))) out₀ o out

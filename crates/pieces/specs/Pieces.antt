@@ -2,7 +2,7 @@
 -- Assumes nothing: these are definitions.
 use Rattle.std.specs.Prelude.{List, [], ◌∷◌, ℕ, zero, suc, ◌+◌, ◌*◌, ◌/◌, length, take, drop}
 use Rattle.carriers.specs.declared.Carrier.TheVariants.{Dhcp4}
-use Rattle.frames.specs.Emit.{optionsOf}
+use Rattle.frames.specs.Emit.{options_of}
 
 -- n pieces from the front of l, 255 octets each as long as there are so many (RULES E2)
 abbrev pub chunks : ℕ → List ℕ → List (List ℕ)
@@ -15,8 +15,8 @@ pieces l = chunks ((length l + 254) / 255) l
 
 -- an option for each piece (RULES E2)
 unfoldable pub cut_of : List ℕ → List ℕ
-cut_of l = optionsOf Dhcp4 (pieces l)
+cut_of l = options_of Dhcp4 (pieces l)
 
 -- octets of the options of n joined octets (RULES E2)
-abbrev pub cutOctets : ℕ → ℕ
-cutOctets n = n + 2 * ((n + 254) / 255)
+abbrev pub cut_octets : ℕ → ℕ
+cut_octets n = n + 2 * ((n + 254) / 255)

@@ -5,9 +5,9 @@ use Rattle.std.proofs.Common.{ap, ◌∙◌, arith, length-append, length-take, 
 use Rattle.octets.specs.Lists.{All, flat}
 use Rattle.carriers.specs.declared.Carrier.TheVariants.{Dhcp4}
 use Rattle.frames.specs.Frame.{frame, framed}
-use Rattle.frames.specs.Emit.{optionOf, Fits, optionsOf}
+use Rattle.frames.specs.Emit.{option_of, Fits, options_of}
 use Rattle.frames.specs.EmitLaws.{option-length, frame-options}
-use Rattle.pieces.specs.Pieces.{chunks, pieces, cut_of, cutOctets}
+use Rattle.pieces.specs.Pieces.{chunks, pieces, cut_of, cut_octets}
 
 -- nothing for no octets
 pub cut-none : cut_of [] ≡ []
@@ -41,23 +41,23 @@ frame-cut l = frame-options Dhcp4 (pieces l) (pieces-fit l)
 
 -- ---- octets
 
-chunks-length : (n : ℕ) (l : List ℕ) → length l ≤ 255 * n → length (optionsOf Dhcp4 (chunks n l)) ≡ length l + 2 * n
+chunks-length : (n : ℕ) (l : List ℕ) → length l ≤ 255 * n → length (options_of Dhcp4 (chunks n l)) ≡ length l + 2 * n
 chunks-length zero [] h = refl
 chunks-length zero (x ∷ l) h = absurd (omega arith)
 chunks-length (suc n) l h =
     let t = length-take 255 l in
     let d = length-drop 255 l in
     let i = chunks-length n (drop 255 l) (omega arith) in
-    length-append (optionOf Dhcp4 (take 255 l)) (optionsOf Dhcp4 (chunks n (drop 255 l))) ∙ omega (arith, option-length Dhcp4 (take 255 l))
+    length-append (option_of Dhcp4 (take 255 l)) (options_of Dhcp4 (chunks n (drop 255 l))) ∙ omega (arith, option-length Dhcp4 (take 255 l))
 
-pub cut-length : (l : List ℕ) → length (cut_of l) ≡ cutOctets (length l)
+pub cut-length : (l : List ℕ) → length (cut_of l) ≡ cut_octets (length l)
 unfolding cut_of pieces
 cut-length l = chunks-length ((length l + 254) / 255) l (omega arith)
 
 -- how octets that are there are cut
-pub cut_step : (l : List ℕ) → 0 < length l → cut_of l ≡ optionOf Dhcp4 (take 255 l) ++ cut_of (drop 255 l)
+pub cut_step : (l : List ℕ) → 0 < length l → cut_of l ≡ option_of Dhcp4 (take 255 l) ++ cut_of (drop 255 l)
 unfolding cut_of pieces
 cut_step l h =
     let d : length (drop 255 l) ≡ length l - 255 = length-drop 255 l in
     let e : (length l + 254) / 255 ≡ suc ((length (drop 255 l) + 254) / 255) = omega arith in
-    ap (λ (n : ℕ). optionsOf Dhcp4 (chunks n l)) e
+    ap (λ (n : ℕ). options_of Dhcp4 (chunks n l)) e

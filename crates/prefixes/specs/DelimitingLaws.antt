@@ -7,11 +7,11 @@ use Rattle.octets.specs.Numbers.{be, val}
 use Rattle.octets.specs.NumbersLaws.{length-be, val-be}
 use Rattle.octets.specs.Lists.{All, flat}
 use Rattle.octets.specs.ListsLaws.{part_apart, flat_map_append}
-use Rattle.octets.specs.Fields.{putCounted}
+use Rattle.octets.specs.Fields.{put_counted}
 use Rattle.carriers.specs.declared.Carrier.{Carrier}
-use Rattle.carriers.specs.Carriers.{code_of, headWidth, headerOf, in_eights}
-use Rattle.frames.specs.Emit.{lengthIn, head_of, optionOf, Fits}
-use Rattle.frames.specs.Frame.{wholeSize}
+use Rattle.carriers.specs.Carriers.{code_of, head_width, header_of, in_eights}
+use Rattle.frames.specs.Emit.{length_in, head_of, option_of, Fits}
+use Rattle.frames.specs.Frame.{whole_size}
 use Rattle.frames.specs.EmitLaws.{said}
 use Rattle.prefixes.specs.Prefix.{Leading, SelfDelimiting}
 
@@ -46,32 +46,32 @@ number-apart w m n x y hm hn q =
     (sym (val-be w m hm) ∙ ap val both.0 ∙ val-be w n hn, both.1)
 
 -- octets after their count, a number of w octets
-pub counted-apart : (w : ℕ) (a b x y : List ℕ) → length a < 256 ^ w → length b < 256 ^ w → putCounted w a x ≡ putCounted w b y → (a ≡ b) × (x ≡ y)
+pub counted-apart : (w : ℕ) (a b x y : List ℕ) → length a < 256 ^ w → length b < 256 ^ w → put_counted w a x ≡ put_counted w b y → (a ≡ b) × (x ≡ y)
 counted-apart w a b x y ha hb q =
     let both = number-apart w (length a) (length b) (a ++ x) (b ++ y) ha hb q in
     part_apart a b x y both.0 both.1
 
 -- a header says how many octets follow
-saying : (c : Carrier) (b : List ℕ) → Fits c b → let size : ℕ = lengthIn c (length b) in
-    (size < 256 ^ headWidth c) × (wholeSize (in_eights c) (headerOf c) size ≡ headerOf c + length b)
-saying c b f = said (in_eights c) (headerOf c) (headWidth c) (length b) f
+saying : (c : Carrier) (b : List ℕ) → Fits c b → let size : ℕ = length_in c (length b) in
+    (size < 256 ^ head_width c) × (whole_size (in_eights c) (header_of c) size ≡ header_of c + length b)
+saying c b f = said (in_eights c) (header_of c) (head_width c) (length b) f
 
-said-length : (c : Carrier) (a b : List ℕ) → Fits c a → Fits c b → lengthIn c (length a) ≡ lengthIn c (length b) → length a ≡ length b
+said-length : (c : Carrier) (a b : List ℕ) → Fits c a → Fits c b → length_in c (length a) ≡ length_in c (length b) → length a ≡ length b
 said-length c a b f g e =
-    let same : headerOf c + length a ≡ headerOf c + length b = sym (saying c a f).1 ∙ ap (wholeSize (in_eights c) (headerOf c)) e ∙ (saying c b g).1 in
+    let same : header_of c + length a ≡ header_of c + length b = sym (saying c a f).1 ∙ ap (whole_size (in_eights c) (header_of c)) e ∙ (saying c b g).1 in
     omega arith
 
-option-open : (c : Carrier) (b x : List ℕ) → optionOf c b ++ x ≡ be (headWidth c) (code_of c) ++ (be (headWidth c) (lengthIn c (length b)) ++ (b ++ x))
+option-open : (c : Carrier) (b x : List ℕ) → option_of c b ++ x ≡ be (head_width c) (code_of c) ++ (be (head_width c) (length_in c (length b)) ++ (b ++ x))
 option-open c b x =
     append_assoc (head_of c (length b)) b x
-    ∙ append_assoc (be (headWidth c) (code_of c)) (be (headWidth c) (lengthIn c (length b))) (b ++ x)
+    ∙ append_assoc (be (head_width c) (code_of c)) (be (head_width c) (length_in c (length b))) (b ++ x)
 
 -- bodies that their header can say, each after it
-pub option-apart : (c : Carrier) → SelfDelimiting (Fits c) (optionOf c)
+pub option-apart : (c : Carrier) → SelfDelimiting (Fits c) (option_of c)
 option-apart c a b x y f g q =
-    let w : ℕ = headWidth c in
-    let m : ℕ = lengthIn c (length a) in
-    let n : ℕ = lengthIn c (length b) in
+    let w : ℕ = head_width c in
+    let m : ℕ = length_in c (length a) in
+    let n : ℕ = length_in c (length b) in
     let same : be w m ++ (a ++ x) ≡ be w n ++ (b ++ y) =
     append_cancel_left (be w (code_of c)) (be w m ++ (a ++ x)) (be w n ++ (b ++ y)) (sym (option-open c a x) ∙ q ∙ option-open c b y) in
     let both = number-apart w m n (a ++ x) (b ++ y) (saying c a f).0 (saying c b g).0 same in

@@ -9,34 +9,34 @@ use Rattle.carriers.specs.declared.Carrier.{Carrier}
 use Rattle.carriers.specs.declared.Carrier.TheVariants.{Dhcp4}
 use Rattle.carriers.specs.Carriers.{code_of}
 use Rattle.carriers.specs.CarriersLaws.{by-joined}
-use Rattle.frames.specs.Emit.{optionOf, Fits, optionsOf}
+use Rattle.frames.specs.Emit.{option_of, Fits, options_of}
 use Rattle.frames.specs.Area.{IsOption, Area, none, own}
 use Rattle.frames.specs.AreaLaws.{area-once}
 use Rattle.blocks.specs.Block.{Fields}
 use Rattle.taking.specs.Sheet.{IsSheet}
 use Rattle.pieces.specs.Pieces.{pieces, cut_of}
 use Rattle.pieces.specs.PiecesLaws.{pieces-fit, pieces-flat}
-use Rattle.layouts.specs.Layouts.{streamOf}
-use Rattle.written.specs.Octets.{octetsOf}
+use Rattle.layouts.specs.Layouts.{stream_of}
+use Rattle.written.specs.Octets.{octets_of}
 use Rattle.written.specs.Defined.{Defined}
 use Rattle.written.specs.DefinedLaws.{defined-sheet}
 use Rattle.prefixes.specs.Prefix.{JoinedOctets}
 
 -- ---- carrier 1: options that are written are a run of options
 
-option_is : (b : List ℕ) → Fits Dhcp4 b → IsOption Dhcp4 (optionOf Dhcp4 b) (code_of Dhcp4) b
+option_is : (b : List ℕ) → Fits Dhcp4 b → IsOption Dhcp4 (option_of Dhcp4 b) (code_of Dhcp4) b
 option_is b f = record {
   stands = code_of Dhcp4;
   size = length b;
   laid = refl;
-  stands-room = omega arith;
+  stands_room = omega arith;
   size_room = f;
   code_is = refl;
   says = refl;
   unmarked = λ _. (λ z. omega arith, λ z. omega arith);
 }
 
-options-area : (bs : List (List ℕ)) → All (Fits Dhcp4) bs → Area Dhcp4 (optionsOf Dhcp4 bs) bs
+options-area : (bs : List (List ℕ)) → All (Fits Dhcp4) bs → Area Dhcp4 (options_of Dhcp4 bs) bs
 options-area [] f = none
 options-area (b ∷ bs) f = own (option_is b f.0) (options-area bs f.1)
 
@@ -53,14 +53,14 @@ cut-joined l x = (
 -- ---- every carrier
 
 -- the octets of records, joined again, are the records one after another, and only these
-pub joined-exactly : (c : Carrier) (rs : List Fields) (x : List ℕ) → JoinedOctets c (octetsOf c rs) x ↔ (x ≡ streamOf c rs)
-unfolding octetsOf
+pub joined-exactly : (c : Carrier) (rs : List Fields) (x : List ℕ) → JoinedOctets c (octets_of c rs) x ↔ (x ≡ stream_of c rs)
+unfolding octets_of
 joined-exactly =
-    by-joined (λ c. (rs : List Fields) (x : List ℕ) → (JoinedOctets c (octetsOf c rs) x ↔ (x ≡ streamOf c rs)))
-    (λ rs x. cut-joined (streamOf Dhcp4 rs) x)
+    by-joined (λ c. (rs : List Fields) (x : List ℕ) → (JoinedOctets c (octets_of c rs) x ↔ (x ≡ stream_of c rs)))
+    (λ rs x. cut-joined (stream_of Dhcp4 rs) x)
     (λ c e rs x. rw e Iff·rfl)
 
 -- so there are joined octets of the octets defined for a sheet, and only one
 pub joined-defined : (c : Carrier) (s octets x : List ℕ) (rs : List Fields) → Bytes s → IsSheet s c rs → Defined s octets
-    → JoinedOctets c octets x ↔ (x ≡ streamOf c rs)
+    → JoinedOctets c octets x ↔ (x ≡ stream_of c rs)
 joined-defined c s octets x rs bytes i d = rw (defined-sheet s bytes i d).1 (joined-exactly c rs x)

@@ -4,7 +4,7 @@ use Rattle.std.specs.Prelude.{◌≡◌, Bool, true, false, List, ◌++◌, ℕ}
 use Rattle.octets.specs.Lists.{flat}
 use Rattle.carriers.specs.declared.Carrier.{Carrier}
 use Rattle.carriers.specs.declared.Carrier.TheVariants.{Dhcp4}
-use Rattle.carriers.specs.Carriers.{isJoined}
+use Rattle.carriers.specs.Carriers.{is_joined}
 use Rattle.frames.specs.Area.{Area}
 
 -- b begins with a; something may follow, or nothing (RULES D3)
@@ -23,4 +23,4 @@ JoinedBy true octets joined = (bodies : List (List ℕ)) × Area Dhcp4 octets bo
 JoinedBy false octets joined = joined ≡ octets
 
 abbrev pub JoinedOctets : Carrier → List ℕ → List ℕ → Type 0
-JoinedOctets c = JoinedBy (isJoined c)
+JoinedOctets c = JoinedBy (is_joined c)

@@ -13,7 +13,7 @@ use Rattle.carriers.specs.declared.Carrier.{Carrier}
 use Rattle.carriers.specs.declared.Carrier.TheVariants.{Dhcp4}
 use Rattle.carriers.specs.declared.Chosen.{Chosen}
 use Rattle.carriers.specs.declared.Chosen.TheVariants.{Known, Unknown}
-use Rattle.carriers.specs.Carriers.{chosen_of, isJoined}
+use Rattle.carriers.specs.Carriers.{chosen_of, is_joined}
 use Rattle.carriers.specs.CarriersLaws.{other-joined}
 use Rattle.octets.specs.Lists.{flat}
 use Rattle.frames.specs.Frame.{Framed, framed, frame}
@@ -22,72 +22,72 @@ use Rattle.frames.specs.declared.Joined.{Joined}
 use Rattle.frames.specs.Gather.{Several, Joins}
 use Rattle.frames.specs.GatherLaws.{joins-whole}
 use Rattle.frames.specs.declared.Step.{Step}
-use Rattle.frames.specs.Step.{stepAt}
+use Rattle.frames.specs.Step.{step_at}
 use Rattle.frames.specs.WalkLaws.{walked_end, walked-fault}
 use Rattle.blocks.specs.Block.{Fields}
-use Rattle.records.specs.Records.{recordOf}
-use Rattle.sheets.specs.Sheets.{frontSize, sheetOf}
+use Rattle.records.specs.Records.{record_of}
+use Rattle.sheets.specs.Sheets.{front_size, sheet_of}
 use Rattle.sheets.specs.SheetsLaws.{length-sheet}
 use Rattle.reading.specs.declared.Reading.{Reading}
-use Rattle.reading.specs.Reading.{joinedYield, alone, yieldOf, inOrder, readYields, readBlocks, readFramed, readArea, readChosen, read_of}
+use Rattle.reading.specs.Reading.{joined_yield, alone, yield_of, in_order, read_yields, read_blocks, read_framed, read_area, read_chosen, read_of}
 use Rattle.reading.specs.Result.{Yield, arrivals, Done, Answer, refuse, done, told, left, Reads}
-use Rattle.reading.specs.Tally.{recordsAt, Tally, Shows, answer_of}
+use Rattle.reading.specs.Tally.{records_at, Tally, Shows, answer_of}
 use Rattle.reading.specs.ListLaws.{sort-laid}
 use Rattle.reading.specs.Walks.{Tallying}
 
 module _ (c : Carrier) (source : List ℕ) (room : ℕ) where
   -- a tally that shows what blocks yield answers for them
-  pub answer-yields : {ys : List Yield} {t : Tally} → Shows c source ys t → answer_of c source t room ≡ readYields c ys room
+  pub answer-yields : {ys : List Yield} {t : Tally} → Shows c source ys t → answer_of c source t room ≡ read_yields c ys room
   unfolding answer_of
   answer-yields {ys} {t} s = go (ltb limit.records (length rs)) refl
     where
       rs : List Fields
       rs = arrivals ys
 
-      go : (b : Bool) → ltb limit.records (length rs) ≡ b → answer_of c source t room ≡ readYields c ys room
+      go : (b : Bool) → ltb limit.records (length rs) ≡ b → answer_of c source t room ≡ read_yields c ys room
       go true e =
           let more : t.held.more ≡ true = s.holds.more ∙ e in
           rw (more, e)
       go false e =
           let more : t.held.more ≡ false = s.holds.more ∙ e in
           let l = s.holds.lists (ltb-false _ _ e) in
-          let size : t.held.size ≡ length (sheetOf c (inOrder rs)) =
+          let size : t.held.size ≡ length (sheet_of c (in_order rs)) =
           l.size
           ∙ length-sheet c rs
-          ∙ ap (λ (n : ℕ). frontSize + n) (sym (sort-laid (recordOf c) (λ (f : Fields). f.priority) rs))
-          ∙ sym (length-sheet c (inOrder rs)) in
+          ∙ ap (λ (n : ℕ). front_size + n) (sym (sort-laid (record_of c) (λ (f : Fields). f.priority) rs))
+          ∙ sym (length-sheet c (in_order rs)) in
           rw (more, e, l.records, size, s.found, s.discarded, s.first)
 
 -- ---- carriers 2 to 5
 
 module _ (c : Carrier) (area : List ℕ) (room : ℕ) {at : ℕ} {t : Tally} (g : Tallying c area at t) where
   -- at the area's end the tally answers for it
-  pub answer-end : (c ≡ Dhcp4 → ⊥) → stepAt c area at ≡ Step.End → readFramed c (frame c area) room ≡ answer_of c area t room
+  pub answer-end : (c ≡ Dhcp4 → ⊥) → step_at c area at ≡ Step.End → read_framed c (frame c area) room ≡ answer_of c area t room
   answer-end n e =
       let j = other-joined c n in
-      ap (λ (f : Framed). readFramed c f room) (walked_end c area g.walked e)
-      ∙ ap (λ (b : Bool). readBlocks c (cond b (joined g.bodies) g.bodies) room) j
+      ap (λ (f : Framed). read_framed c f room) (walked_end c area g.walked e)
+      ∙ ap (λ (b : Bool). read_blocks c (cond b (joined g.bodies) g.bodies) room) j
       ∙ sym (answer-yields c area room (shown j))
     where
-      shown : isJoined c ≡ false → Shows c area (map (yieldOf c) g.bodies) t
-      shown j = subst⁻¹ (λ (b : Bool). Shows c area (map (λ l. cond b (joinedYield l) (alone c l)) g.bodies) t) j g.shows
+      shown : is_joined c ≡ false → Shows c area (map (yield_of c) g.bodies) t
+      shown j = subst⁻¹ (λ (b : Bool). Shows c area (map (λ l. cond b (joined_yield l) (alone c l)) g.bodies) t) j g.shows
 
   -- where the walk cannot go on, the area cannot be framed
-  pub answer-fault : stepAt c area at ≡ Step.Fault → readFramed c (frame c area) room ≡ refuse refusal.framing
-  answer-fault e = ap (λ (f : Framed). readFramed c f room) (walked-fault c area g.walked e)
+  pub answer-fault : step_at c area at ≡ Step.Fault → read_framed c (frame c area) room ≡ refuse refusal.framing
+  answer-fault e = ap (λ (f : Framed). read_framed c f room) (walked-fault c area g.walked e)
 
 -- ---- carrier 1
 
 -- no option 162
-pub answer-absent : (room : ℕ) {f : Framed} → f ≡ framed [] → readFramed Dhcp4 f room ≡ readBlocks Dhcp4 [] room
-answer-absent room e = ap (λ (x : Framed). readFramed Dhcp4 x room) e
+pub answer-absent : (room : ℕ) {f : Framed} → f ≡ framed [] → read_framed Dhcp4 f room ≡ read_blocks Dhcp4 [] room
+answer-absent room e = ap (λ (x : Framed). read_framed Dhcp4 x room) e
 
 -- one or more: their data joined
 pub answer-joined : (source : List ℕ) (room : ℕ) {f : Framed} (bs : List (List ℕ)) → f ≡ framed bs → 0 < length bs → source ≡ flat bs
-    → readFramed Dhcp4 f room ≡ readBlocks Dhcp4 (source ∷ []) room
+    → read_framed Dhcp4 f room ≡ read_blocks Dhcp4 (source ∷ []) room
 answer-joined source room [] e h q = absurd (omega arith)
 answer-joined source room (b ∷ bs) e h q =
-    ap (λ (x : Framed). readFramed Dhcp4 x room) e ∙ ap (λ (l : List ℕ). readBlocks Dhcp4 (l ∷ []) room) (sym q)
+    ap (λ (x : Framed). read_framed Dhcp4 x room) e ∙ ap (λ (l : List ℕ). read_blocks Dhcp4 (l ∷ []) room) (sym q)
 
 -- several: what `join` wrote at the front of its buffer
 module _ (area l l' : List ℕ) (n : ℕ) (j : Joins (frame Dhcp4 area) l (Joined.Whole n) l') where
@@ -104,7 +104,7 @@ module _ (area l l' : List ℕ) (n : ℕ) (j : Joins (frame Dhcp4 area) l (Joine
   pub many-length : length (take n l') ≡ n
   many-length = omega (arith, ap length many-front, many-wrote.2.next)
 
-  pub answer-many : (room : ℕ) → Several (frame Dhcp4 area) → readFramed Dhcp4 (frame Dhcp4 area) room ≡ readBlocks Dhcp4 (take n l' ∷ []) room
+  pub answer-many : (room : ℕ) → Several (frame Dhcp4 area) → read_framed Dhcp4 (frame Dhcp4 area) room ≡ read_blocks Dhcp4 (take n l' ∷ []) room
   answer-many room g =
       let several : 2 ≤ length many-wrote.0 = subst Several many-wrote.1 g refl in
       answer-joined (take n l') room many-wrote.0 many-wrote.1 (omega arith) many-front
@@ -123,7 +123,7 @@ module _ (c : Carrier) (source : List ℕ) (t : Tally) (room : ℕ) where
   pub answer-done : t.held.more ≡ false → t.held.size ≤ room
       → answer_of c source t room
       ≡ done (record {
-        sheet = sheetOf c (inOrder (recordsAt c source t.held.slots));
+        sheet = sheet_of c (in_order (records_at c source t.held.slots));
         found = t.found;
         discarded = t.discarded;
         fault = t.first.fault;
@@ -137,17 +137,17 @@ module _ (c : Carrier) (source : List ℕ) (t : Tally) (room : ℕ) where
 module _ (n : ℕ) (s : List ℕ) (room : ℕ) where
   pub read-unknown : chosen_of n ≡ Unknown → read_of n s room ≡ refuse refusal.carrier
   unfolding read_of
-  read-unknown e = ap (λ (k : Chosen). readChosen k s room) e
+  read-unknown e = ap (λ (k : Chosen). read_chosen k s room) e
 
   module _ {c : Carrier} (e : chosen_of n ≡ Known c) where
-    known : read_of n s room ≡ readArea c s room
+    known : read_of n s room ≡ read_area c s room
     unfolding read_of
-    known = ap (λ (k : Chosen). readChosen k s room) e
+    known = ap (λ (k : Chosen). read_chosen k s room) e
 
     pub read-long : limit.input < length s → read_of n s room ≡ refuse refusal.input
     read-long h = known ∙ rw (lt-ltb limit.input (length s) h)
 
-    pub read_known : length s ≤ limit.input → read_of n s room ≡ readFramed c (frame c s) room
+    pub read_known : length s ≤ limit.input → read_of n s room ≡ read_framed c (frame c s) room
     read_known h = known ∙ rw (le-ltb limit.input (length s) h)
 
 -- ---- what the call gives back

@@ -3,7 +3,7 @@ use Rattle.std.specs.Prelude.{◌≡◌, refl, List, [], ◌∷◌, ◌++◌, �
 use Rattle.std.proofs.Common.{ap, ◌∙◌, ⊎_elim, append-nil, add-one, arith, length-append, take-suc}
 use Rattle.std.proofs.Math.Seq.{split_at}
 use Rattle.octets.specs.ListsLaws.{flat_map_append}
-use Rattle.order.specs.Order.{ins, stableSort}
+use Rattle.order.specs.Order.{ins, stable_sort}
 use Rattle.order.specs.OrderLaws.{le-or-lt, ins-ahead, ins-past}
 use Rattle.reading.specs.Walks.{laid}
 
@@ -32,6 +32,6 @@ module _ {A : Type 0} (f : A → List ℕ) where
         (le-or-lt (key x) (key y))
 
     -- the order does not change how many octets there are
-    pub sort-laid : (l : List A) → length (laid f (stableSort key l)) ≡ length (laid f l)
+    pub sort-laid : (l : List A) → length (laid f (stable_sort key l)) ≡ length (laid f l)
     sort-laid [] = refl
-    sort-laid (x ∷ xs) = omega (arith, ins-laid x (stableSort key xs), sort-laid xs, length-append (f x) (laid f xs))
+    sort-laid (x ∷ xs) = omega (arith, ins-laid x (stable_sort key xs), sort-laid xs, length-append (f x) (laid f xs))

@@ -19,14 +19,14 @@ single (faulty j) = discarded j
 single (kept r) = yields (r ∷ [])
 
 -- a block with a fault brings no record (RULES T2)
-abbrev pub recordsIn : Yield → List Fields
-recordsIn (discarded j) = []
-recordsIn (yields rs) = rs
+abbrev pub records_in : Yield → List Fields
+records_in (discarded j) = []
+records_in (yields rs) = rs
 
 -- the records of all blocks, in order of arrival (RULES S5)
 abbrev pub arrivals : List Yield → List Fields
 arrivals [] = []
-arrivals (y ∷ ys) = recordsIn y ++ arrivals ys
+arrivals (y ∷ ys) = records_in y ++ arrivals ys
 
 -- 1 for a block that is discarded (RULES W9)
 abbrev pub discards : Yield → ℕ
@@ -34,18 +34,18 @@ discards (discarded j) = 1
 discards (yields rs) = 0
 
 -- how many blocks are discarded (RULES W10)
-abbrev pub discardedIn : List Yield → ℕ
-discardedIn [] = 0
-discardedIn (y ∷ ys) = discards y + discardedIn ys
+abbrev pub discarded_in : List Yield → ℕ
+discarded_in [] = 0
+discarded_in (y ∷ ys) = discards y + discarded_in ys
 
 -- the first discarded block's fault and place, or 0 and 0 (RULES W10, W11)
-abbrev pub orFault : Yield → Judged → Judged
-orFault (discarded j) later = j
-orFault (yields rs) later = later
+abbrev pub or_fault : Yield → Judged → Judged
+or_fault (discarded j) later = j
+or_fault (yields rs) later = later
 
-abbrev pub firstFault : List Yield → Judged
-firstFault [] = judged 0 0
-firstFault (y ∷ ys) = orFault y (firstFault ys)
+abbrev pub first_fault : List Yield → Judged
+first_fault [] = judged 0 0
+first_fault (y ∷ ys) = or_fault y (first_fault ys)
 
 -- what a reading that is done gives back, and its sheet (RULES W10, W11)
 pub record Done : Type 0 where

@@ -16,12 +16,12 @@ use Rattle.octets.specs.Lists.{All}
 use Rattle.order.specs.Listed.{listed}
 use Rattle.records.specs.declared.Examined.{Examined}
 use Rattle.records.specs.Records.{Outcome, faulty, kept}
-use Rattle.records.specs.Yielded.{outcomeOf}
-use Rattle.records.specs.Examined.{examinedOf, Clean, Kept}
-use Rattle.sheets.specs.Sheets.{frontSize, sheetOf}
+use Rattle.records.specs.Yielded.{outcome_of}
+use Rattle.records.specs.Examined.{examined_of, Clean, Kept}
+use Rattle.sheets.specs.Sheets.{front_size, sheet_of}
 use Rattle.reading.specs.declared.Counts.{Counts}
-use Rattle.reading.specs.Reading.{inOrder}
-use Rattle.reading.specs.Result.{Yield, arrivals, discardedIn, firstFault, Answer, refuse, done}
+use Rattle.reading.specs.Reading.{in_order}
+use Rattle.reading.specs.Result.{Yield, arrivals, discarded_in, first_fault, Answer, refuse, done}
 
 -- ---- buffers
 
@@ -39,23 +39,23 @@ abbrev pub body_at : List ℕ → Slot → List ℕ
 body_at source s = take s.length (drop s.place source)
 
 -- the record of an outcome; a fault has none, and is read as fields of nothing
-abbrev pub recordIn : Outcome → Fields
-recordIn (faulty j) = record { priority = 0; lifetime = 0; full = false; name = []; addresses = []; parameters = [] }
-recordIn (kept r) = r
+abbrev pub record_in : Outcome → Fields
+record_in (faulty j) = record { priority = 0; lifetime = 0; full = false; name = []; addresses = []; parameters = [] }
+record_in (kept r) = r
 
-abbrev pub recordAt : Carrier → List ℕ → Slot → Fields
-recordAt c source s = recordIn (outcomeOf c (body_at source s))
+abbrev pub record_at : Carrier → List ℕ → Slot → Fields
+record_at c source s = record_in (outcome_of c (body_at source s))
 
 -- a slot's body stands in the source, yields a record that has the slot's priority, and is clean where that is claimed
 pub record Good (c : Carrier) (source : List ℕ) (claimed : Bool) (s : Slot) : Type 0 where
   pub within : s.place + s.length ≤ length source
-  pub yields : Kept (outcomeOf c (body_at source s))
-  pub ranked : (recordAt c source s).priority ≡ s.priority
+  pub yields : Kept (outcome_of c (body_at source s))
+  pub ranked : (record_at c source s).priority ≡ s.priority
   pub clean : claimed ≡ true → Clean c (body_at source s)
 
 -- the records of a list of slots
-abbrev pub recordsAt : Carrier → List ℕ → Slots → List Fields
-recordsAt c source slots = map (recordAt c source) (listed slots)
+abbrev pub records_at : Carrier → List ℕ → Slots → List Fields
+records_at c source slots = map (record_at c source) (listed slots)
 
 -- ---- records kept
 
@@ -72,7 +72,7 @@ held_of slots size clean more = record { slots = slots; size = size; clean = cle
 
 -- octets of a sheet of n records, at most
 abbrev pub largest : ℕ → ℕ
-largest n = frontSize + limit.recordSize * n
+largest n = front_size + limit.record_size * n
 
 -- the slot of a body from `start` to `end`
 abbrev pub slot_of : Examined → ℕ → ℕ → Slot
@@ -82,8 +82,8 @@ slot_of e start end = record { priority = e.priority; place = start; length = en
 pub record Seen (c : Carrier) (source : List ℕ) (start end : ℕ) (e : Examined) : Type 0 where
   pub low : start ≤ end
   pub high : end ≤ length source
-  pub tells : e ≡ examinedOf c (outcomeOf c (part start end source)) e.clean
-  pub small : e.size ≤ limit.recordSize
+  pub tells : e ≡ examined_of c (outcome_of c (part start end source)) e.clean
+  pub small : e.size ≤ limit.record_size
   pub near : e.place ≤ end - start
   pub clean : e.clean ≡ true → Clean c (part start end source)
 
@@ -97,8 +97,8 @@ pub record Grown (h : Held) (e : Examined) (start end : ℕ) (s : Slots) (clean 
 -- h has a slot for each of the records rs, and the octets of their sheet
 pub record Lists (c : Carrier) (source : List ℕ) (rs : List Fields) (h : Held) : Type 0 where
   pub good : All (Good c source h.clean) (listed h.slots)
-  pub records : recordsAt c source h.slots ≡ rs
-  pub size : h.size ≡ length (sheetOf c rs)
+  pub records : records_at c source h.slots ≡ rs
+  pub size : h.size ≡ length (sheet_of c rs)
 
 -- h is what is held of the kept records rs: all of them, or 16 and that there are more
 pub record Holds (c : Carrier) (source : List ℕ) (rs : List Fields) (h : Held) : Type 0 where
@@ -120,15 +120,15 @@ abbrev pub tally_of : Held → ℕ → ℕ → Judged → Tally
 tally_of held found discarded first = record { held = held; found = found; discarded = discarded; first = first }
 
 -- the tally that the code hands on
-abbrev pub tallyIn : Slots → Counts → Tally
-tallyIn slots k = tally_of (held_of slots k.size k.clean k.more) k.found k.discarded (judged k.fault k.place)
+abbrev pub tally_in : Slots → Counts → Tally
+tally_in slots k = tally_of (held_of slots k.size k.clean k.more) k.found k.discarded (judged k.fault k.place)
 
 -- t tells of blocks that yield ys
 pub record Shows (c : Carrier) (source : List ℕ) (ys : List Yield) (t : Tally) : Type 0 where
   pub holds : Holds c source (arrivals ys) t.held
   pub found : t.found ≡ length ys
-  pub discarded : t.discarded ≡ discardedIn ys
-  pub first : t.first ≡ firstFault ys
+  pub discarded : t.discarded ≡ discarded_in ys
+  pub first : t.first ≡ first_fault ys
 
 -- one more block can be tallied
 pub record Open (t : Tally) : Type 0 where
@@ -148,7 +148,7 @@ pub record Sound (c : Carrier) (source : List ℕ) (claimed : Bool) (slots : Slo
 -- where 0 or 5 is to be answered, the slots are sound, and the sheet's size is known
 abbrev pub Ready : Carrier → List ℕ → Held → Type 0
 Ready c source h =
-    h.more ≡ false → Sound c source h.clean h.slots × (h.size ≡ length (sheetOf c (recordsAt c source h.slots)))
+    h.more ≡ false → Sound c source h.clean h.slots × (h.size ≡ length (sheet_of c (records_at c source h.slots)))
 
 -- 4, 5, or what is done
 unfoldable pub answer_of : Carrier → List ℕ → Tally → ℕ → Answer
@@ -156,7 +156,7 @@ answer_of c source t room =
     cond t.held.more (refuse refusal.records)
     (cond (ltb room t.held.size) (refuse refusal.room)
     (done (record {
-      sheet = sheetOf c (inOrder (recordsAt c source t.held.slots));
+      sheet = sheet_of c (in_order (records_at c source t.held.slots));
       found = t.found;
       discarded = t.discarded;
       fault = t.first.fault;

@@ -8,31 +8,31 @@ use Rattle.numbers.specs.Fault as fault
 use Rattle.numbers.specs.Limit as limit
 use Rattle.carriers.specs.declared.Carrier.{Carrier}
 use Rattle.carriers.specs.declared.Carrier.TheVariants.{Dhcp4}
-use Rattle.carriers.specs.Carriers.{headerOf}
+use Rattle.carriers.specs.Carriers.{header_of}
 use Rattle.frames.specs.declared.Step.{Step}
-use Rattle.frames.specs.Step.{part, stepAt}
+use Rattle.frames.specs.Step.{part, step_at}
 use Rattle.frames.specs.Skip.{Skips}
 use Rattle.frames.specs.SkipLaws.{skips-forward}
 use Rattle.frames.specs.WalkLaws.{walked_start, walked_block, walked-skips}
 use Rattle.frames.specs.Laws.{step_block}
 use Rattle.blocks.specs.Block.{Fields}
 use Rattle.judge.specs.declared.Judged.{Judged}
-use Rattle.judge.specs.Place.{judged, placeFrom, from}
+use Rattle.judge.specs.Place.{judged, place_from, from}
 use Rattle.order.specs.declared.Slots.{Slots}
 use Rattle.order.specs.OrderLaws.{le-or-lt}
 use Rattle.octets.specs.Lists.{All}
 use Rattle.octets.specs.ListsLaws.{flat_map_append, all_append}
 use Rattle.order.specs.Listed.{listed}
 use Rattle.records.specs.declared.Examined.{Examined}
-use Rattle.records.specs.Records.{Outcome, faulty, kept, further, recordOf}
-use Rattle.records.specs.Yielded.{outcomeOf}
-use Rattle.records.specs.Examined.{examinedOf}
+use Rattle.records.specs.Records.{Outcome, faulty, kept, further, record_of}
+use Rattle.records.specs.Yielded.{outcome_of}
+use Rattle.records.specs.Examined.{examined_of}
 use Rattle.records.specs.RecordsLaws.{fault-some}
-use Rattle.sheets.specs.Sheets.{frontSize, recordsOf, sheetOf}
+use Rattle.sheets.specs.Sheets.{front_size, records_of, sheet_of}
 use Rattle.sheets.specs.SheetsLaws.{length-sheet}
-use Rattle.reading.specs.Reading.{ahead, instancesFrom, joinedYield, alone}
+use Rattle.reading.specs.Reading.{ahead, instances_from, joined_yield, alone}
 use Rattle.reading.specs.Result.{Yield, discarded, yields, single, arrivals}
-use Rattle.reading.specs.Tally.{Good, recordAt, slot_of, Held, held_of, Seen, Grown, Holds, Tally, tally_of, Shows, Open, Ready}
+use Rattle.reading.specs.Tally.{Good, record_at, slot_of, Held, held_of, Seen, Grown, Holds, Tally, tally_of, Shows, Open, Ready}
 use Rattle.reading.specs.YieldLaws.{arrivals-more, discarded-more, discarded-few, first-yields, first-discarded, first-stays}
 use Rattle.reading.specs.InstanceLaws.{instance-short, instance-past, instance-whole, instances-end, before-none, before-ahead, joined-some}
 use Rattle.reading.specs.SlotLaws.{slot-record, slot-good, good-still}
@@ -44,41 +44,41 @@ module _ {c : Carrier} {source : List ℕ} {start end : ℕ} {e : Examined} (s :
   abbrev body : List ℕ
   body = part start end source
 
-  same : {o : Outcome} → outcomeOf c body ≡ o → e ≡ examinedOf c o e.clean
-  same p = s.tells ∙ ap (λ (o : Outcome). examinedOf c o e.clean) p
+  same : {o : Outcome} → outcome_of c body ≡ o → e ≡ examined_of c o e.clean
+  same p = s.tells ∙ ap (λ (o : Outcome). examined_of c o e.clean) p
 
   abbrev told : Judged
   told = judged e.fault e.place
 
-  pub seen-faulty : (e.fault ≡ 0 → ⊥) → outcomeOf c body ≡ faulty told
-  seen-faulty n = go (outcomeOf c body) refl
+  pub seen-faulty : (e.fault ≡ 0 → ⊥) → outcome_of c body ≡ faulty told
+  seen-faulty n = go (outcome_of c body) refl
     where
-      go : (o : Outcome) → outcomeOf c body ≡ o → outcomeOf c body ≡ faulty told
+      go : (o : Outcome) → outcome_of c body ≡ o → outcome_of c body ≡ faulty told
       go (faulty j) p = p ∙ ap faulty (sym (ap (λ (x : Examined). judged x.fault x.place) (same p)))
       go (kept r) p = absurd (n (ap (λ (x : Examined). x.fault) (same p)))
 
-  pub seen-kept : e.fault ≡ 0 → (f : Fields) × (outcomeOf c body ≡ kept f)
-  seen-kept z = go (outcomeOf c body) refl
+  pub seen-kept : e.fault ≡ 0 → (f : Fields) × (outcome_of c body ≡ kept f)
+  seen-kept z = go (outcome_of c body) refl
     where
-      go : (o : Outcome) → outcomeOf c body ≡ o → (f : Fields) × (outcomeOf c body ≡ kept f)
+      go : (o : Outcome) → outcome_of c body ≡ o → (f : Fields) × (outcome_of c body ≡ kept f)
       go (faulty j) p = absurd (fault-some c body j p (sym (ap (λ (x : Examined). x.fault) (same p)) ∙ z))
       go (kept r) p = (r, p)
 
 -- ---- records kept
 
-pub holds-none : (c : Carrier) (source : List ℕ) {s : Slots} → s.count ≡ 0 → listed s ≡ [] → Holds c source [] (held_of s frontSize true false)
+pub holds-none : (c : Carrier) (source : List ℕ) {s : Slots} → s.count ≡ 0 → listed s ≡ [] → Holds c source [] (held_of s front_size true false)
 holds-none c source n l = record {
   count = n;
   small = omega arith;
   more = refl;
-  lists = λ _. record { good = subst⁻¹ (All (Good c source true)) l tt; records = ap (map (recordAt c source)) l; size = sym (length-sheet c []) };
+  lists = λ _. record { good = subst⁻¹ (All (Good c source true)) l tt; records = ap (map (record_at c source)) l; size = sym (length-sheet c []) };
 }
 
 module _ {c : Carrier} {source : List ℕ} {rs : List Fields} {h : Held} (k : Holds c source rs h) where
   pub holds-few : h.slots.count ≤ limit.records
   holds-few = omega (arith, k.count)
 
-  module _ {start end : ℕ} {e : Examined} {f : Fields} (x : Seen c source start end e) (o : outcomeOf c (part start end source) ≡ kept f) where
+  module _ {start end : ℕ} {e : Examined} {f : Fields} (x : Seen c source start end e) (o : outcome_of c (part start end source) ≡ kept f) where
     longer : length (rs ++ (f ∷ [])) ≡ length rs + 1
     longer = length-append rs (f ∷ [])
 
@@ -87,7 +87,7 @@ module _ {c : Carrier} {source : List ℕ} {rs : List Fields} {h : Held} (k : Ho
     holds_more {s} {b} g =
         let few : length rs < limit.records = omega (arith, k.count, g.room) in
         let was = k.lists (omega arith) in
-        let is : e ≡ examinedOf c (kept f) e.clean = same x o in
+        let is : e ≡ examined_of c (kept f) e.clean = same x o in
         record {
           count = omega (arith, k.count, g.count, longer);
           small = omega (arith, k.small, g.count, x.small);
@@ -99,9 +99,9 @@ module _ {c : Carrier} {source : List ℕ} {rs : List Fields} {h : Held} (k : Ho
                 (good-still c source h.clean b (λ t. (g.claims t).0) (listed h.slots) was.good)
                 (slot-good c source start end o is x.low x.high (λ t. x.clean (g.claims t).1), tt));
             records =
-                ap (map (recordAt c source)) g.list
-                ∙ map-append (recordAt c source) (listed h.slots) (slot_of e start end ∷ [])
-                ∙ ap (λ (l : List Fields). l ++ (recordAt c source (slot_of e start end) ∷ [])) was.records
+                ap (map (record_at c source)) g.list
+                ∙ map-append (record_at c source) (listed h.slots) (slot_of e start end ∷ [])
+                ∙ ap (λ (l : List Fields). l ++ (record_at c source (slot_of e start end) ∷ [])) was.records
                 ∙ ap (λ (x : Fields). rs ++ (x ∷ [])) (slot-record c source start end o is);
             size = omega (
               arith,
@@ -109,9 +109,9 @@ module _ {c : Carrier} {source : List ℕ} {rs : List Fields} {h : Held} (k : Ho
               length-sheet c rs,
               length-sheet c (rs ++ (f ∷ [])),
               ap (λ (x : Examined). x.size) is,
-              ap length (flat_map_append (recordOf c) rs (f ∷ [])),
-              length-append (recordsOf c rs) (recordsOf c (f ∷ [])),
-              ap length (append-nil (recordOf c f)),
+              ap length (flat_map_append (record_of c) rs (f ∷ [])),
+              length-append (records_of c rs) (records_of c (f ∷ [])),
+              ap length (append-nil (record_of c f)),
             );
           };
         }
@@ -132,10 +132,10 @@ module _ {c : Carrier} {source : List ℕ} {rs : List Fields} {h : Held} (k : Ho
       let l = k.lists few in (
         record {
           few = holds-few;
-          whole = omega (arith, sym (length-map (listed h.slots) (recordAt c source)), ap length l.records, k.count);
+          whole = omega (arith, sym (length-map (listed h.slots) (record_at c source)), ap length l.records, k.count);
           good = l.good;
         },
-        l.size ∙ ap (λ (x : List Fields). length (sheetOf c x)) (sym l.records),
+        l.size ∙ ap (λ (x : List Fields). length (sheet_of c x)) (sym l.records),
       )
 
 -- ---- blocks
@@ -189,7 +189,7 @@ module _ (c : Carrier) (area : List ℕ) where
     tallying-skips s =
         record { bodies = g.bodies; walked = walked-skips c area g.walked s; shows = g.shows; behind = omega (arith, g.behind, skips-forward s) }
 
-    module _ {start end : ℕ} (p : stepAt c area at ≡ Step.Block start end) where
+    module _ {start end : ℕ} (p : step_at c area at ≡ Step.Block start end) where
       -- one more block, with what it yields
       on : {r : Tally} (y : Yield) → alone c (part start end area) ≡ y → Shows c area (map (alone c) g.bodies ++ (y ∷ [])) r → Tallying c area end r
       on {r} y e s =
@@ -205,12 +205,12 @@ module _ (c : Carrier) (area : List ℕ) where
           }
 
       module _ {e : Examined} (x : Seen c area start end e) where
-        pub tallying-discarded : {k p there : ℕ} → (e.fault ≡ 0 → ⊥) → there ≡ placeFrom (headerOf c) e.fault e.place
+        pub tallying-discarded : {k p there : ℕ} → (e.fault ≡ 0 → ⊥) → there ≡ place_from (header_of c) e.fault e.place
             → (t.discarded ≡ 0 → k ≡ e.fault) × ((t.discarded ≡ 0 → ⊥) → k ≡ t.first.fault)
             → (t.discarded ≡ 0 → p ≡ there) × ((t.discarded ≡ 0 → ⊥) → p ≡ t.first.place)
             → Tallying c area end (tally_of t.held (t.found + 1) (t.discarded + 1) (judged k p))
         tallying-discarded n h f q =
-            on (discarded (from (headerOf c) (told x))) (ap (λ (o : Outcome). single (further (headerOf c) o)) (seen-faulty x n))
+            on (discarded (from (header_of c) (told x))) (ap (λ (o : Outcome). single (further (header_of c) o)) (seen-faulty x n))
             (shows-discarded g.shows (λ z. ap₂ judged (f.0 z) (q.0 z ∙ h)) (λ z. ap₂ judged (f.1 z) (q.1 z)))
 
         module _ (z : e.fault ≡ 0) where
@@ -218,53 +218,53 @@ module _ (c : Carrier) (area : List ℕ) where
               → Tallying c area end (tally_of (held_of s (t.held.size + e.size) b t.held.more) (t.found + 1) t.discarded t.first)
           tallying-kept a =
               let f = seen-kept x z in
-              on (yields (f.0 ∷ [])) (ap (λ (o : Outcome). single (further (headerOf c) o)) f.1) (shows_kept g.shows f.0 (holds_more g.shows.holds x f.1 a))
+              on (yields (f.0 ∷ [])) (ap (λ (o : Outcome). single (further (header_of c) o)) f.1) (shows_kept g.shows f.0 (holds_more g.shows.holds x f.1 a))
 
           pub tallying-full : limit.records ≤ t.held.slots.count
               → Tallying c area end (tally_of (held_of t.held.slots t.held.size t.held.clean true) (t.found + 1) t.discarded t.first)
           tallying-full a =
               let f = seen-kept x z in
-              on (yields (f.0 ∷ [])) (ap (λ (o : Outcome). single (further (headerOf c) o)) f.1) (shows_kept g.shows f.0 (holds-full g.shows.holds x f.1 a))
+              on (yields (f.0 ∷ [])) (ap (λ (o : Outcome). single (further (header_of c) o)) f.1) (shows_kept g.shows f.0 (holds-full g.shows.holds x f.1 a))
 
 -- ---- the walk over joined data
 
 -- a block of joined data that is discarded, and nothing held
-pub shows-joined-discarded : (joined : List ℕ) {h : Held} {j : Judged} → Holds Dhcp4 joined [] h → joinedYield joined ≡ discarded j
-    → Shows Dhcp4 joined (joinedYield joined ∷ []) (tally_of h 1 1 j)
+pub shows-joined-discarded : (joined : List ℕ) {h : Held} {j : Judged} → Holds Dhcp4 joined [] h → joined_yield joined ≡ discarded j
+    → Shows Dhcp4 joined (joined_yield joined ∷ []) (tally_of h 1 1 j)
 shows-joined-discarded joined {h} {j} n e =
     subst⁻¹ (λ (y : Yield). Shows Dhcp4 joined (y ∷ []) (tally_of h 1 1 j)) e (record { holds = n; found = refl; discarded = refl; first = refl })
 
 module _ (joined : List ℕ) where
   pub passed_start : {h : Held} → (length joined ≡ 0 → ⊥) → Holds Dhcp4 joined [] h → Passed joined 0 h
-  passed_start n k = record { records = []; within = omega arith; yields-on = joined-some joined n ∙ sym (before-none (instancesFrom 0 0 joined)); holds = k }
+  passed_start n k = record { records = []; within = omega arith; yields_on = joined-some joined n ∙ sym (before-none (instances_from 0 0 joined)); holds = k }
 
   module _ {at : ℕ} {h : Held} (g : Passed joined at h) where
-    pub passed-short : at < length joined → length joined - at < 2 → joinedYield joined ≡ discarded (judged fault.field 0)
-    passed-short i k = g.yields-on ∙ ap (before g.records) (instance-short joined at i k)
+    pub passed-short : at < length joined → length joined - at < 2 → joined_yield joined ≡ discarded (judged fault.field 0)
+    passed-short i k = g.yields_on ∙ ap (before g.records) (instance-short joined at i k)
 
     module _ (i : at < length joined) (long : ℕ) (q : long ≡ at16 joined at) (k : 2 ≤ length joined - at) where
-      pub passed-past : length joined - (at + 2) < long → joinedYield joined ≡ discarded (judged fault.field 0)
-      passed-past l = g.yields-on ∙ ap (before g.records) (instance-past joined at i long q k l)
+      pub passed-past : length joined - (at + 2) < long → joined_yield joined ≡ discarded (judged fault.field 0)
+      passed-past l = g.yields_on ∙ ap (before g.records) (instance-past joined at i long q k l)
 
       module _ (l : long ≤ length joined - (at + 2)) {e : Examined} (x : Seen Dhcp4 joined (at + 2) (at + 2 + long) e) where
-        past : (o : Outcome) → outcomeOf Dhcp4 (part (at + 2) (at + 2 + long) joined) ≡ o
-            → joinedYield joined ≡ before g.records (ahead (further (at + 2) o) (instancesFrom 0 (at + 2 + long) (drop (at + 2 + long) joined)))
+        past : (o : Outcome) → outcome_of Dhcp4 (part (at + 2) (at + 2 + long) joined) ≡ o
+            → joined_yield joined ≡ before g.records (ahead (further (at + 2) o) (instances_from 0 (at + 2 + long) (drop (at + 2 + long) joined)))
         past o p =
-            g.yields-on
+            g.yields_on
             ∙ ap (before g.records) (instance-whole joined at i long q k l)
-            ∙ ap (λ (o : Outcome). before g.records (ahead (further (at + 2) o) (instancesFrom 0 (at + 2 + long) (drop (at + 2 + long) joined)))) p
+            ∙ ap (λ (o : Outcome). before g.records (ahead (further (at + 2) o) (instances_from 0 (at + 2 + long) (drop (at + 2 + long) joined)))) p
 
-        pub passed-faulty : {there : ℕ} → (e.fault ≡ 0 → ⊥) → there ≡ placeFrom (at + 2) e.fault e.place
-            → joinedYield joined ≡ discarded (judged e.fault there)
+        pub passed-faulty : {there : ℕ} → (e.fault ≡ 0 → ⊥) → there ≡ place_from (at + 2) e.fault e.place
+            → joined_yield joined ≡ discarded (judged e.fault there)
         passed-faulty n h = past (faulty (told x)) (seen-faulty x n) ∙ ap (λ (p : ℕ). discarded (judged e.fault p)) (sym h)
 
         module _ (z : e.fault ≡ 0) where
-          goes_on : {r : Held} (f : Fields) → outcomeOf Dhcp4 (part (at + 2) (at + 2 + long) joined) ≡ kept f → Holds Dhcp4 joined (g.records ++ (f ∷ [])) r
+          goes_on : {r : Held} (f : Fields) → outcome_of Dhcp4 (part (at + 2) (at + 2 + long) joined) ≡ kept f → Holds Dhcp4 joined (g.records ++ (f ∷ [])) r
               → Passed joined (at + 2 + long) r
           goes_on f p m = record {
             records = g.records ++ (f ∷ []);
             within = omega arith;
-            yields-on = past (kept f) p ∙ before-ahead g.records f (instancesFrom 0 (at + 2 + long) (drop (at + 2 + long) joined));
+            yields_on = past (kept f) p ∙ before-ahead g.records f (instances_from 0 (at + 2 + long) (drop (at + 2 + long) joined));
             holds = m;
           }
 
@@ -276,10 +276,10 @@ module _ (joined : List ℕ) where
           passed-full a = let f = seen-kept x z in goes_on f.0 f.1 (holds-full g.holds x f.1 a)
 
     -- all instances are passed: the tally of the one block
-    pub passed-end : length joined ≤ at → Shows Dhcp4 joined (joinedYield joined ∷ []) (tally_of h 1 0 (judged 0 0))
+    pub passed-end : length joined ≤ at → Shows Dhcp4 joined (joined_yield joined ∷ []) (tally_of h 1 0 (judged 0 0))
     passed-end i =
-        let y : joinedYield joined ≡ yields g.records =
-        g.yields-on ∙ ap (before g.records) (instances-end joined at i) ∙ ap yields (append-nil g.records) in
+        let y : joined_yield joined ≡ yields g.records =
+        g.yields_on ∙ ap (before g.records) (instances-end joined at i) ∙ ap yields (append-nil g.records) in
         subst⁻¹ (λ (y : Yield). Shows Dhcp4 joined (y ∷ []) (tally_of h 1 0 (judged 0 0))) y (record {
           holds = subst⁻¹ (λ (l : List Fields). Holds Dhcp4 joined l h) (append-nil g.records) g.holds;
           found = refl;

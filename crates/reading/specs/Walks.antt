@@ -8,9 +8,9 @@ use Rattle.carriers.specs.declared.Carrier.TheVariants.{Dhcp4}
 use Rattle.frames.specs.Walk.{Walked}
 use Rattle.blocks.specs.Block.{Fields}
 use Rattle.order.specs.declared.Slot.{Slot}
-use Rattle.records.specs.Yielded.{outcomeOf}
-use Rattle.records.specs.Examined.{octetsIn}
-use Rattle.reading.specs.Reading.{instancesFrom, joinedYield, alone}
+use Rattle.records.specs.Yielded.{outcome_of}
+use Rattle.records.specs.Examined.{octets_in}
+use Rattle.reading.specs.Reading.{instances_from, joined_yield, alone}
 use Rattle.reading.specs.Result.{Yield, discarded, yields}
 use Rattle.reading.specs.Tally.{body_at, Held, Holds, Tally, Shows}
 
@@ -34,7 +34,7 @@ before rs (yields qs) = yields (rs ++ qs)
 pub record Passed (joined : List ℕ) (at : ℕ) (h : Held) : Type 0 where
   pub records : List Fields
   pub within : at ≤ length joined
-  pub yields-on : joinedYield joined ≡ before records (instancesFrom 0 at (drop at joined))
+  pub yields_on : joined_yield joined ≡ before records (instances_from 0 at (drop at joined))
   pub holds : Holds Dhcp4 joined records h
 
 -- ---- the slots of a sheet
@@ -45,11 +45,11 @@ module _ {A : Type 0} (f : A → List ℕ) where
   laid l = flat (map f l)
 
 -- the octets of a slot's record
-abbrev pub octetsAt : Carrier → List ℕ → Slot → List ℕ
-octetsAt c source s = octetsIn c (outcomeOf c (body_at source s))
+abbrev pub octets_at : Carrier → List ℕ → Slot → List ℕ
+octets_at c source s = octets_in c (outcome_of c (body_at source s))
 
 -- the records of the first i slots of l are laid over `out` from an index on, and there is room for the others
 pub record Written (c : Carrier) (source : List ℕ) (l : List Slot) (at : ℕ) (out : List ℕ) (i o : ℕ) (out' : List ℕ) : Type 0 where
   pub within : i ≤ length l
-  pub room : at + length (laid (octetsAt c source) l) ≤ length out
-  pub wrote : Wrote at (laid (octetsAt c source) (take i l)) out o out'
+  pub room : at + length (laid (octets_at c source) l) ≤ length out
+  pub wrote : Wrote at (laid (octets_at c source) (take i l)) out o out'

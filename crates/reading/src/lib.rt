@@ -9,10 +9,10 @@ ghost use Rattle.carriers.specs.declared.Carrier.TheVariants.{Dhcp4};
 ghost use Rattle.frames.specs.Frame.{frame};
 ghost use Rattle.frames.specs.Gather.{Several};
 ghost use Rattle.judge.specs.Place.{judged};
-ghost use Rattle.sheets.specs.Sheets.{sheetOf};
-ghost use Rattle.reading.specs.Reading.{joinedYield, inOrder, readBlocks, readFramed, read_of};
+ghost use Rattle.sheets.specs.Sheets.{sheet_of};
+ghost use Rattle.reading.specs.Reading.{joined_yield, in_order, read_blocks, read_framed, read_of};
 ghost use Rattle.reading.specs.Result.{discarded, refuse, told, Reads};
-ghost use Rattle.reading.specs.Tally.{usual, half, recordsAt, slot_of, tallyIn, Sound, Ready, answer_of};
+ghost use Rattle.reading.specs.Tally.{usual, half, records_at, slot_of, tally_in, Sound, Ready, answer_of};
 
 use carriers::{Carrier, Chosen};
 use frames::{Gathered, Joined, Step};
@@ -102,8 +102,8 @@ fn first_of(discarded: usize, first: usize, this: usize) -> usize
 // Orders the kept bodies of `source` and writes the sheet of their records. `clean`: every address of theirs is known to stay.
 fn put_sheet(out: &mut [u8], c: Carrier, source: &[u8], slots: Slots, clean: bool) -> usize
     requires sound { Sound c source.now clean slots }
-    requires slots_in_bounds { length (sheetOf c (recordsAt c source.now slots)) ≤ length out.old }
-    ensures { Wrote 0 (sheetOf c (inOrder (recordsAt c source.now slots))) out.old result out.new }
+    requires slots_in_bounds { length (sheet_of c (records_at c source.now slots)) ≤ length out.old }
+    ensures { Wrote 0 (sheet_of c (in_order (records_at c source.now slots))) out.old result out.new }
 {
     let sorting = order::ordered(slots);
     let sorted = sorting.slots;
@@ -122,8 +122,8 @@ fn put_sheet(out: &mut [u8], c: Carrier, source: &[u8], slots: Slots, clean: boo
 
 // 4, 5, or the sheet of the kept records, with the blocks' counts. (`&source[..]`: see docs/DESIGN.md, Speed.)
 fn settle(out: &mut [u8], c: Carrier, source: &[u8], slots: Slots, counts: Counts) -> Reading
-    requires { Ready c source.now (tallyIn slots counts).held }
-    ensures { Reads (answer_of c source.now (tallyIn slots counts) (length out.old)) out.old result out.new }
+    requires { Ready c source.now (tally_in slots counts).held }
+    ensures { Reads (answer_of c source.now (tally_in slots counts) (length out.old)) out.old result out.new }
 {
     if counts.more {
         return refused(Refusal::RECORDS);
@@ -145,7 +145,7 @@ fn settle(out: &mut [u8], c: Carrier, source: &[u8], slots: Slots, counts: Count
 // Carriers 2 to 5: the blocks of an area, each of one body. Of those found, the bad ones are discarded.
 fn read_blocks(c: Carrier, area: &[u8], out: &mut [u8]) -> Reading
     requires { (c ≡ Dhcp4 → ⊥) × (length area.now ≤ limit.input) }
-    ensures { Reads (readFramed c (frame c area.now) (length out.old)) out.old result out.new }
+    ensures { Reads (read_framed c (frame c area.now) (length out.old)) out.old result out.new }
 {
     let mut slots = order::empty();
     let mut size = sheets::FRONT;
@@ -197,8 +197,8 @@ fn read_blocks(c: Carrier, area: &[u8], out: &mut [u8]) -> Reading
 
 // Carrier 1, where the one block is discarded.
 fn discard_joined(joined: &[u8], out: &mut [u8], fault: usize, place: usize) -> Reading
-    requires { joinedYield joined.now ≡ discarded (judged fault place) }
-    ensures { Reads (readBlocks Dhcp4 (joined.now ∷ []) (length out.old)) out.old result out.new }
+    requires { joined_yield joined.now ≡ discarded (judged fault place) }
+    ensures { Reads (read_blocks Dhcp4 (joined.now ∷ []) (length out.old)) out.old result out.new }
 {
     let none = order::empty();
     let counts = Counts {
@@ -216,7 +216,7 @@ fn discard_joined(joined: &[u8], out: &mut [u8], fault: usize, place: usize) -> 
 // Carrier 1: the one block of joined data, each instance read from its own octets and nothing around them.
 fn read_instances(joined: &[u8], out: &mut [u8]) -> Reading
     requires { length joined.now ≤ limit.input }
-    ensures { Reads (readBlocks Dhcp4 (joined.now ∷ []) (length out.old)) out.old result out.new }
+    ensures { Reads (read_blocks Dhcp4 (joined.now ∷ []) (length out.old)) out.old result out.new }
 {
     if joined.len() == 0 {
         return discard_joined(&joined[..], out, Fault::FIELD, 0);
@@ -268,7 +268,7 @@ fn read_instances(joined: &[u8], out: &mut [u8]) -> Reading
 // Carrier 1 with several options 162: their data joined in a buffer that has room for the area.
 fn read_within(area: &[u8], buffer: &mut [u8], out: &mut [u8]) -> Reading
     requires { (length area.now ≤ length buffer.old) × (length area.now ≤ limit.input) × Several (frame Dhcp4 area.now) }
-    ensures { Reads (readFramed Dhcp4 (frame Dhcp4 area.now) (length out.old)) out.old result out.new }
+    ensures { Reads (read_framed Dhcp4 (frame Dhcp4 area.now) (length out.old)) out.old result out.new }
 {
     match frames::join(area, buffer) {
         Joined::Broken => refused(Refusal::FRAMING),
@@ -279,7 +279,7 @@ fn read_within(area: &[u8], buffer: &mut [u8], out: &mut [u8]) -> Reading
 // The same in a local buffer, for an area of a usual message.
 fn read_few(area: &[u8], out: &mut [u8]) -> Reading
     requires { (length area.now ≤ usual) × Several (frame Dhcp4 area.now) }
-    ensures { Reads (readFramed Dhcp4 (frame Dhcp4 area.now) (length out.old)) out.old result out.new }
+    ensures { Reads (read_framed Dhcp4 (frame Dhcp4 area.now) (length out.old)) out.old result out.new }
 {
     let mut buffer = [0u8; USUAL];
     read_within(&area[..], &mut buffer, out)
@@ -288,7 +288,7 @@ fn read_few(area: &[u8], out: &mut [u8]) -> Reading
 // The same for an area of at most half the largest input.
 fn read_half(area: &[u8], out: &mut [u8]) -> Reading
     requires { (length area.now ≤ half) × Several (frame Dhcp4 area.now) }
-    ensures { Reads (readFramed Dhcp4 (frame Dhcp4 area.now) (length out.old)) out.old result out.new }
+    ensures { Reads (read_framed Dhcp4 (frame Dhcp4 area.now) (length out.old)) out.old result out.new }
 {
     let mut buffer = [0u8; HALF];
     read_within(&area[..], &mut buffer, out)
@@ -297,7 +297,7 @@ fn read_half(area: &[u8], out: &mut [u8]) -> Reading
 // The same for any area.
 fn read_many(area: &[u8], out: &mut [u8]) -> Reading
     requires { (length area.now ≤ limit.input) × Several (frame Dhcp4 area.now) }
-    ensures { Reads (readFramed Dhcp4 (frame Dhcp4 area.now) (length out.old)) out.old result out.new }
+    ensures { Reads (read_framed Dhcp4 (frame Dhcp4 area.now) (length out.old)) out.old result out.new }
 {
     let mut buffer = [0u8; Limit::INPUT];
     read_within(&area[..], &mut buffer, out)
@@ -307,7 +307,7 @@ fn read_many(area: &[u8], out: &mut [u8]) -> Reading
 // chooses the buffer. Recursive on purpose: LLVM then does not inline it, and its buffers stay out of dnr_read's stack frame.
 fn read_joined(area: &[u8], out: &mut [u8]) -> Reading
     requires { length area.now ≤ limit.input }
-    ensures { Reads (readFramed Dhcp4 (frame Dhcp4 area.now) (length out.old)) out.old result out.new }
+    ensures { Reads (read_framed Dhcp4 (frame Dhcp4 area.now) (length out.old)) out.old result out.new }
 {
     match frames::gather(&area[..]) {
         Gathered::Broken => refused(Refusal::FRAMING),
@@ -343,7 +343,7 @@ fn read_joined(area: &[u8], out: &mut [u8]) -> Reading
 // 3, 4, 5, or the sheet of an area of a carrier.
 fn read_area(c: Carrier, area: &[u8], out: &mut [u8]) -> Reading
     requires { length area.now ≤ limit.input }
-    ensures { Reads (readFramed c (frame c area.now) (length out.old)) out.old result out.new }
+    ensures { Reads (read_framed c (frame c area.now) (length out.old)) out.old result out.new }
 {
     match c {
         Carrier::Dhcp4 => read_joined(area, out),

@@ -85,13 +85,13 @@ pub data TextWhy (s : List ℕ) (p r : ℕ) : Type 0 where
   -- no label stands before the dot: it is the first octet, or follows a dot
   dot : r ≡ reason.dot → (t : List ℕ) → InText s p [] (46 ∷ t) → TextWhy s p r
   -- no label stands after it
-  dot-last : r ≡ reason.dot → 0 < length s → InText s p [] [] → TextWhy s p r
-  dot-far : r ≡ reason.dot → (begun t : List ℕ) → InText s p begun (46 ∷ t) → Ends t → TextWhy s p r
+  dot_last : r ≡ reason.dot → 0 < length s → InText s p [] [] → TextWhy s p r
+  dot_far : r ≡ reason.dot → (begun t : List ℕ) → InText s p begun (46 ∷ t) → Ends t → TextWhy s p r
   -- the hyphen begins its label
   hyphen : r ≡ reason.hyphen → (t : List ℕ) → InText s p [] (45 ∷ t) → TextWhy s p r
   -- it ends its label, before the place or there
-  hyphen-last : r ≡ reason.hyphen → (begun t : List ℕ) → InText s p begun t → last 0 begun ≡ 45 → Ends t → TextWhy s p r
-  hyphen-far : r ≡ reason.hyphen → (begun t : List ℕ) → InText s p begun (45 ∷ t) → Ends t → TextWhy s p r
+  hyphen_last : r ≡ reason.hyphen → (begun t : List ℕ) → InText s p begun t → last 0 begun ≡ 45 → Ends t → TextWhy s p r
+  hyphen_far : r ≡ reason.hyphen → (begun t : List ℕ) → InText s p begun (45 ∷ t) → Ends t → TextWhy s p r
   -- more than 63 octets without a dot
   label : r ≡ reason.label → (begun more t : List ℕ) → InText s p begun (more ++ t) → All (λ x. x ≡ 46 → ⊥) more
       → 63 < length begun + length more → TextWhy s p r

@@ -1,10 +1,10 @@
 -- Which service parameter is at fault, and where in their field it begins (RULES R26 to R28, T3). Assumes nothing: these are definitions.
-use Rattle.std.specs.Prelude.{Bool, true, false, cond, not, ◌||◌, List, [], ◌∷◌, ℕ, zero, suc, ◌+◌, ◌-◌, ltb, eqb, take, drop}
+use Rattle.std.specs.Prelude.{Bool, true, false, cond, not, ◌||◌, List, [], ◌∷◌, ℕ, zero, suc, ◌+◌, ◌-◌, ltb, eq, take, drop}
 use Rattle.octets.specs.Numbers.{at16}
 use Rattle.numbers.specs.Fault as fault
 use Rattle.svcparams.specs.Key as key
-use Rattle.svcparams.specs.Params.{size_of, isHint, valueGood}
-use Rattle.svcparams.specs.Entries.{keysIn}
+use Rattle.svcparams.specs.Params.{size_of, is_hint, value_good}
+use Rattle.svcparams.specs.Entries.{keys_in}
 use Rattle.reasons.specs.declared.Param.{Param}
 
 -- no key: above every key of 16 bits
@@ -24,32 +24,32 @@ on zero short go = short
 on (suc k) short go = go k
 
 -- 26: the first that is not whole, whose key is below `least`, or whose key is the invalid one; k octets are still to be skipped
-unfoldable pub unorderedFrom : ℕ → ℕ → ℕ → List ℕ → Param
-unorderedFrom k at least [] = nothing
-unorderedFrom zero at least (x ∷ xs) =
+unfoldable pub unordered_from : ℕ → ℕ → ℕ → List ℕ → Param
+unordered_from k at least [] = nothing
+unordered_from zero at least (x ∷ xs) =
     on (size_of (x ∷ xs)) (param at none) (λ k.
-    cond (ltb (at16 (x ∷ xs) 0) least || eqb (at16 (x ∷ xs) 0) key.invalid) (param at (at16 (x ∷ xs) 0))
-    (unorderedFrom k (at + 1) (at16 (x ∷ xs) 0 + 1) xs))
-unorderedFrom (suc k) at least (x ∷ xs) = unorderedFrom k (at + 1) least xs
+    cond (ltb (at16 (x ∷ xs) 0) least || eq (at16 (x ∷ xs) 0) key.invalid) (param at (at16 (x ∷ xs) 0))
+    (unordered_from k (at + 1) (at16 (x ∷ xs) 0 + 1) xs))
+unordered_from (suc k) at least (x ∷ xs) = unordered_from k (at + 1) least xs
 
 -- 27, 28: a hint; or a value that its key does not allow among the keys ks
-abbrev pub wrongOf : Bool → List ℕ → ℕ → List ℕ → Bool
-wrongOf true ks k v = isHint k
-wrongOf false ks k v = not (valueGood k v ks)
+abbrev pub wrong_of : Bool → List ℕ → ℕ → List ℕ → Bool
+wrong_of true ks k v = is_hint k
+wrong_of false ks k v = not (value_good k v ks)
 
 -- the first that is wrong
-unfoldable pub wrongFrom : Bool → List ℕ → ℕ → ℕ → List ℕ → Param
-wrongFrom hints ks k at [] = nothing
-wrongFrom hints ks zero at (x ∷ xs) =
+unfoldable pub wrong_from : Bool → List ℕ → ℕ → ℕ → List ℕ → Param
+wrong_from hints ks k at [] = nothing
+wrong_from hints ks zero at (x ∷ xs) =
     on (size_of (x ∷ xs)) nothing (λ k.
-    cond (wrongOf hints ks (at16 (x ∷ xs) 0) (take (size_of (x ∷ xs) - 4) (drop 4 (x ∷ xs)))) (param at (at16 (x ∷ xs) 0))
-    (wrongFrom hints ks k (at + 1) xs))
-wrongFrom hints ks (suc k) at (x ∷ xs) = wrongFrom hints ks k (at + 1) xs
+    cond (wrong_of hints ks (at16 (x ∷ xs) 0) (take (size_of (x ∷ xs) - 4) (drop 4 (x ∷ xs)))) (param at (at16 (x ∷ xs) 0))
+    (wrong_from hints ks k (at + 1) xs))
+wrong_from hints ks (suc k) at (x ∷ xs) = wrong_from hints ks k (at + 1) xs
 
 -- by the field's fault
-unfoldable pub paramFor : ℕ → List ℕ → Param
-paramFor k p =
-    cond (eqb k fault.parameters) (unorderedFrom 0 0 0 p)
-    (cond (eqb k fault.hint) (wrongFrom true (keysIn p) 0 0 p)
-    (cond (eqb k fault.value) (wrongFrom false (keysIn p) 0 0 p)
+unfoldable pub param_for : ℕ → List ℕ → Param
+param_for k p =
+    cond (eq k fault.parameters) (unordered_from 0 0 0 p)
+    (cond (eq k fault.hint) (wrong_from true (keys_in p) 0 0 p)
+    (cond (eq k fault.value) (wrong_from false (keys_in p) 0 0 p)
     nothing))

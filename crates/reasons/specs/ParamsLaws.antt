@@ -1,7 +1,7 @@
 -- The two searches for a parameter at fault, each with the invariant of its loop. Assumes nothing.
-use Rattle.std.specs.Prelude.{◌≡◌, Bool, true, false, cond, ◌||◌, take, ltb, eqb}
+use Rattle.std.specs.Prelude.{◌≡◌, Bool, true, false, cond, ◌||◌, take, ltb, eq}
 use Rattle.std.proofs.Math.Path.{refl, sym, ap, ap₂}
-use Rattle.std.proofs.Common.{◌∙◌, length-drop, drop_of_length-le, drop-drop, lt-ltb, le-ltb, eq-eqb, ne_eqb}
+use Rattle.std.proofs.Common.{◌∙◌, length-drop, drop_of_length-le, drop-drop, lt-ltb, le-ltb, eq-eq, ne_eqb}
 use Rattle.std.proofs.Math.Bool.{or-true}
 use mathlib.Core.List.{List, [], ◌∷◌}
 use Prim.Native.Nat.{ℕ, zero, suc, ◌+◌, ◌-◌, ◌≤◌, ◌<◌}
@@ -13,7 +13,7 @@ use Rattle.svcparams.specs.Key as key
 use Rattle.svcparams.specs.Params.{size_of}
 use Rattle.svcparams.specs.TilingLaws.{rest, value_at, sized}
 use Rattle.reasons.specs.declared.Param.{Param}
-use Rattle.reasons.specs.Params.{param, nothing, none, on, unorderedFrom, wrongOf, wrongFrom}
+use Rattle.reasons.specs.Params.{param, nothing, none, on, unordered_from, wrong_of, wrong_from}
 
 -- a parameter that stands at a place of the field, its size as the code has it
 module _ (p : List ℕ) (at : ℕ) {n : ℕ} (e : n ≡ size_of (rest p at)) where
@@ -32,73 +32,73 @@ module _ (p : List ℕ) (at : ℕ) {n : ℕ} (e : n ≡ size_of (rest p at)) whe
 
 -- ---- keys in order
 
-skip-unordered : (k at least : ℕ) (s : List ℕ) → k ≤ length s → unorderedFrom k at least s ≡ unorderedFrom 0 (at + k) least (drop k s)
-unfolding unorderedFrom
-skip-unordered zero at least s h = let e : at ≡ at + 0 = omega arith in ap (λ (j : ℕ). unorderedFrom 0 j least s) e
+skip-unordered : (k at least : ℕ) (s : List ℕ) → k ≤ length s → unordered_from k at least s ≡ unordered_from 0 (at + k) least (drop k s)
+unfolding unordered_from
+skip-unordered zero at least s h = let e : at ≡ at + 0 = omega arith in ap (λ (j : ℕ). unordered_from 0 j least s) e
 skip-unordered (suc k) at least [] h = absurd (omega arith)
 skip-unordered (suc k) at least (x ∷ xs) h =
     let e : at + 1 + k ≡ at + suc k = omega arith in
-    skip-unordered k (at + 1) least xs (omega arith) ∙ ap (λ (j : ℕ). unorderedFrom 0 j least (drop k xs)) e
+    skip-unordered k (at + 1) least xs (omega arith) ∙ ap (λ (j : ℕ). unordered_from 0 j least (drop k xs)) e
 
 -- what the search makes of a parameter with key k at a place, by what it makes of those after it
 abbrev pub keyed : ℕ → ℕ → ℕ → Param → Param
-keyed at least k after = cond (ltb k least || eqb k key.invalid) (param at k) after
+keyed at least k after = cond (ltb k least || eq k key.invalid) (param at k) after
 
 -- what the search makes of a parameter that stands first
 module _ (at least : ℕ) (s : List ℕ) where
-  pub short-unordered : 0 < length s → size_of s ≡ 0 → unorderedFrom 0 at least s ≡ param at none
-  unfolding unorderedFrom
+  pub short-unordered : 0 < length s → size_of s ≡ 0 → unordered_from 0 at least s ≡ param at none
+  unfolding unordered_from
   short-unordered = go s
     where
-      go : (s : List ℕ) → 0 < length s → size_of s ≡ 0 → unorderedFrom 0 at least s ≡ param at none
+      go : (s : List ℕ) → 0 < length s → size_of s ≡ 0 → unordered_from 0 at least s ≡ param at none
       go [] h e = absurd (omega arith)
       go (x ∷ xs) h e =
-          ap (λ (n : ℕ). on n (param at none) (λ k. keyed at least (at16 (x ∷ xs) 0) (unorderedFrom k (at + 1) (at16 (x ∷ xs) 0 + 1) xs))) e
+          ap (λ (n : ℕ). on n (param at none) (λ k. keyed at least (at16 (x ∷ xs) 0) (unordered_from k (at + 1) (at16 (x ∷ xs) 0 + 1) xs))) e
 
   pub whole-unordered : (size_of s ≡ 0 → ⊥)
-      → unorderedFrom 0 at least s ≡ keyed at least (at16 s 0) (unorderedFrom 0 (at + size_of s) (at16 s 0 + 1) (drop (size_of s) s))
-  unfolding unorderedFrom
+      → unordered_from 0 at least s ≡ keyed at least (at16 s 0) (unordered_from 0 (at + size_of s) (at16 s 0 + 1) (drop (size_of s) s))
+  unfolding unordered_from
   whole-unordered z = let h = sized s z in go s (size_of s - 1) (omega (arith, h.head)) (omega (arith, h.head, h.room))
     where
       go : (s : List ℕ) (n : ℕ) → size_of s ≡ suc n → suc n ≤ length s
-          → unorderedFrom 0 at least s ≡ keyed at least (at16 s 0) (unorderedFrom 0 (at + size_of s) (at16 s 0 + 1) (drop (size_of s) s))
+          → unordered_from 0 at least s ≡ keyed at least (at16 s 0) (unordered_from 0 (at + size_of s) (at16 s 0 + 1) (drop (size_of s) s))
       go [] n e h = absurd (omega arith)
       go (x ∷ xs) n e h =
           let j : at + 1 + n ≡ at + size_of (x ∷ xs) = omega arith in
-          ap (λ (n : ℕ). on n (param at none) (λ k. keyed at least (at16 (x ∷ xs) 0) (unorderedFrom k (at + 1) (at16 (x ∷ xs) 0 + 1) xs))) e
+          ap (λ (n : ℕ). on n (param at none) (λ k. keyed at least (at16 (x ∷ xs) 0) (unordered_from k (at + 1) (at16 (x ∷ xs) 0 + 1) xs))) e
           ∙ ap (keyed at least (at16 (x ∷ xs) 0))
           (skip-unordered n (at + 1) (at16 (x ∷ xs) 0 + 1) xs (omega arith)
-          ∙ ap₂ (λ (j : ℕ) (l : List ℕ). unorderedFrom 0 j (at16 (x ∷ xs) 0 + 1) l) j (ap (λ (m : ℕ). drop m (x ∷ xs)) (sym e)))
+          ∙ ap₂ (λ (j : ℕ) (l : List ℕ). unordered_from 0 j (at16 (x ∷ xs) 0 + 1) l) j (ap (λ (m : ℕ). drop m (x ∷ xs)) (sym e)))
 
 -- what is left of the field decides, its keys from `least` on
 pub record Ordering (p : List ℕ) (at least : ℕ) : Type 0 where
   pub within : at ≤ length p
-  pub left : unorderedFrom 0 0 0 p ≡ unorderedFrom 0 at least (drop at p)
+  pub left : unordered_from 0 0 0 p ≡ unordered_from 0 at least (drop at p)
 
 pub ordering-start : (p : List ℕ) → Ordering p 0 0
 ordering-start p = record { within = omega arith; left = refl }
 
 module _ (p : List ℕ) (at least : ℕ) (i : Ordering p at least) where
-  pub ordering-end : length p ≤ at → nothing ≡ unorderedFrom 0 0 0 p
-  unfolding unorderedFrom
-  ordering-end h = sym (i.left ∙ ap (unorderedFrom 0 at least) (drop_of_length-le p h))
+  pub ordering-end : length p ≤ at → nothing ≡ unordered_from 0 0 0 p
+  unfolding unordered_from
+  ordering-end h = sym (i.left ∙ ap (unordered_from 0 at least) (drop_of_length-le p h))
 
   module _ {n : ℕ} (e : n ≡ size_of (rest p at)) where
-    pub ordering-short : at < length p → n ≡ 0 → param at none ≡ unorderedFrom 0 0 0 p
+    pub ordering-short : at < length p → n ≡ 0 → param at none ≡ unordered_from 0 0 0 p
     ordering-short h z = sym (i.left ∙ short-unordered at least (drop at p) (simp length-drop (omega arith)) (is-size p at e ∙ z))
 
     module _ {k : ℕ} (z : n ≡ 0 → ⊥) (q : k ≡ at16 (rest p at) 0) where
-      onward : unorderedFrom 0 0 0 p ≡ keyed at least k (unorderedFrom 0 (at + n) (k + 1) (drop (at + n) p))
+      onward : unordered_from 0 0 0 p ≡ keyed at least k (unordered_from 0 (at + n) (k + 1) (drop (at + n) p))
       onward =
           i.left ∙ whole-unordered at least (drop at p) (λ y. z (sym (is-size p at e) ∙ y))
-          ∙ ap₂ (λ (k m : ℕ). keyed at least k (unorderedFrom 0 (at + m) (k + 1) (drop m (drop at p)))) (key-is p at e q) (is-size p at e)
-          ∙ ap (λ (l : List ℕ). keyed at least k (unorderedFrom 0 (at + n) (k + 1) l)) (drop-drop n at p)
+          ∙ ap₂ (λ (k m : ℕ). keyed at least k (unordered_from 0 (at + m) (k + 1) (drop m (drop at p)))) (key-is p at e q) (is-size p at e)
+          ∙ ap (λ (l : List ℕ). keyed at least k (unordered_from 0 (at + n) (k + 1) l)) (drop-drop n at p)
 
-      pub ordering-low : k < least → param at k ≡ unorderedFrom 0 0 0 p
+      pub ordering-low : k < least → param at k ≡ unordered_from 0 0 0 p
       ordering-low h = sym (onward ∙ simp (lt-ltb _ _ h))
 
-      pub ordering-invalid : k ≡ key.invalid → param at k ≡ unorderedFrom 0 0 0 p
-      ordering-invalid h = sym (onward ∙ simp (eq-eqb _ _ h, or-true))
+      pub ordering-invalid : k ≡ key.invalid → param at k ≡ unordered_from 0 0 0 p
+      ordering-invalid h = sym (onward ∙ simp (eq-eq _ _ h, or-true))
 
       pub ordering-next : least ≤ k → (k ≡ key.invalid → ⊥) → Ordering p (at + n) (k + 1)
       ordering-next h g =
@@ -109,76 +109,76 @@ module _ (p : List ℕ) (at least : ℕ) (i : Ordering p at least) where
 -- ---- hints and values
 
 module _ (hints : Bool) (ks : List ℕ) where
-  skip-wrong : (k at : ℕ) (s : List ℕ) → k ≤ length s → wrongFrom hints ks k at s ≡ wrongFrom hints ks 0 (at + k) (drop k s)
-  unfolding wrongFrom
-  skip-wrong zero at s h = let e : at ≡ at + 0 = omega arith in ap (λ (j : ℕ). wrongFrom hints ks 0 j s) e
+  skip-wrong : (k at : ℕ) (s : List ℕ) → k ≤ length s → wrong_from hints ks k at s ≡ wrong_from hints ks 0 (at + k) (drop k s)
+  unfolding wrong_from
+  skip-wrong zero at s h = let e : at ≡ at + 0 = omega arith in ap (λ (j : ℕ). wrong_from hints ks 0 j s) e
   skip-wrong (suc k) at [] h = absurd (omega arith)
   skip-wrong (suc k) at (x ∷ xs) h =
       let e : at + 1 + k ≡ at + suc k = omega arith in
-      skip-wrong k (at + 1) xs (omega arith) ∙ ap (λ (j : ℕ). wrongFrom hints ks 0 j (drop k xs)) e
+      skip-wrong k (at + 1) xs (omega arith) ∙ ap (λ (j : ℕ). wrong_from hints ks 0 j (drop k xs)) e
 
   -- whether the parameter that stands first, of so many octets, is wrong
   abbrev judged : List ℕ → ℕ → Bool
-  judged s n = wrongOf hints ks (at16 s 0) (take (n - 4) (drop 4 s))
+  judged s n = wrong_of hints ks (at16 s 0) (take (n - 4) (drop 4 s))
 
   -- what the search makes of it, by what it makes of those after it
   abbrev sought : ℕ → List ℕ → Param → Param
   sought at s after = cond (judged s (size_of s)) (param at (at16 s 0)) after
 
-  short-wrong : (at : ℕ) (s : List ℕ) → size_of s ≡ 0 → wrongFrom hints ks 0 at s ≡ nothing
-  unfolding wrongFrom
+  short-wrong : (at : ℕ) (s : List ℕ) → size_of s ≡ 0 → wrong_from hints ks 0 at s ≡ nothing
+  unfolding wrong_from
   short-wrong at [] e = refl
   short-wrong at (x ∷ xs) e = ap (λ (n : ℕ). on n nothing (λ k.
-      sought at (x ∷ xs) (wrongFrom hints ks k (at + 1) xs))) e
+      sought at (x ∷ xs) (wrong_from hints ks k (at + 1) xs))) e
 
   pub whole-wrong : (at : ℕ) (s : List ℕ) → (size_of s ≡ 0 → ⊥)
-      → wrongFrom hints ks 0 at s ≡ sought at s (wrongFrom hints ks 0 (at + size_of s) (drop (size_of s) s))
-  unfolding wrongFrom
+      → wrong_from hints ks 0 at s ≡ sought at s (wrong_from hints ks 0 (at + size_of s) (drop (size_of s) s))
+  unfolding wrong_from
   whole-wrong at s z = let h = sized s z in go s (size_of s - 1) (omega (arith, h.head)) (omega (arith, h.head, h.room))
     where
       go : (s : List ℕ) (n : ℕ) → size_of s ≡ suc n → suc n ≤ length s
-          → wrongFrom hints ks 0 at s ≡ sought at s (wrongFrom hints ks 0 (at + size_of s) (drop (size_of s) s))
+          → wrong_from hints ks 0 at s ≡ sought at s (wrong_from hints ks 0 (at + size_of s) (drop (size_of s) s))
       go [] n e h = absurd (omega arith)
       go (x ∷ xs) n e h =
           let j : at + 1 + n ≡ at + size_of (x ∷ xs) = omega arith in
           ap (λ (n : ℕ). on n nothing (λ k.
-          sought at (x ∷ xs) (wrongFrom hints ks k (at + 1) xs))) e
+          sought at (x ∷ xs) (wrong_from hints ks k (at + 1) xs))) e
           ∙ ap (sought at (x ∷ xs))
           (skip-wrong n (at + 1) xs (omega arith)
-          ∙ ap₂ (λ (j : ℕ) (l : List ℕ). wrongFrom hints ks 0 j l) j (ap (λ (m : ℕ). drop m (x ∷ xs)) (sym e)))
+          ∙ ap₂ (λ (j : ℕ) (l : List ℕ). wrong_from hints ks 0 j l) j (ap (λ (m : ℕ). drop m (x ∷ xs)) (sym e)))
 
 -- what is left of the field decides
 pub record Seeking (hints : Bool) (ks p : List ℕ) (at : ℕ) : Type 0 where
   pub within : at ≤ length p
-  pub left : wrongFrom hints ks 0 0 p ≡ wrongFrom hints ks 0 at (drop at p)
+  pub left : wrong_from hints ks 0 0 p ≡ wrong_from hints ks 0 at (drop at p)
 
 pub seeking-start : (hints : Bool) (ks p : List ℕ) → Seeking hints ks p 0
 seeking-start hints ks p = record { within = omega arith; left = refl }
 
 module _ (hints : Bool) (ks p : List ℕ) (at : ℕ) (i : Seeking hints ks p at) {n : ℕ} (e : n ≡ size_of (rest p at)) where
-  pub seeking-end : n ≡ 0 → nothing ≡ wrongFrom hints ks 0 0 p
+  pub seeking-end : n ≡ 0 → nothing ≡ wrong_from hints ks 0 0 p
   seeking-end z = sym (i.left ∙ short-wrong hints ks at (drop at p) (is-size p at e ∙ z))
 
-  module _ {k : ℕ} {b : Bool} (z : n ≡ 0 → ⊥) (q : k ≡ at16 (rest p at) 0) (g : b ≡ wrongOf hints ks k (value_at p at n)) where
+  module _ {k : ℕ} {b : Bool} (z : n ≡ 0 → ⊥) (q : k ≡ at16 (rest p at) 0) (g : b ≡ wrong_of hints ks k (value_at p at n)) where
     judged-is : (judged hints ks (drop at p) (size_of (drop at p)) ≡ b) × (at16 (drop at p) 0 ≡ k)
     judged-is = (
       ap₂ (λ (l : List ℕ) (m : ℕ). judged hints ks l m) (sym (take_rest at p)) (is-size p at e)
-          ∙ ap (λ (x : ℕ). wrongOf hints ks x (value_at p at n)) (sym q) ∙ sym g,
+          ∙ ap (λ (x : ℕ). wrong_of hints ks x (value_at p at n)) (sym q) ∙ sym g,
       key-is p at e q,
     )
 
     -- what the search makes of the field after n octets of the parameter
     abbrev left_after : ℕ → Param
-    left_after m = wrongFrom hints ks 0 (at + m) (drop m (drop at p))
+    left_after m = wrong_from hints ks 0 (at + m) (drop m (drop at p))
 
-    toward : wrongFrom hints ks 0 0 p ≡ cond b (param at k) (wrongFrom hints ks 0 (at + n) (drop (at + n) p))
+    toward : wrong_from hints ks 0 0 p ≡ cond b (param at k) (wrong_from hints ks 0 (at + n) (drop (at + n) p))
     toward =
         i.left ∙ whole-wrong hints ks at (drop at p) (λ y. z (sym (is-size p at e) ∙ y))
         ∙ ap₂ (λ (b : Bool) (k : ℕ). cond b (param at k) (left_after (size_of (drop at p)))) judged-is.0 judged-is.1
         ∙ ap (λ (m : ℕ). cond b (param at k) (left_after m)) (is-size p at e)
-        ∙ ap (λ (l : List ℕ). cond b (param at k) (wrongFrom hints ks 0 (at + n) l)) (drop-drop n at p)
+        ∙ ap (λ (l : List ℕ). cond b (param at k) (wrong_from hints ks 0 (at + n) l)) (drop-drop n at p)
 
-    pub seeking-found : b ≡ true → param at k ≡ wrongFrom hints ks 0 0 p
+    pub seeking-found : b ≡ true → param at k ≡ wrong_from hints ks 0 0 p
     seeking-found y = sym (toward ∙ simp y)
 
     pub seeking-next : b ≡ false → Seeking hints ks p (at + n)

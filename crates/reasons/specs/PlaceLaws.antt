@@ -6,7 +6,7 @@ use Rattle.octets.specs.Lists.{All}
 use Rattle.reasons.specs.declared.Mark.{Mark}
 use Rattle.reasons.specs.declared.Mark.TheVariants.{Length, Label, After}
 use Rattle.reasons.specs.Reason as reason
-use Rattle.reasons.specs.Names.{markFrom, mark_of, lengthReason, octetReason, markReason, wireReason}
+use Rattle.reasons.specs.Names.{mark_from, mark_of, length_reason, octet_reason, mark_reason, wire_reason}
 use Rattle.reasons.specs.NamesLaws.{mark-length, mark-label, mark-after, mark-opens, mark-within, wire-within}
 use Rattle.reasons.specs.Claims.{labelled}
 
@@ -29,7 +29,7 @@ labelled-snoc (m ∷ ms) l t = ap (λ (q : List ℕ). length m ∷ (m ++ q)) (la
 
 -- ---- what stands after them
 
-mark-past : (l t : List ℕ) (k j m n : ℕ) → m ≡ length l + k → n ≡ length l + j → markFrom m n (l ++ t) ≡ markFrom k j t
+mark-past : (l t : List ℕ) (k j m n : ℕ) → m ≡ length l + k → n ≡ length l + j → mark_from m n (l ++ t) ≡ mark_from k j t
 mark-past [] t k j m n e f =
     let a : m ≡ k = omega arith in
     let b : n ≡ j = omega arith in
@@ -42,7 +42,7 @@ abbrev pub Some : List ℕ → Type 0
 Some l = 1 ≤ length l
 
 mark-labelled : (ls : List (List ℕ)) (t : List ℕ) (j n : ℕ) → All Some ls → n ≡ length (labelled ls []) + j
-    → markFrom 0 n (labelled ls t) ≡ markFrom 0 j t
+    → mark_from 0 n (labelled ls t) ≡ mark_from 0 j t
 mark-labelled [] t j n o e = let q : n ≡ j = omega arith in cc
 mark-labelled (l ∷ ls) t j n o e =
     let h = o.0 in
@@ -57,7 +57,7 @@ mark-labelled (l ∷ ls) t j n o e =
 module _ (ls : List (List ℕ)) (o : All Some ls) (s : List ℕ) (p x : ℕ) (xs : List ℕ) where
   -- by what stands at the place
   by-mark : (b : List ℕ) (m : Mark) → s ≡ labelled ls (b ++ (x ∷ xs)) → p ≡ length (labelled ls b) → m ≡ mark_of s p
-      → wireReason s p ≡ markReason m x
+      → wire_reason s p ≡ mark_reason m x
   by-mark b m e q f =
       let n = labelled-length ls (b ++ (x ∷ xs)) in
       let k = labelled-length ls b in
@@ -70,24 +70,24 @@ module _ (ls : List (List ℕ)) (o : All Some ls) (s : List ℕ) (p x : ℕ) (xs
       ∙ get_or_at (labelled ls b) x xs 0 p (sym q)) in
       sym (wire-within s p (λ y. omega arith) (omega arith) g f)
 
-  pub at_length : s ≡ labelled ls (x ∷ xs) → p ≡ length (labelled ls []) → wireReason s p ≡ lengthReason x
+  pub at_length : s ≡ labelled ls (x ∷ xs) → p ≡ length (labelled ls []) → wire_reason s p ≡ length_reason x
   at_length e q =
       by-mark [] Length e q
-      (sym (ap (λ (l : List ℕ). markFrom 0 p l) e ∙ mark-labelled ls (x ∷ xs) 0 p o (omega arith) ∙ mark-length x xs 0 0 refl refl))
+      (sym (ap (λ (l : List ℕ). mark_from 0 p l) e ∙ mark-labelled ls (x ∷ xs) 0 p o (omega arith) ∙ mark-length x xs 0 0 refl refl))
 
-  pub after-root : s ≡ labelled ls (0 ∷ (x ∷ xs)) → p ≡ length (labelled ls (0 ∷ [])) → wireReason s p ≡ reason.after
+  pub after-root : s ≡ labelled ls (0 ∷ (x ∷ xs)) → p ≡ length (labelled ls (0 ∷ [])) → wire_reason s p ≡ reason.after
   after-root e q =
       let k = labelled-length ls (0 ∷ []) in
       by-mark (0 ∷ []) After e q
-      (sym (ap (λ (l : List ℕ). markFrom 0 p l) e ∙ mark-labelled ls (0 ∷ (x ∷ xs)) 1 p o (omega arith)
+      (sym (ap (λ (l : List ℕ). mark_from 0 p l) e ∙ mark-labelled ls (0 ∷ (x ∷ xs)) 1 p o (omega arith)
       ∙ mark-after 0 (x ∷ xs) 0 1 refl (λ z. omega arith) refl))
 
   pub in-label : (n : ℕ) (b : List ℕ) → length b < n → s ≡ labelled ls (n ∷ (b ++ (x ∷ xs))) → p ≡ length (labelled ls (n ∷ b))
-      → wireReason s p ≡ octetReason x
+      → wire_reason s p ≡ octet_reason x
   in-label n b h e q =
       let k = labelled-length ls (n ∷ b) in
       by-mark (n ∷ b) Label e q
-      (sym (ap (λ (l : List ℕ). markFrom 0 p l) e ∙ mark-labelled ls (n ∷ (b ++ (x ∷ xs))) (length b + 1) p o (omega arith)
+      (sym (ap (λ (l : List ℕ). mark_from 0 p l) e ∙ mark-labelled ls (n ∷ (b ++ (x ∷ xs))) (length b + 1) p o (omega arith)
       ∙ mark-opens n (b ++ (x ∷ xs)) 0 (length b + 1) refl (λ z. omega arith) (λ z. omega arith)
       ∙ mark-past b (x ∷ xs) (n - length b) 0 n (length b + 1 - 1) (omega arith) (omega arith)
       ∙ mark-label x xs (n - length b) 0 (λ z. omega arith) refl))

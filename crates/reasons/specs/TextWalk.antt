@@ -1,9 +1,9 @@
 -- What stands before a place of a text, along the walk of the check. Assumes nothing.
-use Rattle.std.specs.Prelude.{◌≡◌, refl, ◌⊎◌, true, false, ℕ, ◌+◌, ◌-◌, ◌≤◌, ◌<◌, min, leb, eqb, length}
-use Rattle.std.proofs.Common.{sym, ap, ap₂, ◌∙◌, subst, inl, inr, true≢false, arith, length-append, eqb-true, leb-true, leb-false}
+use Rattle.std.specs.Prelude.{◌≡◌, refl, ◌⊎◌, true, false, ℕ, ◌+◌, ◌-◌, ◌≤◌, ◌<◌, min, leb, eq, length}
+use Rattle.std.proofs.Common.{sym, ap, ap₂, ◌∙◌, subst, inl, inr, true≢false, arith, length-append, eq-true, leb-true, leb-false}
 use Rattle.std.proofs.Math.Bool.{cond}
 use mathlib.Core.List.{List, [], ◌∷◌, ◌++◌, append_assoc}
-use Rattle.std.proofs.lemmas.Bool.{eqb-false}
+use Rattle.std.proofs.lemmas.Bool.{eq-false}
 use Rattle.octets.specs.Cases.{by-test}
 use Rattle.octets.specs.ListsLaws.{all_append}
 use Rattle.names.specs.declared.Name.TheVariants.{Good, Bad}
@@ -11,8 +11,8 @@ use Rattle.names.specs.Names.{alnum, head, last, Ldh, Label}
 use Rattle.names.specs.Automaton.{Move, stop, go, on, walk}
 use Rattle.names.specs.AutomatonLaws.{not_good}
 use Rattle.names.specs.Complete.{both}
-use Rattle.texts.specs.TextCheck.{State, start, letter, hyphen, step, ended, after, inside, dot, textAutomaton, textCheck}
-use Rattle.reasons.specs.Names.{textReason}
+use Rattle.texts.specs.TextCheck.{State, start, letter, hyphen, step, ended, after, inside, dot, text_automaton, text_check}
+use Rattle.reasons.specs.Names.{text_reason}
 use Rattle.reasons.specs.NamesLaws.{head-snoc, last-append}
 use Rattle.reasons.specs.Claims.{pointed, InText, TextWhy}
 use Rattle.reasons.specs.TextWhy.{pointed-length, pointed-snoc, last-any, stop-why, end-start, end-hyphen}
@@ -103,15 +103,15 @@ module _ (s : List ℕ) (at x : ℕ) (xs : List ℕ) where
 
 module _ (s : List ℕ) (p : ℕ) where
   abbrev Why : Type 0
-  Why = TextWhy s p (textReason s p)
+  Why = TextWhy s p (text_reason s p)
 
-  there : (at : ℕ) → TextWhy s at (textReason s at) → Bad at ≡ Bad p → Why
-  there at w e = let q : at ≡ p = cc in subst (λ (i : ℕ). TextWhy s i (textReason s i)) q w
+  there : (at : ℕ) → TextWhy s at (text_reason s at) → Bad at ≡ Bad p → Why
+  there at w e = let q : at ≡ p = cc in subst (λ (i : ℕ). TextWhy s i (text_reason s i)) q w
 
-  module _ (at x : ℕ) (xs : List ℕ) (ih : (st : State) → Before s st (at + 1) xs → walk textAutomaton st (at + 1) xs ≡ Bad p → Why) where
+  module _ (at x : ℕ) (xs : List ℕ) (ih : (st : State) → Before s st (at + 1) xs → walk text_automaton st (at + 1) xs ≡ Bad p → Why) where
     -- what is shown of each move
     abbrev Moved : Move State → Type 0
-    Moved m = on m (Bad at) (λ st. walk textAutomaton st (at + 1) xs) ≡ Bad p → Why
+    Moved m = on m (Bad at) (λ st. walk text_automaton st (at + 1) xs) ≡ Bad p → Why
 
     start-moved : InText s at [] (x ∷ xs) → Moved (step start at x)
     start-moved i =
@@ -122,7 +122,7 @@ module _ (s : List ℕ) (p : ℕ) where
 
     module _ (k : ℕ) (begun : List ℕ) (w : Begun s k at begun (x ∷ xs)) where
       -- a letter, a digit or a hyphen that is one too many, and any other octet
-      full : (x ≡ 46 → (last 0 begun ≡ 45 → ⊥) → 252 ≤ at) → (x ≡ 45 → k ≤ 1) → (alnum x ≡ true → k ≡ 0) → TextWhy s at (textReason s at)
+      full : (x ≡ 46 → (last 0 begun ≡ 45 → ⊥) → 252 ≤ at) → (x ≡ 45 → k ≤ 1) → (alnum x ≡ true → k ≡ 0) → TextWhy s at (text_reason s at)
       full hd hh ha =
           let l = w.left in
           let m = w.short in
@@ -143,20 +143,20 @@ module _ (s : List ℕ) (p : ℕ) where
 
       inside-moved : (other : Move State) → ((alnum x ≡ true → ⊥) → (x ≡ 45 → ⊥) → Moved other) → Moved (inside k x other)
       inside-moved other f =
-          let lettered : Move State = cond (eqb k 0) stop (go (letter (k - 1))) in
+          let lettered : Move State = cond (eq k 0) stop (go (letter (k - 1))) in
           let hyphened : Move State = cond (leb k 1) stop (go (hyphen (k - 1))) in
-          by-test (alnum x) (λ b. Moved (cond b lettered (cond (eqb x 45) hyphened other)))
-          (λ a. by-test (eqb k 0) (λ b. Moved (cond b stop (go (letter (k - 1)))))
-          (λ z e. there at (full (λ d. absurd (dotless a d)) (λ q. both x a q) (λ _. eqb-true _ _ z)) e)
-          (λ z e. ih (letter (k - 1)) (begun ++ (x ∷ []), further s at x xs begun k w (eqb-false _ _ z) (inl a), ap alnum (ends x) ∙ a) e))
+          by-test (alnum x) (λ b. Moved (cond b lettered (cond (eq x 45) hyphened other)))
+          (λ a. by-test (eq k 0) (λ b. Moved (cond b stop (go (letter (k - 1)))))
+          (λ z e. there at (full (λ d. absurd (dotless a d)) (λ q. both x a q) (λ _. eq-true _ _ z)) e)
+          (λ z e. ih (letter (k - 1)) (begun ++ (x ∷ []), further s at x xs begun k w (eq-false _ _ z) (inl a), ap alnum (ends x) ∙ a) e))
           (λ a. let n : alnum x ≡ true → ⊥ = λ b. true≢false (sym b ∙ a) in
-          by-test (eqb x 45) (λ b. Moved (cond b hyphened other))
-          (λ t. let q : x ≡ 45 = eqb-true _ _ t in
+          by-test (eq x 45) (λ b. Moved (cond b hyphened other))
+          (λ t. let q : x ≡ 45 = eq-true _ _ t in
           by-test (leb k 1) (λ b. Moved (cond b stop (go (hyphen (k - 1)))))
           (λ u e. there at (full (λ d. absurd (omega arith)) (λ _. leb-true _ _ u) (λ b. absurd (n b))) e)
           (λ u e. let l : 1 < k = leb-false _ _ u in
           ih (hyphen (k - 1)) (begun ++ (x ∷ []), further s at x xs begun k w (λ z. omega arith) (inr q), ends x ∙ q, omega arith) e))
-          (λ t. f n (eqb-false _ _ t)))
+          (λ t. f n (eq-false _ _ t)))
         where
           dotless : alnum x ≡ true → x ≡ 46 → ⊥
           dotless a d = true≢false (sym a ∙ ap alnum d ∙ dot-not-alnum)
@@ -164,12 +164,12 @@ module _ (s : List ℕ) (p : ℕ) where
       letter-moved : alnum (last 0 begun) ≡ true → Moved (step (letter k) at x)
       letter-moved a =
           inside-moved (dot at x)
-          (λ na nh. by-test (eqb x 46) (λ b. Moved (cond b (cond (leb at 251) (go start) stop) stop))
-          (λ t. let d : x ≡ 46 = eqb-true _ _ t in
+          (λ na nh. by-test (eq x 46) (λ b. Moved (cond b (cond (leb at 251) (go start) stop) stop))
+          (λ t. let d : x ≡ 46 = eq-true _ _ t in
           by-test (leb at 251) (λ b. Moved (cond b (go start) stop))
           (λ u e. ih start (closed s at x xs begun k w a d) e)
           (λ u e. let l : 251 < at = leb-false _ _ u in there at (full (λ _ _. omega arith) (λ q. absurd (nh q)) (λ b. absurd (na b))) e))
-          (λ t e. there at (full (λ q. absurd (eqb-false _ _ t q)) (λ q. absurd (nh q)) (λ b. absurd (na b))) e))
+          (λ t e. there at (full (λ q. absurd (eq-false _ _ t q)) (λ q. absurd (nh q)) (λ b. absurd (na b))) e))
 
       hyphen-moved : last 0 begun ≡ 45 → Moved (step (hyphen k) at x)
       hyphen-moved q =
@@ -181,20 +181,20 @@ module _ (s : List ℕ) (p : ℕ) where
     moved (letter k) v = letter-moved k v.0 v.1 v.2
     moved (hyphen k) v = hyphen-moved k v.0 v.1 v.2
 
-  at-end : (st : State) (at : ℕ) → Before s st at [] → ended st ≡ false → TextWhy s at (textReason s at)
-  at-end start at i e = end-start s at [] i refl
-  at-end (letter k) at v e = absurd (true≢false e)
-  at-end (hyphen k) at v e = end-hyphen s at v.0 v.1.is v.1.some v.2
+  at_end : (st : State) (at : ℕ) → Before s st at [] → ended st ≡ false → TextWhy s at (text_reason s at)
+  at_end start at i e = end-start s at [] i refl
+  at_end (letter k) at v e = absurd (true≢false e)
+  at_end (hyphen k) at v e = end-hyphen s at v.0 v.1.is v.1.some v.2
 
-  along : (xs : List ℕ) (st : State) (at : ℕ) → Before s st at xs → walk textAutomaton st at xs ≡ Bad p → Why
+  along : (xs : List ℕ) (st : State) (at : ℕ) → Before s st at xs → walk text_automaton st at xs ≡ Bad p → Why
   unfolding walk
   along [] st at v e =
       by-test (ended st) (λ b. cond b Good (Bad at) ≡ Bad p → Why)
       (λ _ g. not_good (sym g))
-      (λ t g. there at (at-end st at v t) g)
+      (λ t g. there at (at_end st at v t) g)
       e
   along (x ∷ xs) st at v e = moved at x xs (λ st'. along xs st' (at + 1)) st v e
 
-pub text-true : (s : List ℕ) (p : ℕ) → textCheck s ≡ Bad p → TextWhy s p (textReason s p)
-unfolding textCheck
+pub text-true : (s : List ℕ) (p : ℕ) → text_check s ≡ Bad p → TextWhy s p (text_reason s p)
+unfolding text_check
 text-true s p e = along s p s start 0 (record { labels = []; each = tt; is = refl; place = refl; octets = tt }) e

@@ -1,13 +1,13 @@
 -- Why a name in wire form is bad at its first bad place: along the walk of the check, what stands before the place. Assumes nothing.
-use Rattle.std.specs.Prelude.{◌≡◌, refl, ◌⊎◌, Bool, false, ◌&&◌, leb, ltb, eqb}
+use Rattle.std.specs.Prelude.{◌≡◌, refl, ◌⊎◌, Bool, false, ◌&&◌, leb, ltb, eq}
 use Rattle.std.proofs.Math.Path.{sym, ap}
-use Rattle.std.proofs.Common.{◌∙◌, subst, inl, inr, true≢false, eqb-true, leb-true, leb-false, ltb-true, ltb-false, eq-eqb, le-leb}
+use Rattle.std.proofs.Common.{◌∙◌, subst, inl, inr, true≢false, eq-true, leb-true, leb-false, ltb-true, ltb-false, eq-eq, le-leb}
 use Rattle.std.proofs.Math.Bool.{true, cond, and-eq-true_iff}
 use mathlib.Core.List.{List, [], ◌∷◌, ◌++◌, append_assoc, append-nil}
 use Prim.Native.Nat.{ℕ, ◌+◌, ◌-◌, ◌≤◌, ◌<◌}
 use native.Mathlib.Omega.{arith}
 use Rattle.std.proofs.Math.ListN.{length, length-append}
-use Rattle.std.proofs.lemmas.Bool.{eqb-false}
+use Rattle.std.proofs.lemmas.Bool.{eq-false}
 use Rattle.octets.specs.Cases.{by-test}
 use Rattle.octets.specs.Lists.{All}
 use Rattle.octets.specs.ListsLaws.{all_append, all_map}
@@ -15,9 +15,9 @@ use Rattle.names.specs.declared.Name.TheVariants.{Good, Bad}
 use Rattle.names.specs.Names.{alnum, head, last, Ldh, Label}
 use Rattle.names.specs.Automaton.{Move, stop, go, on, walk}
 use Rattle.names.specs.AutomatonLaws.{not_good}
-use Rattle.names.specs.Wire.{State, letter, hyphen, first, root, step, ended, inside, lengthOctet, labelFits, hyphenFits, nameAutomaton, nameCheck}
+use Rattle.names.specs.Wire.{State, letter, hyphen, first, root, step, ended, inside, length_octet, label_fits, hyphen_fits, name_automaton, name_check}
 use Rattle.reasons.specs.Reason as reason
-use Rattle.reasons.specs.Names.{lengthReason, octetReason, wireReason}
+use Rattle.reasons.specs.Names.{length_reason, octet_reason, wire_reason}
 use Rattle.reasons.specs.NamesLaws.{head-snoc, last-append, wire-cut}
 use Rattle.reasons.specs.PlaceLaws.{Some, labelled-length, labelled-snoc, at_length, after-root, in-label}
 use Rattle.reasons.specs.Claims as claims
@@ -158,7 +158,7 @@ either-false false b e f = absurd (true≢false (sym f))
 
 module _ (s : List ℕ) (p x : ℕ) (xs : List ℕ) where
   -- at a length octet
-  length-why : Whole s p (x ∷ xs) → (x ≡ 0 → p ≡ 0) → ((x ≡ 0 → ⊥) → labelFits p x ≡ false) → WireWhy s p (wireReason s p)
+  length-why : Whole s p (x ∷ xs) → (x ≡ 0 → p ≡ 0) → ((x ≡ 0 → ⊥) → label_fits p x ≡ false) → WireWhy s p (wire_reason s p)
   length-why w e f = subst (WireWhy s p) (sym (at_length w.labels (some-each w.labels w.each) s p x xs w.is w.place)) judged
     where
       here : AtLength s p x
@@ -168,23 +168,23 @@ module _ (s : List ℕ) (p x : ℕ) (xs : List ℕ) where
       bare [] h = refl
       bare (l ∷ ls) h = absurd (omega arith)
 
-      judged : WireWhy s p (lengthReason x)
+      judged : WireWhy s p (length_reason x)
       judged =
-          by-test (eqb x 0) (λ b. WireWhy s p (cond b reason.empty (cond (leb 192 x) reason.pointer (cond (leb 64 x) reason.label reason.long))))
-          (λ t. let z : x ≡ 0 = eqb-true _ _ t in let g = w.place in let y = e z in
+          by-test (eq x 0) (λ b. WireWhy s p (cond b reason.empty (cond (leb 192 x) reason.pointer (cond (leb 64 x) reason.label reason.long))))
+          (λ t. let z : x ≡ 0 = eq-true _ _ t in let g = w.place in let y = e z in
           claims.empty refl (inr (xs, w.is ∙ ap (λ (v : ℕ). labelled w.labels (v ∷ xs)) z ∙ bare w.labels (omega arith))) y)
           (λ t. by-test (leb 192 x) (λ b. WireWhy s p (cond b reason.pointer (cond (leb 64 x) reason.label reason.long)))
           (λ u. claims.pointer refl x here (leb-true _ _ u))
           (λ u. by-test (leb 64 x) (λ b. WireWhy s p (cond b reason.label reason.long))
           (λ v. claims.label refl x here (leb-true _ _ v) (leb-false _ _ u))
-          (λ v. let n : x ≡ 0 → ⊥ = eqb-false _ _ t in
+          (λ v. let n : x ≡ 0 → ⊥ = eq-false _ _ t in
           let h : x < 64 = leb-false _ _ v in
           let g : 253 < p + x = leb-false _ _ (either-false (leb x 63) (leb (p + x) 253) (f n) (le-leb x 63 (omega arith))) in
           claims.long refl x here (omega (arith, n)) (omega arith) (omega arith))))
 
   -- within a label
   octet-why : (begun : List ℕ) (k : ℕ) → Within s begun k p (x ∷ xs) → 1 ≤ k → alnum x ≡ false → (x ≡ 45 → (length begun ≡ 0) ⊎ (k ≡ 1))
-      → WireWhy s p (wireReason s p)
+      → WireWhy s p (wire_reason s p)
   octet-why begun k w h a e =
       subst (WireWhy s p)
       (sym (in-label w.labels (some-each w.labels w.each) s p x xs w.size begun (let f = w.left in omega arith) w.is w.place))
@@ -210,62 +210,62 @@ module _ (s : List ℕ) (p x : ℕ) (xs : List ℕ) where
       other n (inl t) = true≢false (sym t ∙ a)
       other n (inr t) = n t
 
-      judged : WireWhy s p (octetReason x)
+      judged : WireWhy s p (octet_reason x)
       judged =
-          by-test (eqb x 95) (λ b. WireWhy s p (cond b reason.underscore (cond (eqb x 45) reason.hyphen reason.octet)))
-          (λ t. claims.underscore refl w.size begun (here 95 (eqb-true _ _ t)))
-          (λ t. by-test (eqb x 45) (λ b. WireWhy s p (cond b reason.hyphen reason.octet))
-          (λ u. claims.hyphen refl w.size begun (here 45 (eqb-true _ _ u)) (ends (e (eqb-true _ _ u))))
-          (λ u. claims.octet refl x w.size begun (here x refl) (other (eqb-false _ _ u)) (eqb-false _ _ t)))
+          by-test (eq x 95) (λ b. WireWhy s p (cond b reason.underscore (cond (eq x 45) reason.hyphen reason.octet)))
+          (λ t. claims.underscore refl w.size begun (here 95 (eq-true _ _ t)))
+          (λ t. by-test (eq x 45) (λ b. WireWhy s p (cond b reason.hyphen reason.octet))
+          (λ u. claims.hyphen refl w.size begun (here 45 (eq-true _ _ u)) (ends (e (eq-true _ _ u))))
+          (λ u. claims.octet refl x w.size begun (here x refl) (other (eq-false _ _ u)) (eq-false _ _ t)))
 
-  root-why : Rooted s p (x ∷ xs) → WireWhy s p (wireReason s p)
+  root-why : Rooted s p (x ∷ xs) → WireWhy s p (wire_reason s p)
   root-why w =
       claims.after (after-root w.labels (some-each w.labels w.each) s p x xs w.is w.place)
       (record { labels = w.labels; after = x ∷ xs; named = w.named; each = w.each; is = w.is; place = w.place; some = omega arith })
 
 -- at the end
-cut-why : (s : List ℕ) (p : ℕ) → p ≡ length s → WireWhy s p (wireReason s p)
-unfolding wireReason
+cut-why : (s : List ℕ) (p : ℕ) → p ≡ length s → WireWhy s p (wire_reason s p)
+unfolding wire_reason
 cut-why s p e =
-    by-test (eqb (length s) 0) (λ _. WireWhy s p (wireReason s p))
-    (λ t. let z : length s ≡ 0 = eqb-true _ _ t in claims.empty (simp (eq-eqb _ _ z)) (inl z) (omega arith))
-    (λ t. let z : length s ≡ 0 → ⊥ = eqb-false _ _ t in claims.cut (sym (wire-cut s p z (omega arith))) (omega (arith, z)) e)
+    by-test (eq (length s) 0) (λ _. WireWhy s p (wire_reason s p))
+    (λ t. let z : length s ≡ 0 = eq-true _ _ t in claims.empty (simp (eq-eq _ _ z)) (inl z) (omega arith))
+    (λ t. let z : length s ≡ 0 → ⊥ = eq-false _ _ t in claims.cut (sym (wire-cut s p z (omega arith))) (omega (arith, z)) e)
 
-at-end : (s : List ℕ) (st : State) (at : ℕ) → Before s st at [] → nameAutomaton.ends st ≡ false → at ≡ length s
-at-end s (letter k) at v e =
-    by-test (eqb k 0) (λ _. at ≡ length s)
-    (λ t. let w = v.0 (eqb-true _ _ t) in w.place ∙ sym (ap length w.is))
-    (λ t. let w = (v.1 (eqb-false _ _ t)).1 in
+at_end : (s : List ℕ) (st : State) (at : ℕ) → Before s st at [] → name_automaton.ends st ≡ false → at ≡ length s
+at_end s (letter k) at v e =
+    by-test (eq k 0) (λ _. at ≡ length s)
+    (λ t. let w = v.0 (eq-true _ _ t) in w.place ∙ sym (ap length w.is))
+    (λ t. let w = (v.1 (eq-false _ _ t)).1 in
     w.place ∙ sym (ap length (w.is ∙ ap (λ (l : List ℕ). labelled w.labels (w.size ∷ l)) (append-nil _))))
-at-end s (hyphen k) at v e =
+at_end s (hyphen k) at v e =
     let w = v.1.1 in
     w.place ∙ sym (ap length (w.is ∙ ap (λ (l : List ℕ). labelled w.labels (w.size ∷ l)) (append-nil _)))
-at-end s (first k) at v e = v.place ∙ sym (ap length v.is)
-at-end s root at v e = absurd (true≢false e)
+at_end s (first k) at v e = v.place ∙ sym (ap length v.is)
+at_end s root at v e = absurd (true≢false e)
 
 -- ---- along the walk
 
 module _ (s : List ℕ) (p : ℕ) where
   abbrev Why : Type 0
-  Why = WireWhy s p (wireReason s p)
+  Why = WireWhy s p (wire_reason s p)
 
-  there : (at : ℕ) → WireWhy s at (wireReason s at) → Bad at ≡ Bad p → Why
-  there at w e = let q : at ≡ p = cc in subst (λ (i : ℕ). WireWhy s i (wireReason s i)) q w
+  there : (at : ℕ) → WireWhy s at (wire_reason s at) → Bad at ≡ Bad p → Why
+  there at w e = let q : at ≡ p = cc in subst (λ (i : ℕ). WireWhy s i (wire_reason s i)) q w
 
-  module _ (at x : ℕ) (xs : List ℕ) (ih : (st : State) → Before s st (at + 1) xs → walk nameAutomaton st (at + 1) xs ≡ Bad p → Why) where
+  module _ (at x : ℕ) (xs : List ℕ) (ih : (st : State) → Before s st (at + 1) xs → walk name_automaton st (at + 1) xs ≡ Bad p → Why) where
     -- what is shown of each move
     abbrev Moved : Move State → Type 0
-    Moved m = on m (Bad at) (λ st. walk nameAutomaton st (at + 1) xs) ≡ Bad p → Why
+    Moved m = on m (Bad at) (λ st. walk name_automaton st (at + 1) xs) ≡ Bad p → Why
 
-    length_moved : Whole s at (x ∷ xs) → Moved (lengthOctet at x)
+    length_moved : Whole s at (x ∷ xs) → Moved (length_octet at x)
     length_moved w =
-        by-test (eqb x 0) (λ b. Moved (cond b (cond (eqb at 0) stop (go root)) (cond (labelFits at x) (go (first (x - 1))) stop)))
-        (λ t. let z : x ≡ 0 = eqb-true _ _ t in
-        by-test (eqb at 0) (λ b. Moved (cond b stop (go root)))
-        (λ u e. there at (length-why s at x xs w (λ _. eqb-true _ _ u) (λ n. absurd (n z))) e)
-        (λ u e. ih root (rooted s at x xs w z (eqb-false _ _ u)) e))
-        (λ t. let n : x ≡ 0 → ⊥ = eqb-false _ _ t in
-        by-test (labelFits at x) (λ b. Moved (cond b (go (first (x - 1))) stop))
+        by-test (eq x 0) (λ b. Moved (cond b (cond (eq at 0) stop (go root)) (cond (label_fits at x) (go (first (x - 1))) stop)))
+        (λ t. let z : x ≡ 0 = eq-true _ _ t in
+        by-test (eq at 0) (λ b. Moved (cond b stop (go root)))
+        (λ u e. there at (length-why s at x xs w (λ _. eq-true _ _ u) (λ n. absurd (n z))) e)
+        (λ u e. ih root (rooted s at x xs w z (eq-false _ _ u)) e))
+        (λ t. let n : x ≡ 0 → ⊥ = eq-false _ _ t in
+        by-test (label_fits at x) (λ b. Moved (cond b (go (first (x - 1))) stop))
         (λ u e. ih (first (x - 1)) (opened s at x xs w n (leb-true _ _ ((and-eq-true_iff (leb x 63) (leb (at + x) 253)).0 u).0)) e)
         (λ u e. there at (length-why s at x xs w (λ z. absurd (n z)) (λ _. u)) e))
 
@@ -275,20 +275,20 @@ module _ (s : List ℕ) (p : ℕ) where
         let w = v.1 in
         let d = length-append b (x ∷ []) in
         let h : alnum (head 0 (b ++ (x ∷ []))) ≡ true = ap alnum (head-snoc x b v.2) ∙ v.3 in
-        by-test (alnum x) (λ c. Moved (cond c (go (letter (k - 1))) (cond (hyphenFits k x) (go (hyphen (k - 1))) stop)))
+        by-test (alnum x) (λ c. Moved (cond c (go (letter (k - 1))) (cond (hyphen_fits k x) (go (hyphen (k - 1))) stop)))
         (λ a e. ih (letter (k - 1)) (lettered s at x xs b k w n a h) e)
-        (λ a. by-test (hyphenFits k x) (λ c. Moved (cond c (go (hyphen (k - 1))) stop))
-        (λ t e. let q = (and-eq-true_iff (eqb x 45) (ltb 1 k)).0 t in
+        (λ a. by-test (hyphen_fits k x) (λ c. Moved (cond c (go (hyphen (k - 1))) stop))
+        (λ t e. let q = (and-eq-true_iff (eq x 45) (ltb 1 k)).0 t in
         let l : 1 < k = ltb-true _ _ q.1 in
-        ih (hyphen (k - 1)) (omega arith, (b ++ (x ∷ []), further s at x xs b k w n (inr (eqb-true _ _ q.0)), omega arith, h)) e)
+        ih (hyphen (k - 1)) (omega arith, (b ++ (x ∷ []), further s at x xs b k w n (inr (eq-true _ _ q.0)), omega arith, h)) e)
         (λ t e. there at (octet-why s at x xs b k w (omega (arith, n)) a
-        (λ q. let l : k ≤ 1 = ltb-false _ _ (either-false (eqb x 45) (ltb 1 k) t (eq-eqb _ _ q)) in inr (omega (arith, n)))) e))
+        (λ q. let l : k ≤ 1 = ltb-false _ _ (either-false (eq x 45) (ltb 1 k) t (eq-eq _ _ q)) in inr (omega (arith, n)))) e))
 
     moved : (st : State) → Before s st at (x ∷ xs) → Moved (step st at x)
     moved (letter k) v =
-        by-test (eqb k 0) (λ b. Moved (cond b (lengthOctet at x) (inside k x)))
-        (λ t. length_moved (v.0 (eqb-true _ _ t)))
-        (λ t. inside-moved k (eqb-false _ _ t) (v.1 (eqb-false _ _ t)))
+        by-test (eq k 0) (λ b. Moved (cond b (length_octet at x) (inside k x)))
+        (λ t. length_moved (v.0 (eq-true _ _ t)))
+        (λ t. inside-moved k (eq-false _ _ t) (v.1 (eq-false _ _ t)))
     moved (hyphen k) v = inside-moved k (omega (arith, v.0)) v.1
     moved (first k) w =
         by-test (alnum x) (λ b. Moved (cond b (go (letter k)) stop))
@@ -297,16 +297,16 @@ module _ (s : List ℕ) (p : ℕ) where
         (λ a e. there at (octet-why s at x xs [] (k + 1) w (omega arith) a (λ _. inl refl)) e)
     moved root w = λ e. there at (root-why s at x xs w) e
 
-  along : (xs : List ℕ) (st : State) (at : ℕ) → Before s st at xs → walk nameAutomaton st at xs ≡ Bad p → Why
+  along : (xs : List ℕ) (st : State) (at : ℕ) → Before s st at xs → walk name_automaton st at xs ≡ Bad p → Why
   unfolding walk
   along [] st at v e =
       by-test (ended st) (λ b. cond b Good (Bad at) ≡ Bad p → Why)
       (λ _ g. not_good (sym g))
-      (λ t g. there at (cut-why s at (at-end s st at v t)) g)
+      (λ t g. there at (cut-why s at (at_end s st at v t)) g)
       e
   along (x ∷ xs) st at v e = moved at x xs (λ st'. along xs st' (at + 1)) st v e
 
-pub wire-true : (s : List ℕ) (p : ℕ) → nameCheck s ≡ Bad p → WireWhy s p (wireReason s p)
-unfolding nameCheck
+pub wire-true : (s : List ℕ) (p : ℕ) → name_check s ≡ Bad p → WireWhy s p (wire_reason s p)
+unfolding name_check
 wire-true s p e =
     along s p s (letter 0) 0 (λ _. record { labels = []; each = tt; is = refl; place = refl }, λ n. absurd (n refl)) e

@@ -1,6 +1,6 @@
 -- Which parameter is the first hint, or the first with a value that its key does not allow: along the parameters of a field. Assumes nothing.
-use Rattle.std.specs.Prelude.{◌≡◌, refl, ◌⊎◌, Bool, true, false, cond, not, ◌||◌, List, [], ◌∷◌, ◌++◌, ℕ, ◌+◌, ◌-◌, eqb, length}
-use Rattle.std.proofs.Common.{sym, ap, ap₂, ◌∙◌, subst, inl, inr, true≢false, arith, length-append, eqb-true}
+use Rattle.std.specs.Prelude.{◌≡◌, refl, ◌⊎◌, Bool, true, false, cond, not, ◌||◌, List, [], ◌∷◌, ◌++◌, ℕ, ◌+◌, ◌-◌, eq, length}
+use Rattle.std.proofs.Common.{sym, ap, ap₂, ◌∙◌, subst, inl, inr, true≢false, arith, length-append, eq-true}
 use Rattle.std.proofs.lemmas.Bool.{not-true, not-false}
 use Rattle.octets.specs.Cases.{by-test}
 use Rattle.octets.specs.Lists.{All}
@@ -9,15 +9,15 @@ use Rattle.octets.specs.Numbers.{Bytes}
 use Rattle.numbers.specs.Fault as fault
 use Rattle.svcparams.specs.Key as key
 use Rattle.svcparams.specs.Param.{Param, keys}
-use Rattle.svcparams.specs.Params.{size_of, isHint, hasHint, valueGood, allGood, paramsFault}
-use Rattle.svcparams.specs.Entries.{keysIn}
+use Rattle.svcparams.specs.Params.{size_of, is_hint, has_hint, value_good, all_good, params_fault}
+use Rattle.svcparams.specs.Entries.{keys_in}
 use Rattle.svcparams.specs.TilingLaws.{entries-tiled}
 use Rattle.svcparams.specs.Accepted.{put, field_of, Fits, Ordered, Hinted, Allowed}
 use Rattle.svcparams.specs.FieldLaws.{put-size, put_first, put_rest, field-octets}
 use Rattle.svcparams.specs.AcceptedLaws.{means-hint, values-means, means-values}
 use Rattle.svcparams.specs.Exactly.{tiled-exactly, hint-exactly, value-exactly}
 use Rattle.reasons.specs.declared.Param as told
-use Rattle.reasons.specs.Params.{param, nothing, wrongOf, wrongFrom, paramFor}
+use Rattle.reasons.specs.Params.{param, nothing, wrong_of, wrong_from, param_for}
 use Rattle.reasons.specs.ParamsLaws.{whole-wrong}
 use Rattle.reasons.specs.Claims.{FirstHint, FirstForbidden}
 
@@ -62,51 +62,51 @@ first_of test at (kv ∷ kvs) n =
         }
 
 wrong-found : (hints : Bool) (ks : List ℕ) (at : ℕ) (kvs : List Param) → All Fits kvs
-    → wrongFrom hints ks 0 at (field_of kvs) ≡ found (λ (kv : Param). wrongOf hints ks kv.key kv.value) at kvs
-unfolding wrongFrom
+    → wrong_from hints ks 0 at (field_of kvs) ≡ found (λ (kv : Param). wrong_of hints ks kv.key kv.value) at kvs
+unfolding wrong_from
 wrong-found hints ks at [] f = refl
 wrong-found hints ks at (kv ∷ kvs) f =
     let l : List ℕ = field_of kvs in
     let z = put-size kv l f.0 in
-    let judge : Param → told.Param → told.Param = λ x r. cond (wrongOf hints ks x.key x.value) (param at x.key) r in
+    let judge : Param → told.Param → told.Param = λ x r. cond (wrong_of hints ks x.key x.value) (param at x.key) r in
     whole-wrong hints ks at (put kv l) (λ y. omega arith)
-    ∙ ap₂ (λ (x : Param) (r : List ℕ). judge x (wrongFrom hints ks 0 (at + size_of (put kv l)) r)) (put_first kv l f.0) (put_rest kv l f.0)
-    ∙ ap (λ (n : ℕ). judge kv (wrongFrom hints ks 0 (at + n) l)) z
+    ∙ ap₂ (λ (x : Param) (r : List ℕ). judge x (wrong_from hints ks 0 (at + size_of (put kv l)) r)) (put_first kv l f.0) (put_rest kv l f.0)
+    ∙ ap (λ (n : ℕ). judge kv (wrong_from hints ks 0 (at + n) l)) z
     ∙ ap (judge kv) (wrong-found hints ks (at + (4 + length kv.value)) kvs f.1)
 
 -- the keys of a field in order
-keys-are : (p : List ℕ) (kvs : List Param) → Bytes p → Ordered p kvs → keysIn p ≡ keys kvs
+keys-are : (p : List ℕ) (kvs : List Param) → Bytes p → Ordered p kvs → keys_in p ≡ keys kvs
 keys-are p kvs o w = ap keys (entries-tiled p kvs ((tiled-exactly p kvs o).1 (w.laid, w.fits)))
 
 wrong-is : (hints : Bool) (p : List ℕ) (kvs : List Param) → Bytes p → Ordered p kvs
-    → wrongFrom hints (keysIn p) 0 0 p ≡ found (λ (kv : Param). wrongOf hints (keys kvs) kv.key kv.value) 0 kvs
+    → wrong_from hints (keys_in p) 0 0 p ≡ found (λ (kv : Param). wrong_of hints (keys kvs) kv.key kv.value) 0 kvs
 wrong-is hints p kvs o w =
-    ap₂ (λ (ks l : List ℕ). wrongFrom hints ks 0 0 l) (keys-are p kvs o w) w.laid
+    ap₂ (λ (ks l : List ℕ). wrong_from hints ks 0 0 l) (keys-are p kvs o w) w.laid
     ∙ wrong-found hints (keys kvs) 0 kvs w.fits
 
 -- ---- hints
 
-unhinted : (kvs : List Param) → All (λ (kv : Param). isHint kv.key ≡ false) kvs → hasHint (keys kvs) ≡ false
-unfolding hasHint keys
+unhinted : (kvs : List Param) → All (λ (kv : Param). is_hint kv.key ≡ false) kvs → has_hint (keys kvs) ≡ false
+unfolding has_hint keys
 unhinted [] a = refl
 unhinted (kv ∷ kvs) a = simp a.0 (unhinted kvs a.1)
 
-which-hint : (k : ℕ) → isHint k ≡ true → (k ≡ key.ipv4hint) ⊎ (k ≡ key.ipv6hint)
+which-hint : (k : ℕ) → is_hint k ≡ true → (k ≡ key.ipv4hint) ⊎ (k ≡ key.ipv6hint)
 which-hint k =
-    by-test (eqb k key.ipv4hint) (λ b. b || eqb k key.ipv6hint ≡ true → (k ≡ key.ipv4hint) ⊎ (k ≡ key.ipv6hint))
-    (λ t _. inl (eqb-true _ _ t))
-    (λ t e. inr (eqb-true _ _ e))
+    by-test (eq k key.ipv4hint) (λ b. b || eq k key.ipv6hint ≡ true → (k ≡ key.ipv4hint) ⊎ (k ≡ key.ipv6hint))
+    (λ t _. inl (eq-true _ _ t))
+    (λ t e. inr (eq-true _ _ e))
 
-pub hint-true : (p : List ℕ) → Bytes p → paramsFault p ≡ fault.hint → FirstHint p (paramFor fault.hint p)
-unfolding paramFor
+pub hint-true : (p : List ℕ) → Bytes p → params_fault p ≡ fault.hint → FirstHint p (param_for fault.hint p)
+unfolding param_for
 hint-true p o e = go ((hint-exactly p o).0 e)
   where
-    go : (kvs : List Param) × Ordered p kvs × Hinted kvs → FirstHint p (paramFor fault.hint p)
+    go : (kvs : List Param) × Ordered p kvs × Hinted kvs → FirstHint p (param_for fault.hint p)
     go h =
         let kvs = h.0 in
         let w = h.1 in
-        let some : All (λ (kv : Param). isHint kv.key ≡ false) kvs → ⊥ = λ a. true≢false (sym (means-hint kvs h.2) ∙ unhinted kvs a) in
-        let r = first_of (λ (kv : Param). isHint kv.key) 0 kvs some in
+        let some : All (λ (kv : Param). is_hint kv.key ≡ false) kvs → ⊥ = λ a. true≢false (sym (means-hint kvs h.2) ∙ unhinted kvs a) in
+        let r = first_of (λ (kv : Param). is_hint kv.key) 0 kvs some in
         subst (FirstHint p) (sym (wrong-is true p kvs o w))
         (record {
           front = r.front;
@@ -120,30 +120,30 @@ hint-true p o e = go ((hint-exactly p o).0 e)
 
 -- ---- values
 
-all-good : (ks : List ℕ) (kvs : List Param) → All (λ (kv : Param). not (valueGood kv.key kv.value ks) ≡ false) kvs → allGood kvs ks ≡ true
-unfolding allGood
+all-good : (ks : List ℕ) (kvs : List Param) → All (λ (kv : Param). not (value_good kv.key kv.value ks) ≡ false) kvs → all_good kvs ks ≡ true
+unfolding all_good
 all-good ks [] a = refl
-all-good ks (kv ∷ kvs) a = simp (not-false (valueGood kv.key kv.value ks) a.0) (all-good ks kvs a.1)
+all-good ks (kv ∷ kvs) a = simp (not-false (value_good kv.key kv.value ks) a.0) (all-good ks kvs a.1)
 
-not-allowed : (ks : List ℕ) (kv : Param) → not (valueGood kv.key kv.value ks) ≡ true → Allowed ks kv → ⊥
-unfolding allGood
-not-allowed ks kv e a = true≢false (sym (means-values ks (kv ∷ []) (a, tt)) ∙ simp (not-true (valueGood kv.key kv.value ks) e))
+not-allowed : (ks : List ℕ) (kv : Param) → not (value_good kv.key kv.value ks) ≡ true → Allowed ks kv → ⊥
+unfolding all_good
+not-allowed ks kv e a = true≢false (sym (means-values ks (kv ∷ []) (a, tt)) ∙ simp (not-true (value_good kv.key kv.value ks) e))
 
 abbrev Octets : List Param → Type 0
 Octets kvs = All (λ (kv : Param). Bytes kv.value) kvs
 
-pub value-true : (p : List ℕ) → Bytes p → paramsFault p ≡ fault.value → FirstForbidden p (paramFor fault.value p)
-unfolding paramFor
+pub value-true : (p : List ℕ) → Bytes p → params_fault p ≡ fault.value → FirstForbidden p (param_for fault.value p)
+unfolding param_for
 value-true p o e = go ((value-exactly p o).0 e)
   where
-    go : (kvs : List Param) × Ordered p kvs × (Hinted kvs → ⊥) × (All (Allowed (keys kvs)) kvs → ⊥) → FirstForbidden p (paramFor fault.value p)
+    go : (kvs : List Param) × Ordered p kvs × (Hinted kvs → ⊥) × (All (Allowed (keys kvs)) kvs → ⊥) → FirstForbidden p (param_for fault.value p)
     go h =
         let kvs = h.0 in
         let w = h.1 in
         let v : Octets kvs = field-octets kvs (subst Bytes w.laid o) in
-        let some : All (λ (kv : Param). not (valueGood kv.key kv.value (keys kvs)) ≡ false) kvs → ⊥ =
+        let some : All (λ (kv : Param). not (value_good kv.key kv.value (keys kvs)) ≡ false) kvs → ⊥ =
         λ a. h.3 (values-means (keys kvs) kvs v (all-good (keys kvs) kvs a)) in
-        let r = first_of (λ (kv : Param). not (valueGood kv.key kv.value (keys kvs))) 0 kvs some in
+        let r = first_of (λ (kv : Param). not (value_good kv.key kv.value (keys kvs))) 0 kvs some in
         let front = r.front in
         subst (FirstForbidden p) (sym (wrong-is false p kvs o w))
         (record {

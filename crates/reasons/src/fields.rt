@@ -1,8 +1,8 @@
 // Which service parameter is at fault.
 ghost use Rattle.std.specs.Prelude.{◌≡◌};
-ghost use Rattle.svcparams.specs.Params.{isHint};
-ghost use Rattle.svcparams.specs.Entries.{keysIn};
-ghost use Rattle.reasons.specs.Params.{unorderedFrom, wrongOf, wrongFrom};
+ghost use Rattle.svcparams.specs.Params.{is_hint};
+ghost use Rattle.svcparams.specs.Entries.{keys_in};
+ghost use Rattle.reasons.specs.Params.{unordered_from, wrong_of, wrong_from};
 
 use crate::Param;
 use octets::get16;
@@ -10,7 +10,7 @@ use svcparams::{Key, size, value};
 
 // The first parameter that is not whole, whose key is not above the keys before it, or whose key is the invalid one.
 pub fn unordered(p: &[u8]) -> Param
-    ensures { result ≡ unorderedFrom 0 0 0 p.now }
+    ensures { result ≡ unordered_from 0 0 0 p.now }
 {
     let mut at: usize = 0;
     let mut least: usize = 0;
@@ -41,14 +41,14 @@ pub fn unordered(p: &[u8]) -> Param
 
 // Whether a key is an address hint.
 fn is_hint(key: usize) -> bool
-    ensures { result ≡ isHint key }
+    ensures { result ≡ is_hint key }
 {
     key == Key::IPV4HINT || key == Key::IPV6HINT
 }
 
 // Whether a parameter of the field p is a hint, or has a value that its key does not allow.
 fn is_wrong(hints: bool, key: usize, v: &[u8], p: &[u8]) -> bool
-    ensures { result ≡ wrongOf hints (keysIn p.now) key v.now }
+    ensures { result ≡ wrong_of hints (keys_in p.now) key v.now }
 {
     if hints {
         return is_hint(key);
@@ -58,7 +58,7 @@ fn is_wrong(hints: bool, key: usize, v: &[u8], p: &[u8]) -> bool
 
 // The first parameter that is so.
 pub fn wrong(hints: bool, p: &[u8]) -> Param
-    ensures { result ≡ wrongFrom hints (keysIn p.now) 0 0 p.now }
+    ensures { result ≡ wrong_from hints (keys_in p.now) 0 0 p.now }
 {
     let mut at: usize = 0;
     loop {

@@ -1,7 +1,7 @@
 // Why a name is no host name, by the octet at its first bad place and by what stands beside it.
 ghost use Rattle.std.specs.Prelude.{◌≡◌, get_or};
-ghost use Rattle.reasons.specs.Names.{mark_of, lengthReason, octetReason, wireReason};
-ghost use Rattle.reasons.specs.Names.{before, dotReason, hyphenReason, letterReason, textOctet, textReason};
+ghost use Rattle.reasons.specs.Names.{mark_of, length_reason, octet_reason, wire_reason};
+ghost use Rattle.reasons.specs.Names.{before, dot_reason, hyphen_reason, letter_reason, text_octet, text_reason};
 
 use crate::{Mark, Reason};
 use names::is_alnum;
@@ -37,7 +37,7 @@ fn mark_at(s: &[u8], at: usize) -> Mark
 }
 
 fn length_reason(x: usize) -> usize
-    ensures { result ≡ lengthReason x }
+    ensures { result ≡ length_reason x }
 {
     if x == 0 {
         return Reason::EMPTY;
@@ -52,7 +52,7 @@ fn length_reason(x: usize) -> usize
 }
 
 fn octet_reason(x: usize) -> usize
-    ensures { result ≡ octetReason x }
+    ensures { result ≡ octet_reason x }
 {
     if x == 95 {
         return Reason::UNDERSCORE;
@@ -65,7 +65,7 @@ fn octet_reason(x: usize) -> usize
 
 // Of a name in wire form that is bad at a place.
 pub fn wire_reason(s: &[u8], at: usize) -> usize
-    ensures { result ≡ wireReason s.now at }
+    ensures { result ≡ wire_reason s.now at }
 {
     if s.len() == 0 {
         return Reason::EMPTY;
@@ -105,7 +105,7 @@ fn octet_before(s: &[u8], at: usize) -> u8
 
 // A dot between two octets.
 fn dot_reason(before: u8, next: u8) -> usize
-    ensures { result ≡ dotReason before next }
+    ensures { result ≡ dot_reason before next }
 {
     if before == b'.' {
         return Reason::DOT;
@@ -121,7 +121,7 @@ fn dot_reason(before: u8, next: u8) -> usize
 
 // A hyphen between two octets, at a place.
 fn hyphen_reason(before: u8, next: u8, at: usize) -> usize
-    ensures { result ≡ hyphenReason before next at }
+    ensures { result ≡ hyphen_reason before next at }
 {
     if before == b'.' {
         return Reason::HYPHEN;
@@ -137,7 +137,7 @@ fn hyphen_reason(before: u8, next: u8, at: usize) -> usize
 
 // A letter or a digit at a place.
 fn letter_reason(at: usize) -> usize
-    ensures { result ≡ letterReason at }
+    ensures { result ≡ letter_reason at }
 {
     if 253 <= at {
         return Reason::LONG;
@@ -147,7 +147,7 @@ fn letter_reason(at: usize) -> usize
 
 // The octet x between two others, at a place.
 fn text_octet(before: u8, next: u8, at: usize, x: u8) -> usize
-    ensures { result ≡ textOctet before next at x }
+    ensures { result ≡ text_octet before next at x }
 {
     if x == b'_' {
         return Reason::UNDERSCORE;
@@ -166,7 +166,7 @@ fn text_octet(before: u8, next: u8, at: usize, x: u8) -> usize
 
 // Of a name as text that is bad at a place.
 pub fn text_reason(s: &[u8], at: usize) -> usize
-    ensures { result ≡ textReason s.now at }
+    ensures { result ≡ text_reason s.now at }
 {
     if s.len() == 0 {
         return Reason::EMPTY;

@@ -2,8 +2,8 @@
 // (RULES R22), by the octet at its first bad place (`labels`), and which parameter is at fault (RULES R26 to R28, `fields`). For people: no
 // call of the library asks here, and nothing is judged anew. `Exactly` says that what is given is true.
 ghost use Rattle.std.specs.Prelude.{◌≡◌};
-ghost use Rattle.reasons.specs.Names.{nameReason};
-ghost use Rattle.reasons.specs.Params.{paramFor};
+ghost use Rattle.reasons.specs.Names.{name_reason};
+ghost use Rattle.reasons.specs.Params.{param_for};
 
 mod fields;
 mod labels;
@@ -73,7 +73,7 @@ impl Param {
 
 // Why a name that is bad at a place is no host name, as text (RULES N4) or in wire form (RULES N1).
 pub fn name_reason(text: bool, s: &[u8], at: usize) -> usize
-    ensures { result ≡ nameReason text s.now at }
+    ensures { result ≡ name_reason text s.now at }
 {
     if text {
         return text_reason(s, at);
@@ -83,7 +83,7 @@ pub fn name_reason(text: bool, s: &[u8], at: usize) -> usize
 
 // The parameter that the fault of a field is about: the first that breaks its rule.
 pub fn param_for(fault: usize, p: &[u8]) -> Param
-    ensures { result ≡ paramFor fault p.now }
+    ensures { result ≡ param_for fault p.now }
 {
     if fault == Fault::PARAMETERS {
         return unordered(p);

@@ -1,20 +1,20 @@
 -- What `examine` answers, and which bodies `put_record` takes. Assumes nothing: these are definitions.
 use Rattle.std.specs.Prelude.{◌≡◌, Bool, List, [], ℕ, length}
 use Rattle.carriers.specs.declared.Carrier.{Carrier}
-use Rattle.carriers.specs.Carriers.{addressWidth}
+use Rattle.carriers.specs.Carriers.{address_width}
 use Rattle.blocks.specs.Block.{Fields}
 use Rattle.blocks.specs.Parse.{fields, parse}
 use Rattle.records.specs.declared.Examined.{Examined}
-use Rattle.records.specs.Records.{Outcome, faulty, kept, recordOf, staying}
+use Rattle.records.specs.Records.{Outcome, faulty, kept, record_of, staying}
 
 -- a fault and its place; or 0 with the record's priority and its octets in a sheet; and a flag beside them
-abbrev pub examinedOf : Carrier → Outcome → Bool → Examined
-examinedOf c (faulty j) clean = record { fault = j.fault; place = j.place; priority = 0; size = 0; clean = clean }
-examinedOf c (kept r) clean = record { fault = 0; place = 0; priority = r.priority; size = length (recordOf c r); clean = clean }
+abbrev pub examined_of : Carrier → Outcome → Bool → Examined
+examined_of c (faulty j) clean = record { fault = j.fault; place = j.place; priority = 0; size = 0; clean = clean }
+examined_of c (kept r) clean = record { fault = 0; place = 0; priority = r.priority; size = length (record_of c r); clean = clean }
 
 -- every address of the body stays: none is dropped when it is read
 abbrev pub Clean : Carrier → List ℕ → Type 0
-Clean c body = (f : Fields) → parse c body ≡ fields f → staying (addressWidth c) f.addresses ≡ f.addresses
+Clean c body = (f : Fields) → parse c body ≡ fields f → staying (address_width c) f.addresses ≡ f.addresses
 
 -- the body yields a record
 abbrev pub Kept : Outcome → Type 0
@@ -22,6 +22,6 @@ Kept (faulty j) = ⊥
 Kept (kept r) = Unit {0}
 
 -- the octets of the record that a body yields, and none of a body with a fault
-abbrev pub octetsIn : Carrier → Outcome → List ℕ
-octetsIn c (faulty j) = []
-octetsIn c (kept r) = recordOf c r
+abbrev pub octets_in : Carrier → Outcome → List ℕ
+octets_in c (faulty j) = []
+octets_in c (kept r) = record_of c r

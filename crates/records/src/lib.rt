@@ -4,15 +4,15 @@
 ghost use Rattle.std.specs.Prelude.{◌≡◌, true, ℕ, ◌+◌, ◌≤◌, ◌<◌, ◌^◌, length};
 ghost use Rattle.octets.specs.Over.{Wrote};
 ghost use Rattle.numbers.specs.Limit as limit;
-ghost use Rattle.addresses.specs.Addresses.{Width, list_of, keptOf};
-ghost use Rattle.carriers.specs.Carriers.{addressWidth};
-ghost use Rattle.blocks.specs.Block.{headWith, fields_of, nameOnly, whole};
+ghost use Rattle.addresses.specs.Addresses.{Width, list_of, kept_of};
+ghost use Rattle.carriers.specs.Carriers.{address_width};
+ghost use Rattle.blocks.specs.Block.{head_with, fields_of, name_only, whole};
 ghost use Rattle.judge.specs.Place.{judged};
-ghost use Rattle.records.specs.Records.{nameAs, staying, headSize, tailSize, mode_of};
-ghost use Rattle.records.specs.Yielded.{outcomeOf, yieldOf};
-ghost use Rattle.records.specs.Examined.{examinedOf, Clean, Kept, octetsIn};
-ghost use Rattle.records.specs.Given.{recordAs, Puttable};
-ghost use Rattle.records.specs.Parts.{discarded, nameIn, namePart, headPart, tailPart};
+ghost use Rattle.records.specs.Records.{name_as, staying, head_size, tail_size, mode_of};
+ghost use Rattle.records.specs.Yielded.{outcome_of, yield_of};
+ghost use Rattle.records.specs.Examined.{examined_of, Clean, Kept, octets_in};
+ghost use Rattle.records.specs.Given.{record_as, Puttable};
+ghost use Rattle.records.specs.Parts.{discarded, name_in, name_part, head_part, tail_part};
 
 use blocks::{Head, Places};
 use carriers::Carrier;
@@ -65,7 +65,7 @@ fn faulty(fault: usize, place: usize) -> Examined
 
 // Octets of a name in wire form.
 fn wire_size(text: bool, name: &[u8]) -> usize
-    ensures { result ≡ length (nameAs text name.now) }
+    ensures { result ≡ length (name_as text name.now) }
 {
     if text {
         return name.len() + 2;
@@ -75,15 +75,15 @@ fn wire_size(text: bool, name: &[u8]) -> usize
 
 // Octets in wire form of a name that a carrier brings.
 fn name_size(c: Carrier, name: &[u8]) -> usize
-    ensures { result ≡ length (nameIn c name.now) }
+    ensures { result ≡ length (name_in c name.now) }
 {
     wire_size(c.as_text(), name)
 }
 
-// A name-only body, whatever its lifetime; its name stands at `at`.
+// A name_only body, whatever its lifetime; its name stands at `at`.
 fn examine_name_only(c: Carrier, priority: usize, at: usize, name: &[u8]) -> Examined
     requires { at + length name.now < 2 ^ 63 }
-    ensures { (lifetime : ℕ) → result ≡ examinedOf c (yieldOf c at (nameOnly priority lifetime name.now)) result.clean }
+    ensures { (lifetime : ℕ) → result ≡ examined_of c (yield_of c at (name_only priority lifetime name.now)) result.clean }
 {
     let none = &name[..0];
     let judged = judge::judge_fields(Side::Reading, c, priority, name, false, none, none);
@@ -111,8 +111,8 @@ fn examine_full(
     parameters: &[u8],
 ) -> Examined
     requires { at + length name.now < 2 ^ 63 }
-    ensures by_index { (lifetime : ℕ) → result ≡ examinedOf c (yieldOf c at (whole priority lifetime name.now addresses.now parameters.now)) result.clean }
-    ensures addresses_value { result.clean ≡ true → staying (addressWidth c) addresses.now ≡ addresses.now }
+    ensures by_index { (lifetime : ℕ) → result ≡ examined_of c (yield_of c at (whole priority lifetime name.now addresses.now parameters.now)) result.clean }
+    ensures addresses_value { result.clean ≡ true → staying (address_width c) addresses.now ≡ addresses.now }
 {
     let judged = judge::judge_fields(
         Side::Reading,
@@ -143,9 +143,9 @@ fn examine_full(
 
 // Writes a name's length and its wire form.
 fn put_name(out: &mut [u8], at: usize, text: bool, name: &[u8]) -> usize
-    requires name_len_bound { length (nameAs text name.now) ≤ 255 }
-    requires name_in_bounds { at + 1 + length (nameAs text name.now) ≤ length out.old }
-    ensures { Wrote at (namePart (nameAs text name.now)) out.old result out.new }
+    requires name_len_bound { length (name_as text name.now) ≤ 255 }
+    requires name_in_bounds { at + 1 + length (name_as text name.now) ≤ length out.old }
+    ensures { Wrote at (name_part (name_as text name.now)) out.old result out.new }
 {
     let size = wire_size(text, name);
     let next = octets::put8(out, at, size as u8);
@@ -173,9 +173,9 @@ fn put_head(
     name: &[u8],
 ) -> usize
     requires priority_bound { (priority < 65536) × (lifetime < 4294967296) }
-    requires name_len_bound { length (nameAs text name.now) ≤ 255 }
-    requires name_in_bounds { at + headSize + length (nameAs text name.now) ≤ length out.old }
-    ensures { Wrote at (headPart (headWith priority lifetime full) (nameAs text name.now)) out.old result out.new }
+    requires name_len_bound { length (name_as text name.now) ≤ 255 }
+    requires name_in_bounds { at + head_size + length (name_as text name.now) ≤ length out.old }
+    ensures { Wrote at (head_part (head_with priority lifetime full) (name_as text name.now)) out.old result out.new }
 {
     let mode = mode_of(full);
     let after_priority = octets::put16(out, at, priority);
@@ -208,9 +208,9 @@ fn put_tail(
 ) -> usize
     requires width { Width w }
     requires addresses_value { clean ≡ true → staying w addresses.now ≡ addresses.now }
-    requires addresses_len_bound { (length (keptOf w (list_of w addresses.now)) ≤ limit.addresses) × (length parameters.now ≤ limit.parameters) }
-    requires parameters_in_bounds { at + tailSize + length (staying w addresses.now) + length parameters.now ≤ length out.old }
-    ensures { Wrote at (tailPart w addresses.now parameters.now) out.old result out.new }
+    requires addresses_len_bound { (length (kept_of w (list_of w addresses.now)) ≤ limit.addresses) × (length parameters.now ≤ limit.parameters) }
+    requires parameters_in_bounds { at + tail_size + length (staying w addresses.now) + length parameters.now ≤ length out.old }
+    ensures { Wrote at (tail_part w addresses.now parameters.now) out.old result out.new }
 {
     let from = at + 1;
     let after_addresses = put_addresses(out, from, w, clean, addresses);
@@ -231,8 +231,8 @@ pub fn put_fields(
     parameters: &[u8],
 ) -> usize
     requires puttable { Puttable given (fields_of head name.now addresses.now parameters.now) }
-    requires parameters_in_bounds { at + length (recordAs given (fields_of head name.now addresses.now parameters.now)) ≤ length out.old }
-    ensures { Wrote at (recordAs given (fields_of head name.now addresses.now parameters.now))
+    requires parameters_in_bounds { at + length (record_as given (fields_of head name.now addresses.now parameters.now)) ≤ length out.old }
+    ensures { Wrote at (record_as given (fields_of head name.now addresses.now parameters.now))
         out.old result out.new }
 {
     let end = put_head(
@@ -252,8 +252,8 @@ pub fn put_fields(
 
 // Whether a body yields a record. (`&body[..]`: docs/DESIGN.md, Speed.)
 pub fn examine(c: Carrier, body: &[u8]) -> Examined
-    ensures value { result ≡ examinedOf c (outcomeOf c body.now) result.clean }
-    ensures priority_bound { (result.priority < 65536) × (result.size ≤ limit.recordSize) × (result.place ≤ length body.now) }
+    ensures value { result ≡ examined_of c (outcome_of c body.now) result.clean }
+    ensures priority_bound { (result.priority < 65536) × (result.size ≤ limit.record_size) × (result.place ≤ length body.now) }
     ensures clean { result.clean ≡ true → Clean c body.now }
 {
     match blocks::split(c, &body[..]) {
@@ -295,10 +295,10 @@ pub fn examine(c: Carrier, body: &[u8]) -> Examined
 // Writes the record that a body yields at `at`, and returns the index after it. `clean`: every address is known to stay. (A name alone is
 // written by `put_head`, so that `put_fields` has one call here and is inlined.)
 pub fn put_record(out: &mut [u8], at: usize, c: Carrier, clean: bool, body: &[u8]) -> usize
-    requires kept { Kept (outcomeOf c body.now) }
+    requires kept { Kept (outcome_of c body.now) }
     requires clean { clean ≡ true → Clean c body.now }
-    requires body_in_bounds { at + length (octetsIn c (outcomeOf c body.now)) ≤ length out.old }
-    ensures { Wrote at (octetsIn c (outcomeOf c body.now)) out.old result out.new }
+    requires body_in_bounds { at + length (octets_in c (outcome_of c body.now)) ≤ length out.old }
+    ensures { Wrote at (octets_in c (outcome_of c body.now)) out.old result out.new }
 {
     match blocks::split(c, body) {
         Places::Bad { fault: _ } => at,

@@ -2,7 +2,7 @@
 // discarded and the first fault with its place. Nothing here reads or writes a file.
 ghost use Rattle.io.specs.Counts.{IsPrefixLen};
 ghost use Rattle.chars.specs.Puts.{Puts};
-ghost use Rattle.results.specs.Results.{placePart, firstPart, text_of, numbersOf, jsonOf, savedOf, result_of};
+ghost use Rattle.results.specs.Results.{place_part, first_part, text_of, numbers_of, json_of, saved_of, result_of};
 
 use chars::put_all;
 use lines::put_count;
@@ -13,7 +13,7 @@ use octets::lesser;
 
 // Writes the place of fault 22 in its block, and of no other fault.
 fn put_place_part(out: &mut [u8], at: usize, fault: usize, place: usize) -> usize
-    ensures { Puts at (placePart fault place) out.old result out.new }
+    ensures { Puts at (place_part fault place) out.old result out.new }
 {
     if fault == Fault::NAME {
         let next = put_count(out, at, b" at octet ", place);
@@ -24,7 +24,7 @@ fn put_place_part(out: &mut [u8], at: usize, fault: usize, place: usize) -> usiz
 
 // Writes the first fault, where there is one.
 fn put_first_part(out: &mut [u8], at: usize, fault: usize, place: usize) -> usize
-    ensures { Puts at (firstPart fault place) out.old result out.new }
+    ensures { Puts at (first_part fault place) out.old result out.new }
 {
     if fault == 0 {
         return lesser(at, out.len());
@@ -56,7 +56,7 @@ fn put_text(
 
 // Writes the numbers of a reading in JSON.
 fn put_numbers(out: &mut [u8], found: usize, discarded: usize, fault: usize, place: usize) -> usize
-    ensures { Puts 0 (numbersOf found discarded fault place) out.old result out.new }
+    ensures { Puts 0 (numbers_of found discarded fault place) out.old result out.new }
 {
     let next = put_count(out, 0, b"{\"found\":", found);
     let counted = put_count(out, next, b",\"discarded\":", discarded);
@@ -74,7 +74,7 @@ fn put_json(
     sheet: &[u8],
 ) -> usize
     ensures prefix_len { IsPrefixLen result out.new }
-    ensures puts { Puts 0 (jsonOf found discarded fault place sheet.now) out.old result out.new }
+    ensures puts { Puts 0 (json_of found discarded fault place sheet.now) out.old result out.new }
 {
     let next = put_numbers(out, found, discarded, fault, place);
     let from = put_all(out, next, b",\"sheet\":");
@@ -92,7 +92,7 @@ pub fn put_saved(
     length: usize,
 ) -> usize
     ensures prefix_len { IsPrefixLen result out.new }
-    ensures puts { Puts 0 (savedOf found discarded fault place length) out.old result out.new }
+    ensures puts { Puts 0 (saved_of found discarded fault place length) out.old result out.new }
 {
     let next = put_numbers(out, found, discarded, fault, place);
     let end = put_count(out, next, b",\"saved\":", length);

@@ -7,7 +7,7 @@ use Rattle.octets.specs.ListsLaws.{flat-few}
 use Rattle.numbers.specs.Limit as limit
 use Rattle.carriers.specs.declared.Carrier.{Carrier}
 use Rattle.carriers.specs.declared.Carrier.TheVariants.{Dhcp4}
-use Rattle.carriers.specs.Carriers.{isJoined, Plain}
+use Rattle.carriers.specs.Carriers.{is_joined, Plain}
 use Rattle.carriers.specs.CarriersLaws.{by-joined}
 use Rattle.frames.specs.Frame.{frame, framed}
 use Rattle.frames.specs.Emit as emit
@@ -15,47 +15,47 @@ use Rattle.frames.specs.EmitLaws.{option-length, frame-options}
 use Rattle.frames.specs.WalkLaws.{apart-false}
 use Rattle.blocks.specs.Block.{Fields}
 use Rattle.pieces.specs.PiecesLaws.{cut-length}
-use Rattle.layouts.specs.Layouts.{ownOption, instanceOf, joinedOf}
-use Rattle.layouts.specs.Writable.{mostBody}
+use Rattle.layouts.specs.Layouts.{own_option, instance_of, joined_of}
+use Rattle.layouts.specs.Writable.{most_body}
 use Rattle.layouts.specs.LayoutsLaws.{header-small, writable-body, writable-emits}
-use Rattle.written.specs.Octets.{octetsOf}
+use Rattle.written.specs.Octets.{octets_of}
 use Rattle.written.specs.Accepted.{Sound}
 use Rattle.written.specs.AcceptedLaws.{writable}
-use Rattle.roundtrip.specs.Returns.{body_of, bodiesOf}
+use Rattle.roundtrip.specs.Returns.{body_of, bodies_of}
 
 -- ---- so many octets a record at most
 
-option-few : (c : Carrier) (r : Fields) → Sound c r → length (ownOption c r) ≤ 4 + mostBody
+option-few : (c : Carrier) (r : Fields) → Sound c r → length (own_option c r) ≤ 4 + most_body
 option-few c r s = omega (arith, option-length c (body_of c r), header-small c, writable-body c r (writable c r s))
 
-instance-few : (r : Fields) → Sound Dhcp4 r → length (instanceOf r) ≤ 2 + mostBody
+instance-few : (r : Fields) → Sound Dhcp4 r → length (instance_of r) ≤ 2 + most_body
 instance-few r s = omega (arith, length-append (body_of Dhcp4 r) [], writable-body Dhcp4 r (writable Dhcp4 r s))
 
-options-few : (c : Carrier) (rs : List Fields) → All (Sound c) rs → length rs ≤ limit.records → length (flat (map (ownOption c) rs)) ≤ limit.input
-options-few c rs s few = omega (arith, flat-few (ownOption c) (Sound c) (4 + mostBody) rs (option-few c) s)
+options-few : (c : Carrier) (rs : List Fields) → All (Sound c) rs → length rs ≤ limit.records → length (flat (map (own_option c) rs)) ≤ limit.input
+options-few c rs s few = omega (arith, flat-few (own_option c) (Sound c) (4 + most_body) rs (option-few c) s)
 
-joined-few : (rs : List Fields) → All (Sound Dhcp4) rs → length rs ≤ limit.records → length (joinedOf rs) ≤ limit.records * (2 + mostBody)
-joined-few rs s few = omega (arith, flat-few instanceOf (Sound Dhcp4) (2 + mostBody) rs instance-few s)
+joined-few : (rs : List Fields) → All (Sound Dhcp4) rs → length rs ≤ limit.records → length (joined_of rs) ≤ limit.records * (2 + most_body)
+joined-few rs s few = omega (arith, flat-few instance_of (Sound Dhcp4) (2 + most_body) rs instance-few s)
 
 -- the octets of 16 accepted records are within the limit of input
-pub octets-few : (c : Carrier) (rs : List Fields) → All (Sound c) rs → length rs ≤ limit.records → length (octetsOf c rs) ≤ limit.input
-unfolding octetsOf
+pub octets-few : (c : Carrier) (rs : List Fields) → All (Sound c) rs → length rs ≤ limit.records → length (octets_of c rs) ≤ limit.input
+unfolding octets_of
 octets-few =
-    by-joined (λ c. (rs : List Fields) → All (Sound c) rs → length rs ≤ limit.records → length (octetsOf c rs) ≤ limit.input)
-    (λ rs s few. omega (arith, cut-length (joinedOf rs), joined-few rs s few))
+    by-joined (λ c. (rs : List Fields) → All (Sound c) rs → length rs ≤ limit.records → length (octets_of c rs) ≤ limit.input)
+    (λ rs s few. omega (arith, cut-length (joined_of rs), joined-few rs s few))
     (λ c e rs s few. rw e (options-few c rs s few))
 
 -- ---- carriers 2 to 5: an option for each body
 
-pub plain-octets : (c : Carrier) → Plain c → (rs : List Fields) → octetsOf c rs ≡ emit.optionsOf c (bodiesOf c rs)
-unfolding octetsOf
-plain-octets c p rs = rw (apart-false (isJoined c) p) (ap flat (sym (map-map (emit.optionOf c) (body_of c) rs)))
+pub plain-octets : (c : Carrier) → Plain c → (rs : List Fields) → octets_of c rs ≡ emit.options_of c (bodies_of c rs)
+unfolding octets_of
+plain-octets c p rs = rw (apart-false (is_joined c) p) (ap flat (sym (map-map (emit.option_of c) (body_of c) rs)))
 
 -- each body's length can be said in its header
-pub bodies-emit : (c : Carrier) → Plain c → (rs : List Fields) → All (Sound c) rs → All (emit.Fits c) (bodiesOf c rs)
+pub bodies-emit : (c : Carrier) → Plain c → (rs : List Fields) → All (Sound c) rs → All (emit.Fits c) (bodies_of c rs)
 bodies-emit c p [] s = tt
 bodies-emit c p (r ∷ rs) s = (writable-emits c r p (writable c r s.0), bodies-emit c p rs s.1)
 
 -- so the octets are framed to the bodies
-pub plain-framed : (c : Carrier) → Plain c → (rs : List Fields) → All (Sound c) rs → frame c (octetsOf c rs) ≡ framed (bodiesOf c rs)
-plain-framed c p rs s = ap (frame c) (plain-octets c p rs) ∙ frame-options c (bodiesOf c rs) (bodies-emit c p rs s)
+pub plain-framed : (c : Carrier) → Plain c → (rs : List Fields) → All (Sound c) rs → frame c (octets_of c rs) ≡ framed (bodies_of c rs)
+plain-framed c p rs s = ap (frame c) (plain-octets c p rs) ∙ frame-options c (bodies_of c rs) (bodies-emit c p rs s)

@@ -5,7 +5,7 @@ use Rattle.octets.specs.Lists.{flat}
 use Rattle.carriers.specs.declared.Carrier.{Carrier}
 use Rattle.carriers.specs.Carriers.{number_of}
 use Rattle.blocks.specs.Block.{Fields}
-use Rattle.records.specs.Records.{recordOf}
+use Rattle.records.specs.Records.{record_of}
 
 -- the three letters RSV (RULES S1)
 abbrev pub letters : List ℕ
@@ -16,26 +16,26 @@ abbrev pub edition : ℕ
 edition = 1
 
 -- octets of the head, and where version, carrier and record count stand in it (RULES S1)
-abbrev pub frontSize : ℕ
-frontSize = 7
+abbrev pub front_size : ℕ
+front_size = 7
 
-abbrev pub versionAt : ℕ
-versionAt = 3
+abbrev pub version_at : ℕ
+version_at = 3
 
-abbrev pub carrierAt : ℕ
-carrierAt = 5
+abbrev pub carrier_at : ℕ
+carrier_at = 5
 
-abbrev pub countAt : ℕ
-countAt = 6
+abbrev pub count_at : ℕ
+count_at = 6
 
 -- the head, 7 octets: letters, 16-bit version, carrier, record count (RULES S1)
-unfoldable pub frontOf : Carrier → ℕ → List ℕ
-frontOf c count = letters ++ (be 2 edition ++ (be 1 (number_of c) ++ be 1 count))
+unfoldable pub front_of : Carrier → ℕ → List ℕ
+front_of c count = letters ++ (be 2 edition ++ (be 1 (number_of c) ++ be 1 count))
 
 -- the records' octets one after another; nothing follows the last (RULES S3)
-abbrev pub recordsOf : Carrier → List Fields → List ℕ
-recordsOf c rs = flat (map (recordOf c) rs)
+abbrev pub records_of : Carrier → List Fields → List ℕ
+records_of c rs = flat (map (record_of c) rs)
 
 -- a sheet: the head, and the records (RULES S1 to S3)
-unfoldable pub sheetOf : Carrier → List Fields → List ℕ
-sheetOf c rs = frontOf c (length rs) ++ recordsOf c rs
+unfoldable pub sheet_of : Carrier → List Fields → List ℕ
+sheet_of c rs = front_of c (length rs) ++ records_of c rs

@@ -2,7 +2,7 @@
 // record count. The letters and the version stand here once, for writing a sheet's head and for comparing when a sheet is taken.
 ghost use Rattle.std.specs.Prelude.{◌≤◌, length};
 ghost use Rattle.octets.specs.Over.{Wrote};
-ghost use Rattle.sheets.specs.Sheets.{frontSize, frontOf};
+ghost use Rattle.sheets.specs.Sheets.{front_size, front_of};
 
 use carriers::Carrier;
 
@@ -23,8 +23,8 @@ pub const COUNT_AT: usize = 6;
 
 // Writes the head of a sheet of `count` records at the front of `out`, and returns the index after it.
 pub fn put_front(out: &mut [u8], c: Carrier, count: u8) -> usize
-    requires { frontSize ≤ length out.old }
-    ensures { Wrote 0 (frontOf c count) out.old result out.new }
+    requires { front_size ≤ length out.old }
+    ensures { Wrote 0 (front_of c count) out.old result out.new }
 {
     let letters = LETTERS;
     let at_version = octets::copy(out, 0, &letters);

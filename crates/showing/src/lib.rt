@@ -4,12 +4,12 @@
 ghost use Rattle.std.specs.Prelude.{List, [], ◌∷◌, ◌++◌, map, ◌+◌, ◌≤◌, length};
 ghost use Rattle.io.specs.Counts.{IsPrefixLen};
 ghost use Rattle.blocks.specs.Block.{Fields};
-ghost use Rattle.sheets.specs.Sheets.{frontSize};
+ghost use Rattle.sheets.specs.Sheets.{front_size};
 ghost use Rattle.taking.specs.Spot.{fields_at};
 ghost use Rattle.taking.specs.Standing.{Standing};
 ghost use Rattle.chars.specs.Puts.{Puts};
-ghost use Rattle.values.specs.Values.{beforeOf, list_of, longestName};
-ghost use Rattle.showing.specs.Showing.{valueBy, parameterOf, parametersOf, addressItem, addressesOf, lifetimeOf, commonOf, lists_of, rest_of, recordOf, count_of, line_of, objectOf, head_of, shownOf};
+ghost use Rattle.values.specs.Values.{before_of, list_of, longest_name};
+ghost use Rattle.showing.specs.Showing.{value_by, parameter_of, parameters_of, address_item, addresses_of, lifetime_of, common_of, lists_of, rest_of, record_of, count_of, line_of, object_of, head_of, shown_of};
 
 use carriers::Carrier;
 use chars::{put_all, put_number};
@@ -25,7 +25,7 @@ use values::{
 
 // Writes the value of a parameter.
 fn put_of_key(out: &mut [u8], at: usize, json: bool, key: usize, v: &[u8]) -> usize
-    ensures { Puts at (valueBy json key v.now) out.old result out.new }
+    ensures { Puts at (value_by json key v.now) out.old result out.new }
 {
     if key == Key::MANDATORY {
         return put_keys(out, at, json, v);
@@ -48,7 +48,7 @@ fn put_of_key(out: &mut [u8], at: usize, json: bool, key: usize, v: &[u8]) -> us
 
 // Writes a parameter: in text a line with nothing after the label where there is no value.
 fn put_parameter(out: &mut [u8], at: usize, json: bool, first: bool, key: usize, v: &[u8]) -> usize
-    ensures { Puts at (beforeOf json first ++ parameterOf json (record { key = key; value = v.now })) out.old result out.new }
+    ensures { Puts at (before_of json first ++ parameter_of json (record { key = key; value = v.now })) out.old result out.new }
 {
     let from = put_comma(out, at, json, first);
     let named = put_label(out, from, json, key, v.len());
@@ -58,7 +58,7 @@ fn put_parameter(out: &mut [u8], at: usize, json: bool, first: bool, key: usize,
 
 // Writes the parameters.
 fn put_parameters(out: &mut [u8], at: usize, json: bool, p: &[u8]) -> usize
-    ensures { Puts at (parametersOf json p.now) out.old result out.new }
+    ensures { Puts at (parameters_of json p.now) out.old result out.new }
 {
     let mut o = lesser(at, out.len());
     let mut i = 0;
@@ -78,7 +78,7 @@ fn put_parameters(out: &mut [u8], at: usize, json: bool, p: &[u8]) -> usize
 
 // Writes an address: in JSON a string, in text a line.
 fn put_address_item(out: &mut [u8], at: usize, json: bool, first: bool, a: &[u8]) -> usize
-    ensures { Puts at (beforeOf json first ++ addressItem json a.now) out.old result out.new }
+    ensures { Puts at (before_of json first ++ address_item json a.now) out.old result out.new }
 {
     let opens = put_comma(out, at, json, first);
     let from = put_either(out, opens, json, b"\"", b"\n    address         ");
@@ -88,7 +88,7 @@ fn put_address_item(out: &mut [u8], at: usize, json: bool, first: bool, a: &[u8]
 
 // Writes the addresses of a carrier.
 fn put_addresses(out: &mut [u8], at: usize, json: bool, c: Carrier, list: &[u8]) -> usize
-    ensures { Puts at (addressesOf json c list.now) out.old result out.new }
+    ensures { Puts at (addresses_of json c list.now) out.old result out.new }
 {
     let w = c.address_width();
     let mut o = lesser(at, out.len());
@@ -103,7 +103,7 @@ fn put_addresses(out: &mut [u8], at: usize, json: bool, c: Carrier, list: &[u8])
 
 // Writes the lifetime, where the carrier has one.
 fn put_lifetime(out: &mut [u8], at: usize, json: bool, c: Carrier, lifetime: usize) -> usize
-    ensures { Puts at (lifetimeOf json c lifetime) out.old result out.new }
+    ensures { Puts at (lifetime_of json c lifetime) out.old result out.new }
 {
     if c.lifetime_width() == 0 {
         return lesser(at, out.len());
@@ -132,8 +132,8 @@ fn put_lists(
 
 // Writes what every record has: name, priority and, where the carrier has one, lifetime.
 fn put_common(out: &mut [u8], at: usize, json: bool, c: Carrier, name: &[u8], p: Spot) -> usize
-    requires { length name.now ≤ longestName }
-    ensures { Puts at (commonOf json c p.priority p.lifetime name.now) out.old result out.new }
+    requires { length name.now ≤ longest_name }
+    ensures { Puts at (common_of json c p.priority p.lifetime name.now) out.old result out.new }
 {
     let from = put_either(out, at, json, b"{\"name\":\"", b"\n\n");
     let named = put_name(out, from, name);
@@ -181,10 +181,10 @@ fn put_record(
     s: &[u8],
     p: Spot,
 ) -> usize
-    requires nlen_in_bounds { (p.name + p.nlen ≤ length s.now) × (p.nlen ≤ longestName) }
+    requires nlen_in_bounds { (p.name + p.nlen ≤ length s.now) × (p.nlen ≤ longest_name) }
     requires alen_in_bounds { p.addresses + p.alen ≤ length s.now }
     requires plen_in_bounds { p.parameters + p.plen ≤ length s.now }
-    ensures { Puts at (beforeOf json first ++ recordOf json c (fields_at s.now p)) out.old result out.new }
+    ensures { Puts at (before_of json first ++ record_of json c (fields_at s.now p)) out.old result out.new }
 {
     let name = p.name;
     let name_end = name + p.nlen;
@@ -216,7 +216,7 @@ fn put_line(out: &mut [u8], at: usize, c: Carrier, count: usize) -> usize
 
 // Writes the object up to the records.
 fn put_object(out: &mut [u8], at: usize, c: Carrier) -> usize
-    ensures { Puts at (objectOf c) out.old result out.new }
+    ensures { Puts at (object_of c) out.old result out.new }
 {
     let from = put_all(out, at, b"{\"carrier\":");
     let numbered = put_number(out, from, octets::wide(c.number()));
@@ -237,7 +237,7 @@ fn put_head(out: &mut [u8], at: usize, json: bool, c: Carrier, count: usize) -> 
 
 // Writes the records of a sheet; of octets that are none nothing is said.
 fn put_records(out: &mut [u8], at: usize, json: bool, c: Carrier, s: &[u8]) -> usize
-    ensures { (rs : List Fields) → Standing c s.now frontSize rs → Puts at (list_of json (map (recordOf json c) rs)) out.old result out.new }
+    ensures { (rs : List Fields) → Standing c s.now front_size rs → Puts at (list_of json (map (record_of json c) rs)) out.old result out.new }
 {
     let mut o = lesser(at, out.len());
     let mut i = sheets::FRONT;
@@ -254,7 +254,7 @@ fn put_records(out: &mut [u8], at: usize, json: bool, c: Carrier, s: &[u8]) -> u
 
 // Writes a sheet without its final line break: one line of JSON, or lines for a person. Of octets that are no sheet, nothing.
 pub fn put_sheet(out: &mut [u8], at: usize, s: &[u8], json: bool) -> usize
-    ensures { Puts at (shownOf json s.now) out.old result out.new }
+    ensures { Puts at (shown_of json s.now) out.old result out.new }
 {
     match taking::take(s) {
         Took::Refused(_) => lesser(at, out.len()),
@@ -269,7 +269,7 @@ pub fn put_sheet(out: &mut [u8], at: usize, s: &[u8], json: bool) -> usize
 // Writes a sheet and a line break at the front of `out`, and returns how many octets that is; of octets that are no sheet the line break alone.
 pub fn show(s: &[u8], out: &mut [u8], json: bool) -> usize
     ensures prefix_len { IsPrefixLen result out.new }
-    ensures puts { Puts 0 (shownOf json s.now ++ (10 ∷ [])) out.old result out.new }
+    ensures puts { Puts 0 (shown_of json s.now ++ (10 ∷ [])) out.old result out.new }
 {
     let end = put_sheet(out, 0, s, json);
     chars::put(out, end, b'\n')

@@ -2,8 +2,8 @@
 -- RULES P1 to P8 hold. Assumes nothing: these are definitions.
 use Rattle.std.specs.Prelude.{◌≡◌, ◌⊎◌, List, [], ◌∷◌, ◌++◌, ℕ, ◌<◌, length}
 use Rattle.octets.specs.Lists.{All}
-use Rattle.octets.specs.Numbers.{be, numbersOf}
-use Rattle.octets.specs.Fields.{putCounted}
+use Rattle.octets.specs.Numbers.{be, numbers_of}
+use Rattle.octets.specs.Fields.{put_counted}
 use Rattle.svcparams.specs.Key as key
 use Rattle.svcparams.specs.Param.{Param, keys}
 
@@ -23,7 +23,7 @@ In k (x ∷ xs) = (x ≡ k) ⊎ In k xs
 
 -- a parameter's key, length and value, and then l (RULES P1)
 abbrev pub put : Param → List ℕ → List ℕ
-put kv l = be 2 kv.key ++ putCounted 2 kv.value l
+put kv l = be 2 kv.key ++ put_counted 2 kv.value l
 
 -- parameters one after another (RULES P1)
 abbrev pub field_of : List Param → List ℕ
@@ -50,7 +50,7 @@ Hinted kvs = In key.ipv4hint (keys kvs) ⊎ In key.ipv6hint (keys kvs)
 
 -- v is the list of keys ws: not empty, of 16 bits, strictly rising, without 0, each one of the keys ks (RULES P4; RFC 9460 §8)
 pub record Mandatory (ks v ws : List ℕ) : Type 0 where
-  pub laid : v ≡ numbersOf ws
+  pub laid : v ≡ numbers_of ws
   pub some : 0 < length ws
   pub narrow : All (λ w. w < 65536) ws
   pub rise : Ascending ws
@@ -58,13 +58,13 @@ pub record Mandatory (ks v ws : List ℕ) : Type 0 where
   pub present : All (λ w. In w ks) ws
 
 -- strings one after another, each after its 8-bit length (RULES P5)
-abbrev pub stringsOf : List (List ℕ) → List ℕ
-stringsOf [] = []
-stringsOf (s ∷ ss) = putCounted 1 s (stringsOf ss)
+abbrev pub strings_of : List (List ℕ) → List ℕ
+strings_of [] = []
+strings_of (s ∷ ss) = put_counted 1 s (strings_of ss)
 
 -- v is one or more strings, each of 1 to 255 octets (RULES P5; RFC 9460 §7.1.1)
 pub record Alpn (v : List ℕ) (ss : List (List ℕ)) : Type 0 where
-  pub laid : v ≡ stringsOf ss
+  pub laid : v ≡ strings_of ss
   pub some : 0 < length ss
   pub sizes : All (λ s. (0 < length s) × (length s < 256)) ss
 
@@ -73,7 +73,7 @@ pub record Alpn (v : List ℕ) (ss : List (List ℕ)) : Type 0 where
 pub record Allowed (ks : List ℕ) (kv : Param) : Type 0 where
   pub mandatory : kv.key ≡ key.mandatory → (ws : List ℕ) × Mandatory ks kv.value ws
   pub alpn : kv.key ≡ key.alpn → (ss : List (List ℕ)) × Alpn kv.value ss
-  pub noDefaultAlpn : kv.key ≡ key.noDefaultAlpn → (length kv.value ≡ 0) × In key.alpn ks
+  pub no_default_alpn : kv.key ≡ key.no_default_alpn → (length kv.value ≡ 0) × In key.alpn ks
   pub port : kv.key ≡ key.port → length kv.value ≡ 2
 
 -- ---- the whole field

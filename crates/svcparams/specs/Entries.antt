@@ -5,19 +5,19 @@ use Rattle.svcparams.specs.Params.{size_of, first}
 use Rattle.svcparams.specs.Param.{Param, keys}
 
 -- `s` begins with a parameter of so many octets; `go k` reads what follows the first octet of `s` and k more
-abbrev pub afterEntry : List ℕ → ℕ → (ℕ → List Param) → List Param
-afterEntry s zero go = []
-afterEntry s (suc k) go = first s ∷ go k
+abbrev pub after_entry : List ℕ → ℕ → (ℕ → List Param) → List Param
+after_entry s zero go = []
+after_entry s (suc k) go = first s ∷ go k
 
 -- the field with its first k octets still to be skipped
-unfoldable pub entriesFrom : ℕ → List ℕ → List Param
-entriesFrom k [] = []
-entriesFrom zero (x ∷ xs) = afterEntry (x ∷ xs) (size_of (x ∷ xs)) (λ k. entriesFrom k xs)
-entriesFrom (suc k) (x ∷ xs) = entriesFrom k xs
+unfoldable pub entries_from : ℕ → List ℕ → List Param
+entries_from k [] = []
+entries_from zero (x ∷ xs) = after_entry (x ∷ xs) (size_of (x ∷ xs)) (λ k. entries_from k xs)
+entries_from (suc k) (x ∷ xs) = entries_from k xs
 
 abbrev pub entries : List ℕ → List Param
-entries p = entriesFrom 0 p
+entries p = entries_from 0 p
 
 -- the keys of a field's parameters
-abbrev pub keysIn : List ℕ → List ℕ
-keysIn p = keys (entries p)
+abbrev pub keys_in : List ℕ → List ℕ
+keys_in p = keys (entries p)

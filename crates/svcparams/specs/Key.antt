@@ -10,8 +10,8 @@ mandatory = 0
 abbrev pub alpn : ℕ
 alpn = 1
 
-abbrev pub noDefaultAlpn : ℕ
-noDefaultAlpn = 2
+abbrev pub no_default_alpn : ℕ
+no_default_alpn = 2
 
 -- the port of the service (RULES P7)
 abbrev pub port : ℕ

@@ -1,6 +1,6 @@
 -- The first fault of a field of service parameters: 16-bit keys, 16-bit lengths and values, one after another (RULES P1; RFC 9460 §2.2). The
 -- order of faults over the whole field: tiling and keys, then hints, then values (RULES T3). Assumes nothing: these are definitions.
-use Rattle.std.specs.Prelude.{ℕ, zero, suc, ◌+◌, ◌-◌, ◌%◌, Bool, true, false, cond, not, ◌&&◌, ◌||◌, List, [], ◌∷◌, length, take, drop, ltb, leb, eqb}
+use Rattle.std.specs.Prelude.{ℕ, zero, suc, ◌+◌, ◌-◌, ◌%◌, Bool, true, false, cond, not, ◌&&◌, ◌||◌, List, [], ◌∷◌, length, take, drop, ltb, leb, eq}
 use Rattle.octets.specs.Numbers.{at16, words}
 use Rattle.numbers.specs.Fault as fault
 use Rattle.svcparams.specs.Key as key
@@ -32,14 +32,14 @@ after s zero go = bad
 after s (suc k) go = onto (first s) (go k)
 
 -- the field with its first k octets still to be skipped
-unfoldable pub pairsFrom : ℕ → List ℕ → Tiled
-pairsFrom zero [] = tiled []
-pairsFrom (suc k) [] = bad
-pairsFrom zero (x ∷ xs) = after (x ∷ xs) (size_of (x ∷ xs)) (λ k. pairsFrom k xs)
-pairsFrom (suc k) (x ∷ xs) = pairsFrom k xs
+unfoldable pub pairs_from : ℕ → List ℕ → Tiled
+pairs_from zero [] = tiled []
+pairs_from (suc k) [] = bad
+pairs_from zero (x ∷ xs) = after (x ∷ xs) (size_of (x ∷ xs)) (λ k. pairs_from k xs)
+pairs_from (suc k) (x ∷ xs) = pairs_from k xs
 
 abbrev pub pairs : List ℕ → Tiled
-pairs p = pairsFrom 0 p
+pairs p = pairs_from 0 p
 
 -- ---- keys
 
@@ -50,70 +50,70 @@ rising least (k ∷ ks) = leb least k && rising (k + 1) ks
 
 unfoldable pub has : ℕ → List ℕ → Bool
 has k [] = false
-has k (x ∷ xs) = eqb x k || has k xs
+has k (x ∷ xs) = eq x k || has k xs
 
 -- keys rise strictly and the invalid key is refused (RULES P2; RFC 9460 §2.2, §14.3.2)
 abbrev pub ordered : ℕ → List ℕ → Bool
 ordered least ks = rising least ks && not (has key.invalid ks)
 
 -- address hints are refused: the addresses stand in a field of their own (RULES P3; RFC 9463 §3.1.8)
-abbrev pub isHint : ℕ → Bool
-isHint k = eqb k key.ipv4hint || eqb k key.ipv6hint
+abbrev pub is_hint : ℕ → Bool
+is_hint k = eq k key.ipv4hint || eq k key.ipv6hint
 
-unfoldable pub hasHint : List ℕ → Bool
-hasHint [] = false
-hasHint (k ∷ ks) = isHint k || hasHint ks
+unfoldable pub has_hint : List ℕ → Bool
+has_hint [] = false
+has_hint (k ∷ ks) = is_hint k || has_hint ks
 
 -- ---- values
 
-unfoldable pub allIn : List ℕ → List ℕ → Bool
-allIn [] ks = true
-allIn (w ∷ ws) ks = has w ks && allIn ws ks
+unfoldable pub all_in : List ℕ → List ℕ → Bool
+all_in [] ks = true
+all_in (w ∷ ws) ks = has w ks && all_in ws ks
 
 -- mandatory: a non-empty list of 16-bit keys, strictly rising, without 0, each among the keys ks (RULES P4; RFC 9460 §8)
-unfoldable pub mandatoryGood : List ℕ → List ℕ → Bool
-mandatoryGood v ks = not (eqb (length v) 0) && eqb (length v % 2) 0 && rising 1 (words v) && allIn (words v) ks
+unfoldable pub mandatory_good : List ℕ → List ℕ → Bool
+mandatory_good v ks = not (eq (length v) 0) && eq (length v % 2) 0 && rising 1 (words v) && all_in (words v) ks
 
 -- strings, each after its 8-bit length of at least 1, with k octets of the one before still to come
-unfoldable pub stringsFrom : ℕ → List ℕ → Bool
-stringsFrom zero [] = true
-stringsFrom (suc k) [] = false
-stringsFrom zero (x ∷ xs) = not (eqb x 0) && stringsFrom x xs
-stringsFrom (suc k) (x ∷ xs) = stringsFrom k xs
+unfoldable pub strings_from : ℕ → List ℕ → Bool
+strings_from zero [] = true
+strings_from (suc k) [] = false
+strings_from zero (x ∷ xs) = not (eq x 0) && strings_from x xs
+strings_from (suc k) (x ∷ xs) = strings_from k xs
 
 -- alpn: one or more strings (RULES P5; RFC 9460 §7.1.1)
-unfoldable pub alpnGood : List ℕ → Bool
-alpnGood v = not (eqb (length v) 0) && stringsFrom 0 v
+unfoldable pub alpn_good : List ℕ → Bool
+alpn_good v = not (eq (length v) 0) && strings_from 0 v
 
 -- no-default-alpn: empty, and alpn is among the keys ks (RULES P6; RFC 9460 §7.1.1, §2.4.3)
-abbrev pub noDefaultAlpnGood : List ℕ → List ℕ → Bool
-noDefaultAlpnGood v ks = eqb (length v) 0 && has key.alpn ks
+abbrev pub no_default_alpn_good : List ℕ → List ℕ → Bool
+no_default_alpn_good v ks = eq (length v) 0 && has key.alpn ks
 
 -- the value v of the key k, where ks are the keys of the same parameters: mandatory, alpn and no-default-alpn as above; port has 2 octets
 -- (RULES P7; RFC 9460 §7.2); the value of any other key is carried as it is (RULES P8)
-unfoldable pub valueGood : ℕ → List ℕ → List ℕ → Bool
-valueGood k v ks =
-    cond (eqb k key.mandatory) (mandatoryGood v ks)
-    (cond (eqb k key.alpn) (alpnGood v)
-    (cond (eqb k key.noDefaultAlpn) (noDefaultAlpnGood v ks)
-    (cond (eqb k key.port) (eqb (length v) 2) true)))
+unfoldable pub value_good : ℕ → List ℕ → List ℕ → Bool
+value_good k v ks =
+    cond (eq k key.mandatory) (mandatory_good v ks)
+    (cond (eq k key.alpn) (alpn_good v)
+    (cond (eq k key.no_default_alpn) (no_default_alpn_good v ks)
+    (cond (eq k key.port) (eq (length v) 2) true)))
 
-unfoldable pub allGood : List Param → List ℕ → Bool
-allGood [] ks = true
-allGood (kv ∷ kvs) ks = valueGood kv.key kv.value ks && allGood kvs ks
+unfoldable pub all_good : List Param → List ℕ → Bool
+all_good [] ks = true
+all_good (kv ∷ kvs) ks = value_good kv.key kv.value ks && all_good kvs ks
 
 -- ---- the first fault, or 0
 
-abbrev pub listFault : List Param → ℕ
-listFault kvs =
+abbrev pub list_fault : List Param → ℕ
+list_fault kvs =
     cond (not (ordered 0 (keys kvs))) fault.parameters
-    (cond (hasHint (keys kvs)) fault.hint
-    (cond (not (allGood kvs (keys kvs))) fault.value
+    (cond (has_hint (keys kvs)) fault.hint
+    (cond (not (all_good kvs (keys kvs))) fault.value
     0))
 
-abbrev pub tiledFault : Tiled → ℕ
-tiledFault bad = fault.parameters
-tiledFault (tiled kvs) = listFault kvs
+abbrev pub tiled_fault : Tiled → ℕ
+tiled_fault bad = fault.parameters
+tiled_fault (tiled kvs) = list_fault kvs
 
-unfoldable pub paramsFault : List ℕ → ℕ
-paramsFault p = tiledFault (pairs p)
+unfoldable pub params_fault : List ℕ → ℕ
+params_fault p = tiled_fault (pairs p)

@@ -1,15 +1,15 @@
 -- The laws of a tiled field: the size of a parameter, the steps of `pairs` and `entries`, and the same steps at a place of the field.
 -- Assumes nothing.
-use Rattle.std.specs.Prelude.{◌≡◌, refl, cond, List, [], ◌∷◌, ℕ, zero, suc, ◌+◌, ◌-◌, ◌≤◌, ◌<◌, length, get_or, take, drop, ltb, eqb}
-use Rattle.std.proofs.Common.{sym, ap₂, ◌∙◌, le_of_suc-le-suc, not-suc-le-zero, arith, length-drop, drop-drop, lt-ltb, le-ltb, ltb-false, eqb-true}
+use Rattle.std.specs.Prelude.{◌≡◌, refl, cond, List, [], ◌∷◌, ℕ, zero, suc, ◌+◌, ◌-◌, ◌≤◌, ◌<◌, length, get_or, take, drop, ltb, eq}
+use Rattle.std.proofs.Common.{sym, ap₂, ◌∙◌, le_of_suc-le-suc, not-suc-le-zero, arith, length-drop, drop-drop, lt-ltb, le-ltb, ltb-false, eq-true}
 use Rattle.std.proofs.Math.Path.{ap}
-use Rattle.std.proofs.lemmas.Bool.{eqb-false}
+use Rattle.std.proofs.lemmas.Bool.{eq-false}
 use Rattle.octets.specs.Cases.{by-test}
 use Rattle.octets.specs.Numbers.{at16}
 use Rattle.octets.specs.ListsLaws.{take_rest, skip-within, skip-any}
-use Rattle.svcparams.specs.Params.{size_of, first, Tiled, bad, tiled, onto, after, pairsFrom, pairs}
+use Rattle.svcparams.specs.Params.{size_of, first, Tiled, bad, tiled, onto, after, pairs_from, pairs}
 use Rattle.svcparams.specs.Param.{Param, keys}
-use Rattle.svcparams.specs.Entries.{afterEntry, entriesFrom, entries, keysIn}
+use Rattle.svcparams.specs.Entries.{after_entry, entries_from, entries, keys_in}
 
 pub bad-tiled : {kvs : List Param} → bad ≡ tiled kvs → ⊥
 bad-tiled e = let z : ◌≡◌ {A = ℕ} 0 1 = cc in omega arith
@@ -60,49 +60,49 @@ sized s =
 
 pub size_room : (s : List ℕ) → size_of s ≤ length s
 size_room s =
-    by-test (eqb (size_of s) 0) (λ _. size_of s ≤ length s)
-    (λ e. let z : size_of s ≡ 0 = eqb-true _ _ e in omega arith)
-    (λ e. (sized s (eqb-false _ _ e)).room)
+    by-test (eq (size_of s) 0) (λ _. size_of s ≤ length s)
+    (λ e. let z : size_of s ≡ 0 = eq-true _ _ e in omega arith)
+    (λ e. (sized s (eq-false _ _ e)).room)
 
 pub size-head : (s : List ℕ) {n : ℕ} → n ≡ size_of s → (n ≡ 0 → ⊥) → 4 ≤ n
 size-head s e z = let h = (sized s (λ y. z (e ∙ y))).head in omega arith
 
 -- ---- the steps of `pairs` and `entries`
 
-skip-pairs : (k : ℕ) (s : List ℕ) → k ≤ length s → pairsFrom k s ≡ pairs (drop k s)
-unfolding pairsFrom
-skip-pairs = skip-within pairsFrom (λ k x xs. refl)
+skip-pairs : (k : ℕ) (s : List ℕ) → k ≤ length s → pairs_from k s ≡ pairs (drop k s)
+unfolding pairs_from
+skip-pairs = skip-within pairs_from (λ k x xs. refl)
 
-skip-entries : (k : ℕ) (s : List ℕ) → entriesFrom k s ≡ entries (drop k s)
-unfolding entriesFrom
-skip-entries = skip-any entriesFrom (λ k x xs. refl) (λ k. refl)
+skip-entries : (k : ℕ) (s : List ℕ) → entries_from k s ≡ entries (drop k s)
+unfolding entries_from
+skip-entries = skip-any entries_from (λ k x xs. refl) (λ k. refl)
 
 pub pairs-none : pairs [] ≡ tiled []
-unfolding pairsFrom
+unfolding pairs_from
 pairs-none = refl
 
 pub pairs-bad : (s : List ℕ) → 0 < length s → size_of s ≡ 0 → pairs s ≡ bad
-unfolding pairsFrom
+unfolding pairs_from
 pairs-bad [] h e = absurd (not-suc-le-zero h)
-pairs-bad (x ∷ xs) h e = ap (λ (n : ℕ). after (x ∷ xs) n (λ k. pairsFrom k xs)) e
+pairs-bad (x ∷ xs) h e = ap (λ (n : ℕ). after (x ∷ xs) n (λ k. pairs_from k xs)) e
 
 entries-bad : (s : List ℕ) → size_of s ≡ 0 → entries s ≡ []
-unfolding entriesFrom
+unfolding entries_from
 entries-bad [] e = refl
-entries-bad (x ∷ xs) e = ap (λ (n : ℕ). afterEntry (x ∷ xs) n (λ k. entriesFrom k xs)) e
+entries-bad (x ∷ xs) e = ap (λ (n : ℕ). after_entry (x ∷ xs) n (λ k. entries_from k xs)) e
 
 pairs-at : (s : List ℕ) (n : ℕ) → size_of s ≡ suc n → suc n ≤ length s → pairs s ≡ onto (first s) (pairs (drop (suc n) s))
-unfolding pairsFrom
+unfolding pairs_from
 pairs-at [] n e h = absurd (not-suc-le-zero h)
 pairs-at (x ∷ xs) n e h =
-    ap (λ (n : ℕ). after (x ∷ xs) n (λ k. pairsFrom k xs)) e
+    ap (λ (n : ℕ). after (x ∷ xs) n (λ k. pairs_from k xs)) e
     ∙ ap (onto (first (x ∷ xs))) (skip-pairs n xs (le_of_suc-le-suc h))
 
 entries_at : (s : List ℕ) (n : ℕ) → size_of s ≡ suc n → suc n ≤ length s → entries s ≡ first s ∷ entries (drop (suc n) s)
-unfolding entriesFrom
+unfolding entries_from
 entries_at [] n e h = absurd (not-suc-le-zero h)
 entries_at (x ∷ xs) n e h =
-    ap (λ (n : ℕ). afterEntry (x ∷ xs) n (λ k. entriesFrom k xs)) e
+    ap (λ (n : ℕ). after_entry (x ∷ xs) n (λ k. entries_from k xs)) e
     ∙ ap (λ (l : List Param). first (x ∷ xs) ∷ l) (skip-entries n xs)
 
 pub pairs-cons : (s : List ℕ) → (size_of s ≡ 0 → ⊥) → pairs s ≡ onto (first s) (pairs (drop (size_of s) s))
@@ -124,17 +124,17 @@ onto-tiled : (kv : Param) (t : Tiled) (kvs es : List Param) → onto kv t ≡ ti
 onto-tiled kv bad kvs es e f = absurd (bad-tiled e)
 onto-tiled kv (tiled ks) kvs es e f = let q = f ks refl in cc
 
-same_from : (k : ℕ) (s : List ℕ) (kvs : List Param) → pairsFrom k s ≡ tiled kvs → entriesFrom k s ≡ kvs
-unfolding pairsFrom entriesFrom
+same_from : (k : ℕ) (s : List ℕ) (kvs : List Param) → pairs_from k s ≡ tiled kvs → entries_from k s ≡ kvs
+unfolding pairs_from entries_from
 same_from zero [] kvs e = cc
 same_from (suc k) [] kvs e = absurd (bad-tiled e)
 same_from zero (x ∷ xs) kvs e = go (size_of (x ∷ xs)) e (λ n ks q. same_from n xs ks q)
   where
-    go : (n : ℕ) → after (x ∷ xs) n (λ k. pairsFrom k xs) ≡ tiled kvs
-        → ((n : ℕ) (ks : List Param) → pairsFrom n xs ≡ tiled ks → entriesFrom n xs ≡ ks)
-        → afterEntry (x ∷ xs) n (λ k. entriesFrom k xs) ≡ kvs
+    go : (n : ℕ) → after (x ∷ xs) n (λ k. pairs_from k xs) ≡ tiled kvs
+        → ((n : ℕ) (ks : List Param) → pairs_from n xs ≡ tiled ks → entries_from n xs ≡ ks)
+        → after_entry (x ∷ xs) n (λ k. entries_from k xs) ≡ kvs
     go zero e ih = absurd (bad-tiled e)
-    go (suc n) e ih = onto-tiled (first (x ∷ xs)) (pairsFrom n xs) kvs (entriesFrom n xs) e (ih n)
+    go (suc n) e ih = onto-tiled (first (x ∷ xs)) (pairs_from n xs) kvs (entries_from n xs) e (ih n)
 same_from (suc k) (x ∷ xs) kvs e = same_from k xs kvs e
 
 pub entries-tiled : (s : List ℕ) (kvs : List Param) → pairs s ≡ tiled kvs → entries s ≡ kvs
@@ -182,10 +182,10 @@ module _ (p : List ℕ) (at : ℕ) {n : ℕ} (e : n ≡ size_of (rest p at)) whe
   pub next-entries : (n ≡ 0 → ⊥) → entries (drop at p) ≡ param_at p at n ∷ entries (drop (at + n) p)
   next-entries z = entries-cons (drop at p) (λ y. z (sym is-size ∙ y)) ∙ ap₂ (λ (kv : Param) (l : List ℕ). kv ∷ entries l) first-is left_is
 
-  pub stop-keys : n ≡ 0 → keysIn (drop at p) ≡ []
+  pub stop-keys : n ≡ 0 → keys_in (drop at p) ≡ []
   unfolding keys
   stop-keys z = ap keys (stop-entries z)
 
-  pub next_keys : (n ≡ 0 → ⊥) → keysIn (drop at p) ≡ at16 (rest p at) 0 ∷ keysIn (drop (at + n) p)
+  pub next_keys : (n ≡ 0 → ⊥) → keys_in (drop at p) ≡ at16 (rest p at) 0 ∷ keys_in (drop (at + n) p)
   unfolding keys
   next_keys z = ap keys (next-entries z)

@@ -2,15 +2,15 @@
 // good, where each listed key is sought by itself, since one walk cannot tell (RULES P4). Only `value`, which is asked of any field, needs this:
 // `params_fault` looks at values only after 26 is ruled out.
 ghost use Rattle.std.specs.Prelude.{◌≡◌};
-ghost use Rattle.svcparams.specs.Params.{rising, has, mandatoryGood};
-ghost use Rattle.svcparams.specs.Entries.{keysIn};
+ghost use Rattle.svcparams.specs.Params.{rising, has, mandatory_good};
+ghost use Rattle.svcparams.specs.Entries.{keys_in};
 
 use crate::size;
 use octets::get16;
 
 // Whether the keys of a field rise.
 pub fn rises(p: &[u8]) -> bool
-    ensures { result ≡ rising 0 (keysIn p.now) }
+    ensures { result ≡ rising 0 (keys_in p.now) }
 {
     let mut at: usize = 0;
     let mut least: usize = 0;
@@ -31,7 +31,7 @@ pub fn rises(p: &[u8]) -> bool
 
 // Whether a parameter has the key.
 pub fn has_key(p: &[u8], key: usize) -> bool
-    ensures { result ≡ has key (keysIn p.now) }
+    ensures { result ≡ has key (keys_in p.now) }
 {
     let mut at: usize = 0;
     loop {
@@ -50,7 +50,7 @@ pub fn has_key(p: &[u8], key: usize) -> bool
 
 // Whether a mandatory list is not empty and whole, its keys rise without 0, and each is a parameter's.
 pub fn mandatory_anywhere(m: &[u8], p: &[u8]) -> bool
-    ensures { result ≡ mandatoryGood m.now (keysIn p.now) }
+    ensures { result ≡ mandatory_good m.now (keys_in p.now) }
 {
     if m.len() == 0 {
         return false;

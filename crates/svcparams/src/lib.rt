@@ -4,8 +4,8 @@
 // Nothing here changes or writes parameters.
 ghost use Rattle.std.specs.Prelude.{◌≡◌, ℕ, ◌≤◌, length, true, List};
 ghost use Rattle.svcparams.specs.Key as keys;
-ghost use Rattle.svcparams.specs.Params.{size_of, rising, has, mandatoryGood, alpnGood, valueGood, allGood, paramsFault};
-ghost use Rattle.svcparams.specs.Entries.{entries, keysIn};
+ghost use Rattle.svcparams.specs.Params.{size_of, rising, has, mandatory_good, alpn_good, value_good, all_good, params_fault};
+ghost use Rattle.svcparams.specs.Entries.{entries, keys_in};
 
 use anywhere::{has_key, mandatory_anywhere, rises};
 use numbers::Fault;
@@ -62,8 +62,8 @@ pub fn size(s: &[u8]) -> usize
 
 // Whether a mandatory list is not empty and whole, its keys rise without 0, and each is a parameter's, in a field whose keys rise.
 fn mandatory(m: &[u8], p: &[u8]) -> bool
-    requires { rising 0 (keysIn p.now) ≡ true }
-    ensures { result ≡ mandatoryGood m.now (keysIn p.now) }
+    requires { rising 0 (keys_in p.now) ≡ true }
+    ensures { result ≡ mandatory_good m.now (keys_in p.now) }
 {
     if m.len() == 0 {
         return false;
@@ -77,7 +77,7 @@ fn mandatory(m: &[u8], p: &[u8]) -> bool
 
 // Whether strings, none of them empty, tile the value, and there is one.
 fn alpn(v: &[u8]) -> bool
-    ensures { result ≡ alpnGood v.now }
+    ensures { result ≡ alpn_good v.now }
 {
     if v.len() == 0 {
         return false;
@@ -100,7 +100,7 @@ fn alpn(v: &[u8]) -> bool
 // one of them: `beside`, which is looked at for no-default-alpn alone.
 fn plain(key: usize, v: &[u8], beside: bool) -> bool
     requires { key ≡ keys.mandatory → ⊥ }
-    ensures { (ks : List ℕ) → (key ≡ keys.noDefaultAlpn → beside ≡ has keys.alpn ks) → result ≡ valueGood key v.now ks }
+    ensures { (ks : List ℕ) → (key ≡ keys.no_default_alpn → beside ≡ has keys.alpn ks) → result ≡ value_good key v.now ks }
 {
     if key == Key::ALPN {
         return alpn(v);
@@ -116,7 +116,7 @@ fn plain(key: usize, v: &[u8], beside: bool) -> bool
 
 // Whether the value v is one that its key allows in the field p, in whatever order the keys of p stand.
 pub fn value(key: usize, v: &[u8], p: &[u8]) -> bool
-    ensures { result ≡ valueGood key v.now (keysIn p.now) }
+    ensures { result ≡ value_good key v.now (keys_in p.now) }
 {
     if key == Key::NO_DEFAULT_ALPN {
         return plain(key, v, has_key(p, Key::ALPN));
@@ -132,9 +132,9 @@ pub fn value(key: usize, v: &[u8], p: &[u8]) -> bool
 
 // Whether the value v is one that its key allows in the field p, whose keys rise; `beside` as for `plain`.
 fn allowed(key: usize, v: &[u8], p: &[u8], beside: bool) -> bool
-    requires p_value { rising 0 (keysIn p.now) ≡ true }
-    requires beside_value { key ≡ keys.noDefaultAlpn → beside ≡ has keys.alpn (keysIn p.now) }
-    ensures { result ≡ valueGood key v.now (keysIn p.now) }
+    requires p_value { rising 0 (keys_in p.now) ≡ true }
+    requires beside_value { key ≡ keys.no_default_alpn → beside ≡ has keys.alpn (keys_in p.now) }
+    ensures { result ≡ value_good key v.now (keys_in p.now) }
 {
     if key == Key::MANDATORY {
         return mandatory(v, p);
@@ -145,8 +145,8 @@ fn allowed(key: usize, v: &[u8], p: &[u8], beside: bool) -> bool
 // Whether each parameter's value is one that its key allows, in a field whose keys rise: above the port's no key has a rule, and alpn, if it is
 // there, stands before no-default-alpn.
 fn values(p: &[u8]) -> bool
-    requires { rising 0 (keysIn p.now) ≡ true }
-    ensures { result ≡ allGood (entries p.now) (keysIn p.now) }
+    requires { rising 0 (keys_in p.now) ≡ true }
+    ensures { result ≡ all_good (entries p.now) (keys_in p.now) }
 {
     let mut at: usize = 0;
     let mut beside = false;
@@ -171,7 +171,7 @@ fn values(p: &[u8]) -> bool
 
 // The first fault of the field, or 0. Tiling and keys go before hints over the whole field: a hint is remembered, and answered at the end.
 pub fn params_fault(p: &[u8]) -> usize
-    ensures { result ≡ paramsFault p.now }
+    ensures { result ≡ params_fault p.now }
 {
     let mut at: usize = 0;
     let mut least: usize = 0;

@@ -2,7 +2,7 @@
 ghost use Rattle.std.specs.Prelude.{◌≡◌, ◌≤◌, ◌<◌, length, drop};
 ghost use Rattle.octets.specs.Numbers.{words};
 ghost use Rattle.svcparams.specs.Params.{size_of};
-ghost use Rattle.svcparams.specs.Entries.{keysIn};
+ghost use Rattle.svcparams.specs.Entries.{keys_in};
 ghost use Rattle.svcparams.specs.Merge.{look, decided, Ran};
 
 use crate::size;
@@ -71,7 +71,7 @@ fn listed_at(m: &[u8], i: usize) -> Look
 // The key of the first parameter in s, which has n octets; with n 0 there is none.
 fn held_in(s: &[u8], n: usize) -> Look
     requires { n ≡ size_of s.now }
-    ensures { result ≡ look (keysIn s.now) }
+    ensures { result ≡ look (keys_in s.now) }
 {
     if n == 0 {
         return Look::End;
@@ -83,7 +83,7 @@ fn held_in(s: &[u8], n: usize) -> Look
 // turn of the inner loop is one step; i and at never go back.
 pub fn all_present(m: &[u8], p: &[u8]) -> Walked
     requires { 1 < length m.now }
-    ensures { Ran (words m.now) (keysIn p.now) result.present result.steps }
+    ensures { Ran (words m.now) (keys_in p.now) result.present result.steps }
 {
     let mut i: usize = 0;
     let mut at: usize = 0;

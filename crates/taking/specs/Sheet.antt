@@ -6,9 +6,9 @@ use Rattle.octets.specs.Numbers.{be}
 use Rattle.octets.specs.Lists.{All}
 use Rattle.numbers.specs.Limit as limit
 use Rattle.carriers.specs.declared.Carrier.{Carrier}
-use Rattle.carriers.specs.Carriers.{addressWidth, lifetimeWidth}
+use Rattle.carriers.specs.Carriers.{address_width, lifetime_width}
 use Rattle.blocks.specs.Block.{Fields}
-use Rattle.sheets.specs.Sheets.{letters, edition, sheetOf}
+use Rattle.sheets.specs.Sheets.{letters, edition, sheet_of}
 
 -- in mode 1 the addresses are whole and their count and the parameters' length have room; in mode 0 there are none (RULES S2)
 abbrev pub FitsTail : ℕ → Bool → List ℕ → List ℕ → Type 0
@@ -19,9 +19,9 @@ FitsTail w false addresses parameters = (addresses ≡ []) × (parameters ≡ []
 pub record FitsRecord (c : Carrier) (r : Fields) : Type 0 where
   pub priority : r.priority < 65536
   pub lifetime : r.lifetime < 4294967296
-  pub placed : lifetimeWidth c ≡ 0 → r.lifetime ≡ 0
+  pub placed : lifetime_width c ≡ 0 → r.lifetime ≡ 0
   pub name : length r.name < 256
-  pub tail : FitsTail (addressWidth c) r.full r.addresses r.parameters
+  pub tail : FitsTail (address_width c) r.full r.addresses r.parameters
 
 -- no priority is below the one before it, the first not below `least` (RULES S5)
 abbrev pub NoneFalls : ℕ → List Fields → Type 0
@@ -36,7 +36,7 @@ pub record IsHead (s : List ℕ) (carrier count : ℕ) : Type 0 where
 
 -- s is the sheet of carrier c and records rs, which passes 2, 40, 41, 42, 4 and 43 (RULES T5, L1, L2)
 pub record IsSheet (s : List ℕ) (c : Carrier) (rs : List Fields) : Type 0 where
-  pub is : s ≡ sheetOf c rs
+  pub is : s ≡ sheet_of c rs
   pub few : length rs ≤ limit.records
   pub each : All (FitsRecord c) rs
   pub order : NoneFalls 0 rs

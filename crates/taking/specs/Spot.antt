@@ -1,11 +1,11 @@
 -- Where the fields of one record stand in a sheet, by its lengths and its mode alone (RULES S2: priority 2, lifetime 4, mode 1, name length 1,
 -- name; in mode 1 also address count 1, addresses, parameter length 2, parameters). Assumes nothing: these are definitions.
-use Rattle.std.specs.Prelude.{◌≡◌, true, false, cond, List, ℕ, ◌+◌, ◌-◌, ◌*◌, ◌≤◌, ◌<◌, ltb, eqb, length, get_or, take, drop}
+use Rattle.std.specs.Prelude.{◌≡◌, true, false, cond, List, ℕ, ◌+◌, ◌-◌, ◌*◌, ◌≤◌, ◌<◌, ltb, eq, length, get_or, take, drop}
 use Rattle.octets.specs.Numbers.{at16, at32}
 use Rattle.carriers.specs.declared.Carrier.{Carrier}
-use Rattle.carriers.specs.Carriers.{addressWidth}
+use Rattle.carriers.specs.Carriers.{address_width}
 use Rattle.blocks.specs.Block.{Fields}
-use Rattle.records.specs.Records.{headSize, lifetimeAt, modeAt, nameLengthAt}
+use Rattle.records.specs.Records.{head_size, lifetime_at, mode_at, name_length_at}
 use Rattle.taking.specs.declared.Spot.{Spot}
 
 -- no record: a field runs past the sheet's end, or the mode is not 0 or 1
@@ -31,20 +31,20 @@ named_at s at n =
     record {
       good = true;
       priority = at16 s at;
-      lifetime = at32 s (at + lifetimeAt);
+      lifetime = at32 s (at + lifetime_at);
       full = false;
-      name = at + headSize;
+      name = at + head_size;
       nlen = n;
-      addresses = at + headSize + n;
+      addresses = at + head_size + n;
       alen = 0;
-      parameters = at + headSize + n;
+      parameters = at + head_size + n;
       plen = 0;
-      next = at + headSize + n;
+      next = at + head_size + n;
     }
 
 -- with addresses of n octets at a and parameters of m octets at q
-abbrev pub withParts : Spot → ℕ → ℕ → ℕ → ℕ → Spot
-withParts p a n q m =
+abbrev pub with_parts : Spot → ℕ → ℕ → ℕ → ℕ → Spot
+with_parts p a n q m =
     record {
       good = true;
       priority = p.priority;
@@ -60,32 +60,32 @@ withParts p a n q m =
     }
 
 -- parameters of m octets at q
-abbrev pub parametersAt : List ℕ → Spot → ℕ → ℕ → ℕ → ℕ → Spot
-parametersAt s p a n q m = cond (ltb (length s - q) m) nowhere (withParts p a n q m)
+abbrev pub parameters_at : List ℕ → Spot → ℕ → ℕ → ℕ → ℕ → Spot
+parameters_at s p a n q m = cond (ltb (length s - q) m) nowhere (with_parts p a n q m)
 
 -- addresses of n octets at a, then the parameter length
-abbrev pub addressesAt : List ℕ → Spot → ℕ → ℕ → Spot
-addressesAt s p a n =
+abbrev pub addresses_at : List ℕ → Spot → ℕ → ℕ → Spot
+addresses_at s p a n =
     cond (ltb (length s - a) n) nowhere
     (cond (ltb (length s - (a + n)) 2) nowhere
-    (parametersAt s p a n (a + n + 2) (at16 s (a + n))))
+    (parameters_at s p a n (a + n + 2) (at16 s (a + n))))
 
 -- what mode 1 adds after the name: address count, addresses, parameter length, parameters
-unfoldable pub fullAt : Carrier → List ℕ → Spot → Spot
-fullAt c s p =
+unfoldable pub full_at : Carrier → List ℕ → Spot → Spot
+full_at c s p =
     cond (ltb (length s - p.next) 1) nowhere
-    (addressesAt s p (p.next + 1) (get_or s p.next 0 * addressWidth c))
+    (addresses_at s p (p.next + 1) (get_or s p.next 0 * address_width c))
 
 -- mode 0 name only, 1 full
-abbrev pub byMode : Carrier → List ℕ → ℕ → Spot → Spot
-byMode c s mode p = cond (eqb mode 0) p (cond (eqb mode 1) (fullAt c s p) nowhere)
+abbrev pub by_mode : Carrier → List ℕ → ℕ → Spot → Spot
+by_mode c s mode p = cond (eq mode 0) p (cond (eq mode 1) (full_at c s p) nowhere)
 
 -- the record whose first octet stands at `at`
 unfoldable pub spot_of : Carrier → List ℕ → ℕ → Spot
 spot_of c s at =
-    cond (ltb (length s - at) headSize) nowhere
-    (cond (ltb (length s - at - headSize) (get_or s (at + nameLengthAt) 0)) nowhere
-    (byMode c s (get_or s (at + modeAt) 0) (named_at s at (get_or s (at + nameLengthAt) 0))))
+    cond (ltb (length s - at) head_size) nowhere
+    (cond (ltb (length s - at - head_size) (get_or s (at + name_length_at) 0)) nowhere
+    (by_mode c s (get_or s (at + mode_at) 0) (named_at s at (get_or s (at + name_length_at) 0))))
 
 -- the fields that stand there
 abbrev pub fields_at : List ℕ → Spot → Fields
@@ -105,7 +105,7 @@ pub record Inside (n at : ℕ) (p : Spot) : Type 0 where
   pub addresses : p.addresses + p.alen ≤ n
   pub parameters : p.parameters + p.plen ≤ n
   pub next : p.next ≤ n
-  pub further : p.good ≡ true → at + headSize ≤ p.next
+  pub further : p.good ≡ true → at + head_size ≤ p.next
 
 -- the numbers are of their widths
 pub record Sized (p : Spot) : Type 0 where

@@ -7,14 +7,14 @@ use Rattle.std.proofs.lemmas.Bool.{false≢true}
 use Rattle.numbers.specs.Limit as limit
 use Rattle.carriers.specs.declared.Carrier.{Carrier}
 use Rattle.blocks.specs.Block.{Fields}
-use Rattle.records.specs.Records.{headSize}
-use Rattle.sheets.specs.Sheets.{frontSize, countAt}
+use Rattle.records.specs.Records.{head_size}
+use Rattle.sheets.specs.Sheets.{front_size, count_at}
 use Rattle.taking.specs.declared.Spot.{Spot}
 use Rattle.taking.specs.declared.Took.TheVariants.{Refused, Sheet}
 use Rattle.octets.specs.Lists.{same}
-use Rattle.taking.specs.Taking.{Records, records, onto, recordsFrom, Taken, refuse, sheet, take_of}
+use Rattle.taking.specs.Taking.{Records, records, onto, records_from, Taken, refuse, sheet, take_of}
 use Rattle.taking.specs.Taking as taking
-use Rattle.taking.specs.Took.{tookOf}
+use Rattle.taking.specs.Took.{took_of}
 use Rattle.taking.specs.Spot.{spot_of, fields_at}
 use Rattle.taking.specs.SpotLaws.{spot-inside}
 use Rattle.taking.specs.TakenLaws.{Passed, taken-passed}
@@ -27,8 +27,8 @@ use Rattle.taking.specs.Standing.{Standing, none, one, Stands, Step}
 past : (c : Carrier) (s : List ℕ) (at : ℕ) → length s ≤ at → (spot_of c s at).good ≡ false
 unfolding spot_of
 past c s at h =
-    let k : length s - at < headSize = omega arith in
-    rw (lt-ltb (length s - at) headSize k)
+    let k : length s - at < head_size = omega arith in
+    rw (lt-ltb (length s - at) head_size k)
 
 -- what stands at a spot is the record
 pub stands-is : {s : List ℕ} {at : ℕ} {r : Fields} {p : Spot} → Stands s at r p → fields_at s p ≡ r
@@ -84,44 +84,44 @@ abbrev pub Found : Carrier → List ℕ → ℕ → ℕ → Records → Type 0
 Found c s at n (taking.none) = Unit {0}
 Found c s at n (records rs) = Standing c s at rs × (length rs ≡ n)
 
-pub found : (c : Carrier) (s : List ℕ) (n least at : ℕ) → at ≤ length s → Found c s at n (recordsFrom c n least (drop at s))
-unfolding recordsFrom
+pub found : (c : Carrier) (s : List ℕ) (n least at : ℕ) → at ≤ length s → Found c s at n (records_from c n least (drop at s))
+unfolding records_from
 found c s zero least at h = go (drop at s) (length-drop at s)
   where
-    go : (l : List ℕ) → length l ≡ length s - at → Found c s at zero (recordsFrom c zero least l)
+    go : (l : List ℕ) → length l ≡ length s - at → Found c s at zero (records_from c zero least l)
     go [] e = let i : at ≡ length s = omega arith in (none i, refl)
     go (x ∷ xs) e = tt
 found c s (suc n) least at h =
     let p : Spot = spot_of c s at in
     rw (records-at c n least s at h)
-    (by-record (Found c s at (suc n)) c least s p (λ r l. onto r (recordsFrom c n r.priority l)) tt (λ g _ _.
-    go g (recordsFrom c n p.priority (drop p.next s)) (found c s n p.priority p.next (spot-inside c s at h).next)))
+    (by-record (Found c s at (suc n)) c least s p (λ r l. onto r (records_from c n r.priority l)) tt (λ g _ _.
+    go g (records_from c n p.priority (drop p.next s)) (found c s n p.priority p.next (spot-inside c s at h).next)))
   where
     go : (spot_of c s at).good ≡ true → (x : Records) → Found c s (spot_of c s at).next n x → Found c s at (suc n) (onto (fields_at s (spot_of c s at)) x)
     go g (taking.none) f = tt
     go g (records rs) f = (one g refl f.0, ap suc f.1)
 
 -- the records of a taken sheet stand from its head's end on
-pub taken-standing : (s : List ℕ) {c : Carrier} {rs : List Fields} → take_of s ≡ sheet c rs → Standing c s frontSize rs × (length rs ≤ limit.records)
+pub taken-standing : (s : List ℕ) {c : Carrier} {rs : List Fields} → take_of s ≡ sheet c rs → Standing c s front_size rs × (length rs ≤ limit.records)
 taken-standing s {c} {rs} e =
     let p : Passed s c rs = taken-passed s c rs e in
-    let f : Found c s frontSize (get_or s countAt 0) (records rs) = rw p.found at (found c s (get_or s countAt 0) 0 frontSize p.front.long) in
+    let f : Found c s front_size (get_or s count_at 0) (records rs) = rw p.found at (found c s (get_or s count_at 0) 0 front_size p.front.long) in
     (f.0, omega (arith, f.1, p.few))
 
 -- ---- what the answer of `take` says
 
-pub took-refused : (s : List ℕ) {k : ℕ} → Refused k ≡ tookOf (take_of s) → take_of s ≡ refuse k
+pub took-refused : (s : List ℕ) {k : ℕ} → Refused k ≡ took_of (take_of s) → take_of s ≡ refuse k
 took-refused s {k} = go (take_of s)
   where
-    go : (t : Taken) → Refused k ≡ tookOf t → t ≡ refuse k
+    go : (t : Taken) → Refused k ≡ took_of t → t ≡ refuse k
     go (refuse j) e = cc
     go (sheet c rs) e = let z : ◌≡◌ {A = ℕ} 0 1 = cc in absurd (omega arith)
 
-pub took-sheet : (s : List ℕ) {c : Carrier} {n : ℕ} → Sheet c n ≡ tookOf (take_of s)
-    → (rs : List Fields) × (take_of s ≡ sheet c rs) × (length rs ≡ n) × Standing c s frontSize rs
+pub took-sheet : (s : List ℕ) {c : Carrier} {n : ℕ} → Sheet c n ≡ took_of (take_of s)
+    → (rs : List Fields) × (take_of s ≡ sheet c rs) × (length rs ≡ n) × Standing c s front_size rs
 took-sheet s {c} {n} = go (take_of s) refl
   where
-    go : (t : Taken) → take_of s ≡ t → Sheet c n ≡ tookOf t → (rs : List Fields) × (take_of s ≡ sheet c rs) × (length rs ≡ n) × Standing c s frontSize rs
+    go : (t : Taken) → take_of s ≡ t → Sheet c n ≡ took_of t → (rs : List Fields) × (take_of s ≡ sheet c rs) × (length rs ≡ n) × Standing c s front_size rs
     go (refuse j) i e = let z : ◌≡◌ {A = ℕ} 0 1 = cc in absurd (omega arith)
     go (sheet d rs) i e =
         let same : take_of s ≡ sheet c rs = cc in

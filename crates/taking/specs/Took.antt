@@ -12,9 +12,9 @@ said_of (refuse k) = Unfit k
 said_of (head carrier count) = Head carrier count
 
 -- the refusal's number; or the sheet's carrier and how many records it has
-abbrev pub tookOf : Taken → Took
-tookOf (refuse k) = Refused k
-tookOf (sheet c rs) = Sheet c (length rs)
+abbrev pub took_of : Taken → Took
+took_of (refuse k) = Refused k
+took_of (sheet c rs) = Sheet c (length rs)
 
 -- there are records
 abbrev pub some : Records → Bool

@@ -1,33 +1,33 @@
 -- The ways out of the code that takes a sheet agree with `take_of`. Assumes nothing.
-use Rattle.std.specs.Prelude.{◌≡◌, refl, true, false, not, List, ℕ, ◌≤◌, ◌<◌, eqb, length, get_or, take, drop}
+use Rattle.std.specs.Prelude.{◌≡◌, refl, true, false, not, List, ℕ, ◌≤◌, ◌<◌, eq, length, get_or, take, drop}
 use Rattle.std.proofs.Common.{sym, ap, ◌∙◌, arith}
 use Rattle.std.proofs.lemmas.Bool.{false≢true}
-use borrow.Author.Tests.{lt-ltb, le-ltb, eq-eqb, ne_eqb}
+use borrow.Author.Tests.{lt-ltb, le-ltb, eq-eq, ne_eqb}
 use Rattle.octets.specs.Numbers.{at16}
 use Rattle.numbers.specs.Refusal as refusal
 use Rattle.numbers.specs.Limit as limit
 use Rattle.carriers.specs.declared.Carrier.{Carrier}
 use Rattle.carriers.specs.declared.Chosen.{Chosen}
 use Rattle.carriers.specs.declared.Chosen.TheVariants.{Known, Unknown}
-use Rattle.carriers.specs.Carriers.{chosen_of, lifetimeWidth}
-use Rattle.sheets.specs.Sheets.{letters, edition, frontSize, versionAt, carrierAt, countAt}
+use Rattle.carriers.specs.Carriers.{chosen_of, lifetime_width}
+use Rattle.sheets.specs.Sheets.{letters, edition, front_size, version_at, carrier_at, count_at}
 use Rattle.taking.specs.declared.Said.TheVariants.{Unfit, Head}
 use Rattle.taking.specs.declared.Took.{Took}
 use Rattle.taking.specs.declared.Took.TheVariants.{Refused, Sheet}
 use Rattle.octets.specs.Lists.{same}
-use Rattle.taking.specs.Taking.{Headed, refuse, head, head_of, misplaced, Records, none, records, recordsFrom, takeFound, takeRecords, takeCarrier, take_of}
-use Rattle.taking.specs.Took.{said_of, tookOf, some}
+use Rattle.taking.specs.Taking.{Headed, refuse, head, head_of, misplaced, Records, none, records, records_from, take_found, take_records, take_carrier, take_of}
+use Rattle.taking.specs.Took.{said_of, took_of, some}
 use Rattle.taking.specs.TakenLaws.{headed-front}
 use Rattle.taking.specs.StandingLaws.{Found, found}
 
 -- ---- a lifetime where none belongs
 
-module _ (c : Carrier) (t : ℕ) {w : ℕ} (e : w ≡ lifetimeWidth c) where
-  pub misplaced-1 : w ≡ 0 → not (eqb t 0) ≡ misplaced c t
-  misplaced-1 z = rw (eq-eqb (lifetimeWidth c) 0 (sym e ∙ z))
+module _ (c : Carrier) (t : ℕ) {w : ℕ} (e : w ≡ lifetime_width c) where
+  pub misplaced-1 : w ≡ 0 → not (eq t 0) ≡ misplaced c t
+  misplaced-1 z = rw (eq-eq (lifetime_width c) 0 (sym e ∙ z))
 
   pub misplaced-2 : (w ≡ 0 → ⊥) → false ≡ misplaced c t
-  misplaced-2 z = rw (ne_eqb (lifetimeWidth c) 0 (λ i. z (e ∙ i)))
+  misplaced-2 z = rw (ne_eqb (lifetime_width c) 0 (λ i. z (e ∙ i)))
 
 -- ---- 2, 40, 41
 
@@ -37,42 +37,42 @@ module _ (s : List ℕ) where
   head-1 h = rw (lt-ltb limit.input (length s) h)
 
   module _ (h : length s ≤ limit.input) where
-    pub head-2 : length s < frontSize → Unfit refusal.sheet ≡ said_of (head_of s)
+    pub head-2 : length s < front_size → Unfit refusal.sheet ≡ said_of (head_of s)
     unfolding head_of
-    head-2 k = rw (le-ltb limit.input (length s) h, lt-ltb (length s) frontSize k)
+    head-2 k = rw (le-ltb limit.input (length s) h, lt-ltb (length s) front_size k)
 
-    module _ (k : frontSize ≤ length s) where
-      pub head-3 : false ≡ same (take versionAt s) letters → Unfit refusal.sheet ≡ said_of (head_of s)
+    module _ (k : front_size ≤ length s) where
+      pub head-3 : false ≡ same (take version_at s) letters → Unfit refusal.sheet ≡ said_of (head_of s)
       unfolding head_of
-      head-3 e = rw (le-ltb limit.input (length s) h, le-ltb (length s) frontSize k, ← e)
+      head-3 e = rw (le-ltb limit.input (length s) h, le-ltb (length s) front_size k, ← e)
 
-      module _ (e : true ≡ same (take versionAt s) letters) where
-        pub head-4 : (at16 s versionAt ≡ edition → ⊥) → Unfit refusal.version ≡ said_of (head_of s)
+      module _ (e : true ≡ same (take version_at s) letters) where
+        pub head-4 : (at16 s version_at ≡ edition → ⊥) → Unfit refusal.version ≡ said_of (head_of s)
         unfolding head_of
-        head-4 v = rw (le-ltb limit.input (length s) h, le-ltb (length s) frontSize k, ← e, ne_eqb (at16 s versionAt) edition v)
+        head-4 v = rw (le-ltb limit.input (length s) h, le-ltb (length s) front_size k, ← e, ne_eqb (at16 s version_at) edition v)
 
-        pub head-5 : at16 s versionAt ≡ edition → {x n : ℕ} → x ≡ get_or s carrierAt 0 → n ≡ get_or s countAt 0 → Head x n ≡ said_of (head_of s)
+        pub head-5 : at16 s version_at ≡ edition → {x n : ℕ} → x ≡ get_or s carrier_at 0 → n ≡ get_or s count_at 0 → Head x n ≡ said_of (head_of s)
         unfolding head_of
-        head-5 v ex en = rw (le-ltb limit.input (length s) h, le-ltb (length s) frontSize k, ← e, eq-eqb (at16 s versionAt) edition v, ex, en)
+        head-5 v ex en = rw (le-ltb limit.input (length s) h, le-ltb (length s) front_size k, ← e, eq-eq (at16 s version_at) edition v, ex, en)
 
 -- ---- 4 and 43
 
 module _ (c : Carrier) (s : List ℕ) (n : ℕ) where
-  pub records-1 : limit.records < n → Refused refusal.records ≡ tookOf (takeRecords c n (drop frontSize s))
+  pub records-1 : limit.records < n → Refused refusal.records ≡ took_of (take_records c n (drop front_size s))
   records-1 h = rw (lt-ltb limit.records n h)
 
-  module _ (inside : frontSize ≤ length s) (h : n ≤ limit.records) where
-    pub records-2 : true ≡ some (recordsFrom c n 0 (drop frontSize s)) → Sheet c n ≡ tookOf (takeRecords c n (drop frontSize s))
-    records-2 e = rw (le-ltb limit.records n h) (go (recordsFrom c n 0 (drop frontSize s)) e (found c s n 0 frontSize inside))
+  module _ (inside : front_size ≤ length s) (h : n ≤ limit.records) where
+    pub records-2 : true ≡ some (records_from c n 0 (drop front_size s)) → Sheet c n ≡ took_of (take_records c n (drop front_size s))
+    records-2 e = rw (le-ltb limit.records n h) (go (records_from c n 0 (drop front_size s)) e (found c s n 0 front_size inside))
       where
-        go : (x : Records) → true ≡ some x → Found c s frontSize n x → Sheet c n ≡ tookOf (takeFound c x)
+        go : (x : Records) → true ≡ some x → Found c s front_size n x → Sheet c n ≡ took_of (take_found c x)
         go none e f = absurd (false≢true (sym e))
         go (records rs) e f = ap (Sheet c) (sym f.1)
 
-    pub records-3 : false ≡ some (recordsFrom c n 0 (drop frontSize s)) → Refused refusal.tiling ≡ tookOf (takeRecords c n (drop frontSize s))
-    records-3 e = rw (le-ltb limit.records n h) (go (recordsFrom c n 0 (drop frontSize s)) e)
+    pub records-3 : false ≡ some (records_from c n 0 (drop front_size s)) → Refused refusal.tiling ≡ took_of (take_records c n (drop front_size s))
+    records-3 e = rw (le-ltb limit.records n h) (go (records_from c n 0 (drop front_size s)) e)
       where
-        go : (x : Records) → false ≡ some x → Refused refusal.tiling ≡ tookOf (takeFound c x)
+        go : (x : Records) → false ≡ some x → Refused refusal.tiling ≡ took_of (take_found c x)
         go none e = refl
         go (records rs) e = absurd (false≢true e)
 
@@ -80,11 +80,11 @@ module _ (c : Carrier) (s : List ℕ) (n : ℕ) where
 
 module _ (s : List ℕ) where
   module _ (x n : ℕ) {o : Chosen} (e : o ≡ chosen_of x) where
-    pub carrier-1 : o ≡ Unknown → Refused refusal.sheetCarrier ≡ tookOf (takeCarrier (chosen_of x) n (drop frontSize s))
+    pub carrier-1 : o ≡ Unknown → Refused refusal.sheet_carrier ≡ took_of (take_carrier (chosen_of x) n (drop front_size s))
     carrier-1 u = let i : chosen_of x ≡ Unknown = sym e ∙ u in rw i
 
-    pub carrier-2 : {c : Carrier} {r : Took} → o ≡ Known c → r ≡ tookOf (takeRecords c n (drop frontSize s))
-        → r ≡ tookOf (takeCarrier (chosen_of x) n (drop frontSize s))
+    pub carrier-2 : {c : Carrier} {r : Took} → o ≡ Known c → r ≡ took_of (take_records c n (drop front_size s))
+        → r ≡ took_of (take_carrier (chosen_of x) n (drop front_size s))
     carrier-2 {c} u i = let j : chosen_of x ≡ Known c = sym e ∙ u in rw j i
 
   said-unfit : (h : Headed) {k : ℕ} → Unfit k ≡ said_of h → h ≡ refuse k
@@ -95,15 +95,15 @@ module _ (s : List ℕ) where
   said-head (refuse j) e = let z : ◌≡◌ {A = ℕ} 0 1 = cc in absurd (omega arith)
   said-head (head y m) e = cc
 
-  pub take-1 : {k : ℕ} → Unfit k ≡ said_of (head_of s) → Refused k ≡ tookOf (take_of s)
+  pub take-1 : {k : ℕ} → Unfit k ≡ said_of (head_of s) → Refused k ≡ took_of (take_of s)
   unfolding take_of
   take-1 e = rw (said-unfit (head_of s) e)
 
   module _ {x n : ℕ} (e : Head x n ≡ said_of (head_of s)) where
     -- there is a head
-    pub take_long : frontSize ≤ length s
+    pub take_long : front_size ≤ length s
     take_long = (headed-front s (said-head (head_of s) e)).0.long
 
-    pub take-2 : {r : Took} → r ≡ tookOf (takeCarrier (chosen_of x) n (drop frontSize s)) → r ≡ tookOf (take_of s)
+    pub take-2 : {r : Took} → r ≡ took_of (take_carrier (chosen_of x) n (drop front_size s)) → r ≡ took_of (take_of s)
     unfolding take_of
     take-2 i = rw (said-head (head_of s) e) i

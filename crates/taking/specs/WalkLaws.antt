@@ -1,4 +1,4 @@
--- The records that `recordsFrom` finds in what is left of a sheet, by the places of `spot_of`. Assumes nothing.
+-- The records that `records_from` finds in what is left of a sheet, by the places of `spot_of`. Assumes nothing.
 use Rattle.std.specs.Prelude.{◌≡◌, Bool, ltb, take, drop}
 use Rattle.std.proofs.Math.Path.{refl, ap}
 use Rattle.std.proofs.Common.{sym, ◌∙◌}
@@ -6,8 +6,8 @@ use Rattle.std.proofs.Math.Bool.{true, false, cond}
 use mathlib.Core.List.{List, [], ◌∷◌}
 use Prim.Native.Nat.{ℕ, suc, ◌+◌, ◌-◌, ◌*◌, ◌≤◌, ◌<◌}
 use native.Mathlib.Omega.{arith}
-use borrow.Author.Tests.{lt-ltb, le-ltb, ltb-false, le-leb, lt-leb, leb-true, eq-eqb, ne_eqb}
-use Rattle.std.proofs.Math.Dec.{leb, eqb}
+use borrow.Author.Tests.{lt-ltb, le-ltb, ltb-false, le-leb, lt-leb, leb-true, eq-eq, ne_eqb}
+use Rattle.std.proofs.Math.Dec.{leb, eq}
 use Rattle.std.proofs.Math.ListN.{length, get_or, length-drop}
 use Rattle.std.proofs.Math.Seq.{drop-drop}
 use Rattle.octets.specs.Cases.{by_less}
@@ -15,13 +15,13 @@ use Rattle.octets.specs.Numbers.{val, at16, at32, number_at}
 use Rattle.octets.specs.NumbersLaws.{number-8, number-16, number-32}
 use Rattle.octets.specs.Fields.{part, number, counted}
 use Rattle.carriers.specs.declared.Carrier.{Carrier}
-use Rattle.carriers.specs.Carriers.{addressWidth}
-use Rattle.blocks.specs.Block.{Fields, nameOnly, whole}
-use Rattle.records.specs.Records.{headSize, lifetimeAt, modeAt, nameLengthAt}
+use Rattle.carriers.specs.Carriers.{address_width}
+use Rattle.blocks.specs.Block.{Fields, name_only, whole}
+use Rattle.records.specs.Records.{head_size, lifetime_at, mode_at, name_length_at}
 use Rattle.taking.specs.declared.Spot.{Spot}
-use Rattle.taking.specs.Taking.{Records, none, records, onto, misplaced, fullFields, oneRecord, recordsFrom}
+use Rattle.taking.specs.Taking.{Records, none, records, onto, misplaced, full_fields, one_record, records_from}
 use Rattle.taking.specs.Took.{some}
-use Rattle.taking.specs.Spot.{nowhere, named_at, withParts, parametersAt, addressesAt, fullAt, byMode, spot_of, fields_at}
+use Rattle.taking.specs.Spot.{nowhere, named_at, with_parts, parameters_at, addresses_at, full_at, by_mode, spot_of, fields_at}
 use Rattle.taking.specs.SpotLaws.{by-full}
 
 -- ---- fields of what is left of s from an index on
@@ -67,8 +67,8 @@ module _ {R : Type 0} (stop : R) where
 -- ---- one record
 
 -- what a record at p means for what is read: none, or its fields and what is left after it
-abbrev onSpot : List ℕ → Spot → (Fields → List ℕ → Records) → Records
-onSpot s p next = cond p.good (next (fields_at s p) (drop p.next s)) none
+abbrev on_spot : List ℕ → Spot → (Fields → List ℕ → Records) → Records
+on_spot s p next = cond p.good (next (fields_at s p) (drop p.next s)) none
 
 module _ (s : List ℕ) (p : Spot) (next : Fields → List ℕ → Records) where
   -- the fields, once addresses and parameters are known
@@ -77,39 +77,39 @@ module _ (s : List ℕ) (p : Spot) (next : Fields → List ℕ → Records) wher
 
   parameters-at : (a n b : ℕ) → b ≤ length s
       → counted none 2 (drop b s) (made (take n (drop a s)))
-      ≡ onSpot s (cond (ltb (length s - b) 2) nowhere (parametersAt s p a n (b + 2) (at16 s b))) next
+      ≡ on_spot s (cond (ltb (length s - b) 2) nowhere (parameters_at s p a n (b + 2) (at16 s b))) next
   unfolding counted
   parameters-at a n b h =
       let m : ℕ = at16 s b in
       let last : List ℕ → List ℕ → Records = made (take n (drop a s)) in
       let measured : ℕ → List ℕ → Records = λ m l. part none m l last in
-      let Is : Spot → Type 0 = λ r. number none 2 (drop b s) measured ≡ onSpot s r next in
-      by_less Is (length s - b) 2 nowhere (parametersAt s p a n (b + 2) m) (λ k. number_past none s b h 2 measured k) (λ k.
+      let Is : Spot → Type 0 = λ r. number none 2 (drop b s) measured ≡ on_spot s r next in
+      by_less Is (length s - b) 2 nowhere (parameters_at s p a n (b + 2) m) (λ k. number_past none s b h 2 measured k) (λ k.
       let read : number none 2 (drop b s) measured ≡ part none m (drop (b + 2) s) last =
       number-at none s b h 2 m (b + 2) measured (number-16 s b (omega arith)) refl k in
       let inside : b + 2 ≤ length s = omega arith in
-      by_less Is (length s - (b + 2)) m nowhere (withParts p a n (b + 2) m)
+      by_less Is (length s - (b + 2)) m nowhere (with_parts p a n (b + 2) m)
       (λ j. read ∙ part-past none s (b + 2) inside m last j)
       (λ j. read ∙ part_at none s (b + 2) inside m (b + 2 + m) last refl j))
 
   addresses-at : (a n : ℕ) → a ≤ length s
-      → part none n (drop a s) (λ addresses l. counted none 2 l (made addresses)) ≡ onSpot s (addressesAt s p a n) next
+      → part none n (drop a s) (λ addresses l. counted none 2 l (made addresses)) ≡ on_spot s (addresses_at s p a n) next
   addresses-at a n h =
       let last : List ℕ → List ℕ → Records = λ addresses l. counted none 2 l (made addresses) in
-      let Is : Spot → Type 0 = λ r. part none n (drop a s) last ≡ onSpot s r next in
-      by_less Is (length s - a) n nowhere (cond (ltb (length s - (a + n)) 2) nowhere (parametersAt s p a n (a + n + 2) (at16 s (a + n))))
+      let Is : Spot → Type 0 = λ r. part none n (drop a s) last ≡ on_spot s r next in
+      by_less Is (length s - a) n nowhere (cond (ltb (length s - (a + n)) 2) nowhere (parameters_at s p a n (a + n + 2) (at16 s (a + n))))
       (λ k. part-past none s a h n last k)
       (λ k. part_at none s a h n (a + n) last refl k ∙ parameters-at a n (a + n) (omega arith))
 
-  full_at : (c : Carrier) → p.next ≤ length s
-      → fullFields c p.priority p.lifetime (take p.nlen (drop p.name s)) (drop p.next s) next ≡ onSpot s (fullAt c s p) next
-  unfolding fullAt
-  full_at c h =
+  full_at_lem : (c : Carrier) → p.next ≤ length s
+      → full_fields c p.priority p.lifetime (take p.nlen (drop p.name s)) (drop p.next s) next ≡ on_spot s (full_at c s p) next
+  unfolding full_at
+  full_at_lem c h =
       let t : ℕ = p.next in
-      let n : ℕ = get_or s t 0 * addressWidth c in
-      let counts : ℕ → List ℕ → Records = λ count l. part none (count * addressWidth c) l (λ addresses l. counted none 2 l (made addresses)) in
-      let Is : Spot → Type 0 = λ r. number none 1 (drop t s) counts ≡ onSpot s r next in
-      by_less Is (length s - t) 1 nowhere (addressesAt s p (t + 1) n)
+      let n : ℕ = get_or s t 0 * address_width c in
+      let counts : ℕ → List ℕ → Records = λ count l. part none (count * address_width c) l (λ addresses l. counted none 2 l (made addresses)) in
+      let Is : Spot → Type 0 = λ r. number none 1 (drop t s) counts ≡ on_spot s r next in
+      by_less Is (length s - t) 1 nowhere (addresses_at s p (t + 1) n)
       (λ k. number_past none s t h 1 counts k)
       (λ k. number-at none s t h 1 (get_or s t 0) (t + 1) counts (number-8 s t (omega arith)) refl k ∙ addresses-at (t + 1) n (omega arith))
 
@@ -126,19 +126,19 @@ tested-none c least priority lifetime = go (ltb priority least) (misplaced c lif
     go false false = refl
 
 -- the record at p, tested
-abbrev pub onRecord : Carrier → ℕ → List ℕ → Spot → (Fields → List ℕ → Records) → Records
-onRecord c least s p next = cond p.good (tested c least p.priority p.lifetime (next (fields_at s p) (drop p.next s))) none
+abbrev pub on_record : Carrier → ℕ → List ℕ → Spot → (Fields → List ℕ → Records) → Records
+on_record c least s p next = cond p.good (tested c least p.priority p.lifetime (next (fields_at s p) (drop p.next s))) none
 
 module _ (c : Carrier) (least : ℕ) (next : Fields → List ℕ → Records) where
-  -- what `oneRecord` does once the name is read
-  abbrev pub afterName : ℕ → ℕ → ℕ → List ℕ → List ℕ → Records
-  afterName priority lifetime mode name l =
+  -- what `one_record` does once the name is read
+  abbrev pub after_name : ℕ → ℕ → ℕ → List ℕ → List ℕ → Records
+  after_name priority lifetime mode name l =
       tested c least priority lifetime
-      (cond (eqb mode 0) (next (nameOnly priority lifetime name) l)
-      (cond (eqb mode 1) (fullFields c priority lifetime name l next) none))
+      (cond (eq mode 0) (next (name_only priority lifetime name) l)
+      (cond (eq mode 1) (full_fields c priority lifetime name l next) none))
 
   -- fewer than 8 octets are no record
-  one-short : (l : List ℕ) → length l < headSize → oneRecord c least l next ≡ none
+  one-short : (l : List ℕ) → length l < head_size → one_record c least l next ≡ none
   unfolding counted
   one-short l h =
       number-then-short none 2 l _ (λ priority l1 e1.
@@ -146,76 +146,76 @@ module _ (c : Carrier) (least : ℕ) (next : Fields → List ℕ → Records) wh
       number-then-short none 1 l2 _ (λ mode l3 e3.
       number_short none 1 l3 _ (omega arith))))
 
-  module _ (s : List ℕ) (at : ℕ) (inside : at ≤ length s) (eight : headSize ≤ length s - at) where
+  module _ (s : List ℕ) (at : ℕ) (inside : at ≤ length s) (eight : head_size ≤ length s - at) where
     -- the eight octets before the name
-    head_at : oneRecord c least (drop at s) next
-        ≡ part none (get_or s (at + nameLengthAt) 0) (drop (at + headSize) s) (afterName (at16 s at) (at32 s (at + lifetimeAt)) (get_or s (at + modeAt) 0))
+    head_at : one_record c least (drop at s) next
+        ≡ part none (get_or s (at + name_length_at) 0) (drop (at + head_size) s) (after_name (at16 s at) (at32 s (at + lifetime_at)) (get_or s (at + mode_at) 0))
     unfolding counted
     head_at =
         let p : ℕ = at16 s at in
-        let t : ℕ = at32 s (at + lifetimeAt) in
-        let m : ℕ = get_or s (at + modeAt) 0 in
-        let n : ℕ = get_or s (at + nameLengthAt) 0 in
-        number-at none s at inside 2 p (at + lifetimeAt) _ (number-16 s at (omega arith)) refl (omega arith)
-        ∙ number-at none s (at + lifetimeAt) (omega arith) 4 t (at + modeAt) _ (number-32 s (at + lifetimeAt) (omega arith)) (omega arith) (omega arith)
-        ∙ number-at none s (at + modeAt) (omega arith) 1 m (at + nameLengthAt) _ (number-8 s (at + modeAt) (omega arith)) (omega arith) (omega arith)
-        ∙ number-at none s (at + nameLengthAt) (omega arith) 1 n (at + headSize) _ (number-8 s (at + nameLengthAt) (omega arith)) (omega arith) (omega arith)
+        let t : ℕ = at32 s (at + lifetime_at) in
+        let m : ℕ = get_or s (at + mode_at) 0 in
+        let n : ℕ = get_or s (at + name_length_at) 0 in
+        number-at none s at inside 2 p (at + lifetime_at) _ (number-16 s at (omega arith)) refl (omega arith)
+        ∙ number-at none s (at + lifetime_at) (omega arith) 4 t (at + mode_at) _ (number-32 s (at + lifetime_at) (omega arith)) (omega arith) (omega arith)
+        ∙ number-at none s (at + mode_at) (omega arith) 1 m (at + name_length_at) _ (number-8 s (at + mode_at) (omega arith)) (omega arith) (omega arith)
+        ∙ number-at none s (at + name_length_at) (omega arith) 1 n (at + head_size) _ (number-8 s (at + name_length_at) (omega arith)) (omega arith) (omega arith)
 
-    name-at : get_or s (at + nameLengthAt) 0 ≤ length s - at - headSize
-        → afterName (at16 s at) (at32 s (at + lifetimeAt)) (get_or s (at + modeAt) 0) (take (get_or s (at + nameLengthAt) 0) (drop (at + headSize) s)) (drop (at + headSize + get_or s (at + nameLengthAt) 0) s)
-        ≡ onRecord c least s (byMode c s (get_or s (at + modeAt) 0) (named_at s at (get_or s (at + nameLengthAt) 0))) next
-    name-at h = go (eqb (get_or s (at + modeAt) 0) 0) (eqb (get_or s (at + modeAt) 0) 1)
+    name-at : get_or s (at + name_length_at) 0 ≤ length s - at - head_size
+        → after_name (at16 s at) (at32 s (at + lifetime_at)) (get_or s (at + mode_at) 0) (take (get_or s (at + name_length_at) 0) (drop (at + head_size) s)) (drop (at + head_size + get_or s (at + name_length_at) 0) s)
+        ≡ on_record c least s (by_mode c s (get_or s (at + mode_at) 0) (named_at s at (get_or s (at + name_length_at) 0))) next
+    name-at h = go (eq (get_or s (at + mode_at) 0) 0) (eq (get_or s (at + mode_at) 0) 1)
       where
         n : ℕ
-        n = get_or s (at + nameLengthAt) 0
+        n = get_or s (at + name_length_at) 0
 
         p : Spot
         p = named_at s at n
 
         full : Spot
-        full = fullAt c s p
+        full = full_at c s p
 
         Is : Spot → Type 0
-        Is r = tested c least p.priority p.lifetime (onSpot s r next) ≡ onRecord c least s r next
+        Is r = tested c least p.priority p.lifetime (on_spot s r next) ≡ on_record c least s r next
 
         go : (z o : Bool) → tested c least p.priority p.lifetime
             (cond z (next (fields_at s p) (drop p.next s))
-            (cond o (fullFields c p.priority p.lifetime (take n (drop (at + headSize) s)) (drop p.next s) next) none))
-            ≡ onRecord c least s (cond z p (cond o full nowhere)) next
+            (cond o (full_fields c p.priority p.lifetime (take n (drop (at + head_size) s)) (drop p.next s) next) none))
+            ≡ on_record c least s (cond z p (cond o full nowhere)) next
         go true o = refl
         go false true =
             let inside : p.next ≤ length s = omega arith in
-            ap (tested c least p.priority p.lifetime) (full_at s p next c inside)
+            ap (tested c least p.priority p.lifetime) (full_at_lem s p next c inside)
             ∙ by-full Is (tested-none c least p.priority p.lifetime) c s p (λ a n q m _ _ _ _ _. refl) inside
         go false false = tested-none c least p.priority p.lifetime
 
   -- the record at an index of s, by its spot
-  pub one_at : (s : List ℕ) (at : ℕ) → at ≤ length s → oneRecord c least (drop at s) next ≡ onRecord c least s (spot_of c s at) next
+  pub one_at : (s : List ℕ) (at : ℕ) → at ≤ length s → one_record c least (drop at s) next ≡ on_record c least s (spot_of c s at) next
   unfolding spot_of
   one_at s at h =
-      let n : ℕ = get_or s (at + nameLengthAt) 0 in
-      let mode : ℕ = get_or s (at + modeAt) 0 in
+      let n : ℕ = get_or s (at + name_length_at) 0 in
+      let mode : ℕ = get_or s (at + mode_at) 0 in
       let p : Spot = named_at s at n in
-      let after : List ℕ → List ℕ → Records = afterName (at16 s at) (at32 s (at + lifetimeAt)) mode in
-      let Is : Spot → Type 0 = λ r. oneRecord c least (drop at s) next ≡ onRecord c least s r next in
-      by_less Is (length s - at) headSize nowhere (cond (ltb (length s - at - headSize) n) nowhere (byMode c s mode p))
+      let after : List ℕ → List ℕ → Records = after_name (at16 s at) (at32 s (at + lifetime_at)) mode in
+      let Is : Spot → Type 0 = λ r. one_record c least (drop at s) next ≡ on_record c least s r next in
+      by_less Is (length s - at) head_size nowhere (cond (ltb (length s - at - head_size) n) nowhere (by_mode c s mode p))
       (λ k. one-short (drop at s) (rw (length-drop at s) k)) (λ k.
       let head = head_at s at h k in
-      let inside : at + headSize ≤ length s = omega arith in
-      by_less Is (length s - at - headSize) n nowhere (byMode c s mode p)
-      (λ j. head ∙ part-past none s (at + headSize) inside n after (omega arith))
-      (λ j. head ∙ part_at none s (at + headSize) inside n (at + headSize + n) after refl (omega arith) ∙ name-at s at h k j))
+      let inside : at + head_size ≤ length s = omega arith in
+      by_less Is (length s - at - head_size) n nowhere (by_mode c s mode p)
+      (λ j. head ∙ part-past none s (at + head_size) inside n after (omega arith))
+      (λ j. head ∙ part_at none s (at + head_size) inside n (at + head_size + n) after refl (omega arith) ∙ name-at s at h k j))
 
 -- so many records: the one at an index and those after it
 pub records-at : (c : Carrier) (n least : ℕ) (s : List ℕ) (at : ℕ) → at ≤ length s
-    → recordsFrom c (suc n) least (drop at s) ≡ onRecord c least s (spot_of c s at) (λ r l. onto r (recordsFrom c n r.priority l))
-unfolding recordsFrom
-records-at c n least s at h = one_at c least (λ r l. onto r (recordsFrom c n r.priority l)) s at h
+    → records_from c (suc n) least (drop at s) ≡ on_record c least s (spot_of c s at) (λ r l. onto r (records_from c n r.priority l))
+unfolding records_from
+records-at c n least s at h = one_at c least (λ r l. onto r (records_from c n r.priority l)) s at h
 
 -- what holds of none, and of what follows a record that passes the tests, holds
 pub by-record : (P : Records → Type 0) (c : Carrier) (least : ℕ) (s : List ℕ) (p : Spot) (next : Fields → List ℕ → Records) → P none
     → (p.good ≡ true → least ≤ p.priority → misplaced c p.lifetime ≡ false → P (next (fields_at s p) (drop p.next s)))
-    → P (onRecord c least s p next)
+    → P (on_record c least s p next)
 by-record P c least s p next h k = go p.good (ltb p.priority least) (misplaced c p.lifetime) refl refl refl
   where
     found : Records
@@ -233,14 +233,14 @@ some-onto : (r : Fields) (x : Records) → some (onto r x) ≡ some x
 some-onto r none = refl
 some-onto r (records rs) = refl
 
-module _ (c : Carrier) (s : List ℕ) (at least left : ℕ) {W : Bool} (inside : at ≤ length s) (is : some (recordsFrom c left least (drop at s)) ≡ W) where
-  stand-turn : 0 < left → some (onRecord c least s (spot_of c s at) (λ r l. onto r (recordsFrom c (left - 1) r.priority l))) ≡ W
+module _ (c : Carrier) (s : List ℕ) (at least left : ℕ) {W : Bool} (inside : at ≤ length s) (is : some (records_from c left least (drop at s)) ≡ W) where
+  stand-turn : 0 < left → some (on_record c least s (spot_of c s at) (λ r l. onto r (records_from c (left - 1) r.priority l))) ≡ W
   stand-turn h =
       let e : left ≡ suc (left - 1) = omega arith in
-      sym (ap some (ap (λ (n : ℕ). recordsFrom c n least (drop at s)) e ∙ records-at c (left - 1) least s at inside)) ∙ is
+      sym (ap some (ap (λ (n : ℕ). records_from c n least (drop at s)) e ∙ records-at c (left - 1) least s at inside)) ∙ is
 
   module _ (h : 0 < left) {p : Spot} (e : p ≡ spot_of c s at) where
-    stand-seen : some (onRecord c least s p (λ r l. onto r (recordsFrom c (left - 1) r.priority l))) ≡ W
+    stand-seen : some (on_record c least s p (λ r l. onto r (records_from c (left - 1) r.priority l))) ≡ W
     stand-seen = rw e (stand-turn h)
 
     pub stand-1 : p.good ≡ false → false ≡ W
@@ -254,15 +254,15 @@ module _ (c : Carrier) (s : List ℕ) (at least left : ℕ) {W : Bool} (inside :
         pub stand-3 : misplaced c p.lifetime ≡ true → false ≡ W
         stand-3 m = rw (g, le-ltb p.priority least k, m) at stand-seen
 
-        pub stand-4 : misplaced c p.lifetime ≡ false → some (recordsFrom c (left - 1) p.priority (drop p.next s)) ≡ W
-        stand-4 m = sym (some-onto (fields_at s p) (recordsFrom c (left - 1) p.priority (drop p.next s))) ∙ rw (g, le-ltb p.priority least k, m) at stand-seen
+        pub stand-4 : misplaced c p.lifetime ≡ false → some (records_from c (left - 1) p.priority (drop p.next s)) ≡ W
+        stand-4 m = sym (some-onto (fields_at s p) (records_from c (left - 1) p.priority (drop p.next s))) ∙ rw (g, le-ltb p.priority least k, m) at stand-seen
 
-  pub stand-5 : left ≤ 0 → eqb at (length s) ≡ W
-  unfolding recordsFrom
+  pub stand-5 : left ≤ 0 → eq at (length s) ≡ W
+  unfolding records_from
   stand-5 h =
       let z : left ≡ 0 = omega arith in
       go (drop at s) (length-drop at s) ∙ rw z at is
     where
-      go : (l : List ℕ) → length l ≡ length s - at → eqb at (length s) ≡ some (recordsFrom c 0 least l)
-      go [] e = eq-eqb at (length s) (omega arith)
+      go : (l : List ℕ) → length l ≡ length s - at → eq at (length s) ≡ some (records_from c 0 least l)
+      go [] e = eq-eq at (length s) (omega arith)
       go (x ∷ xs) e = ne_eqb at (length s) (λ i. omega arith)

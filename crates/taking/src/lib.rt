@@ -5,12 +5,12 @@
 // Here stand only the sheet's form, its order and its lifetimes: names, addresses and parameters are not looked at.
 ghost use Rattle.std.specs.Prelude.{◌≡◌, ◌+◌, ◌≤◌, ◌<◌, length, drop};
 ghost use Rattle.carriers.specs.Carriers.{chosen_of};
-ghost use Rattle.records.specs.Records.{headSize};
-ghost use Rattle.sheets.specs.Sheets.{frontSize};
-ghost use Rattle.taking.specs.Taking.{head_of, recordsFrom, takeRecords, takeCarrier, take_of};
+ghost use Rattle.records.specs.Records.{head_size};
+ghost use Rattle.sheets.specs.Sheets.{front_size};
+ghost use Rattle.taking.specs.Taking.{head_of, records_from, take_records, take_carrier, take_of};
 ghost use Rattle.taking.specs.Taking as taking;
-ghost use Rattle.taking.specs.Took.{said_of, tookOf, some};
-ghost use Rattle.taking.specs.Spot.{named_at, fullAt, spot_of, Inside, Sized};
+ghost use Rattle.taking.specs.Took.{said_of, took_of, some};
+ghost use Rattle.taking.specs.Spot.{named_at, full_at, spot_of, Inside, Sized};
 ghost use Rattle.taking.specs.Spot as spot;
 
 use carriers::{Carrier, Chosen};
@@ -73,7 +73,7 @@ fn nowhere() -> Spot
 
 // The record at `at` as far as its name of `nlen` octets.
 fn named_at(s: &[u8], at: usize, nlen: usize) -> Spot
-    requires { at + headSize + nlen ≤ length s.now }
+    requires { at + head_size + nlen ≤ length s.now }
     ensures { result ≡ named_at s.now at nlen }
 {
     let name = at + records::HEAD;
@@ -96,7 +96,7 @@ fn named_at(s: &[u8], at: usize, nlen: usize) -> Spot
 // The record `p` with what mode 1 adds after its name.
 fn full_at(c: Carrier, s: &[u8], p: Spot) -> Spot
     requires { p.next ≤ length s.now }
-    ensures { result ≡ fullAt c s.now p }
+    ensures { result ≡ full_at c s.now p }
 {
     let size = s.len();
     let tail = p.next;
@@ -170,8 +170,8 @@ fn misplaced(c: Carrier, lifetime: usize) -> bool
 
 // Whether exactly `count` records follow the head of `s`, by rising priority and with no lifetime where none belongs.
 fn stand(c: Carrier, s: &[u8], count: usize) -> bool
-    requires { frontSize ≤ length s.now }
-    ensures { result ≡ some (recordsFrom c count 0 (drop frontSize s.now)) }
+    requires { front_size ≤ length s.now }
+    ensures { result ≡ some (records_from c count 0 (drop front_size s.now)) }
 {
     let mut at = sheets::FRONT;
     let mut least: usize = 0;
@@ -219,8 +219,8 @@ fn head(s: &[u8]) -> Said
 
 // The tests 4 and 43 on what follows the head of a sheet of carrier `c`.
 fn take_records(c: Carrier, s: &[u8], count: usize) -> Took
-    requires { frontSize ≤ length s.now }
-    ensures { result ≡ tookOf (takeRecords c count (drop frontSize s.now)) }
+    requires { front_size ≤ length s.now }
+    ensures { result ≡ took_of (take_records c count (drop front_size s.now)) }
 {
     if Limit::RECORDS < count {
         return Took::Refused(Refusal::RECORDS);
@@ -233,8 +233,8 @@ fn take_records(c: Carrier, s: &[u8], count: usize) -> Took
 
 // The test 42, then 4 and 43.
 fn take_carrier(carrier: usize, s: &[u8], count: usize) -> Took
-    requires { frontSize ≤ length s.now }
-    ensures { result ≡ tookOf (takeCarrier (chosen_of carrier) count (drop frontSize s.now)) }
+    requires { front_size ≤ length s.now }
+    ensures { result ≡ took_of (take_carrier (chosen_of carrier) count (drop front_size s.now)) }
 {
     let chosen = Carrier::of(carrier);
     let Chosen::Known(c) = chosen else {
@@ -245,7 +245,7 @@ fn take_carrier(carrier: usize, s: &[u8], count: usize) -> Took
 
 // The tests 2, 40, 41, 42, 4, 43.
 pub fn take(s: &[u8]) -> Took
-    ensures { result ≡ tookOf (take_of s.now) }
+    ensures { result ≡ took_of (take_of s.now) }
 {
     match head(s) {
         Said::Unfit(k) => Took::Refused(k),

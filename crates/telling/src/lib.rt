@@ -4,9 +4,9 @@
 ghost use Rattle.std.specs.Prelude.{◌≡◌, false, ◌+◌, ◌≤◌, length};
 ghost use Rattle.numbers.specs.Limit as limit;
 ghost use Rattle.carriers.specs.declared.Carrier.TheVariants.{Dhcp4};
-ghost use Rattle.carriers.specs.Carriers.{isJoined};
+ghost use Rattle.carriers.specs.Carriers.{is_joined};
 ghost use Rattle.frames.specs.Frame.{frame};
-ghost use Rattle.telling.specs.Discarded.{discardsBody, discardsJoined, Counted, Some};
+ghost use Rattle.telling.specs.Discarded.{discards_body, discards_joined, Counted, Some};
 
 use blocks::Places;
 use carriers::Carrier;
@@ -102,7 +102,7 @@ fn tell_block(
     body: &[u8],
 ) -> usize
     requires { start + length body.now ≤ length area.now }
-    ensures { result ≡ discardsBody c body.now }
+    ensures { result ≡ discards_body c body.now }
 {
     let t = findings::examine(c, body);
     if t.fault != 0 {
@@ -115,7 +115,7 @@ fn tell_block(
 
 // Carriers 2 to 5: the blocks one after another. Returns how many are discarded.
 fn list_blocks(json: bool, name: &[u8], c: Carrier, area: &[u8]) -> usize
-    requires { isJoined c ≡ false }
+    requires { is_joined c ≡ false }
     ensures { Counted c (frame c area.now) result }
 {
     let mut at: usize = 0;
@@ -169,7 +169,7 @@ fn list_instances(json: bool, name: &[u8], area: &[u8], joined: &[u8])
 // Carrier 1: the one block of joined data. Returns 1 where it is discarded, else 0.
 fn tell_joined(json: bool, name: &[u8], area: &[u8], joined: &[u8]) -> usize
     requires { length joined.now ≤ length area.now }
-    ensures { result ≡ discardsJoined joined.now }
+    ensures { result ≡ discards_joined joined.now }
 {
     let t = findings::examine_joined(joined);
     if t.fault != 0 {

@@ -1,4 +1,4 @@
--- `textCheck` takes each text. Assumes nothing.
+-- `text_check` takes each text. Assumes nothing.
 use Rattle.std.specs.Prelude.{◌≡◌, refl, List, [], ◌∷◌, ◌++◌, true, false, ℕ, suc, ◌+◌, ◌-◌, ◌≤◌, length}
 use Rattle.std.proofs.Common.{sym, ap, ◌∙◌, inl, inr, append-nil, arith, length-append}
 use Rattle.names.specs.declared.Name.TheVariants.{Good}
@@ -8,7 +8,7 @@ use Rattle.names.specs.Complete.{hyphen-not-alnum, both, not_last}
 use Rattle.names.specs.Automaton.{Move, stop, walk}
 use Rattle.names.specs.AutomatonLaws.{goes, ends-good}
 use Rattle.texts.specs.Texts.{dotted, text, IsText}
-use Rattle.texts.specs.TextCheck.{State, start, letter, hyphen, step, after, inside, dot, textAutomaton, textCheck}
+use Rattle.texts.specs.TextCheck.{State, start, letter, hyphen, step, after, inside, dot, text_automaton, text_check}
 use Rattle.texts.specs.Laws.{start-letter, dot-goes, inside-letter, inside-hyphen, inside-other}
 
 dot-not-alnum : alnum 46 ≡ false
@@ -17,7 +17,7 @@ dot-not-alnum = refl
 
 -- the walk has passed the label's octets l, from where the label may have k octets more
 abbrev Passed : State → ℕ → ℕ → List ℕ → List ℕ → Type 0
-Passed st at k l t = walk textAutomaton st at (l ++ t) ≡ walk textAutomaton (letter (k - length l)) (at + length l) t
+Passed st at k l t = walk text_automaton st at (l ++ t) ≡ walk text_automaton (letter (k - length l)) (at + length l) t
 
 -- one octet of a label, not its first
 one-octet : (x at k : ℕ) (l t : List ℕ) (st : State) (other : Move State) → step st at x ≡ inside k x other → suc (length l) ≤ k
@@ -27,17 +27,17 @@ one-octet : (x at k : ℕ) (l t : List ℕ) (st : State) (other : Move State) �
     → Passed st at k (x ∷ l) t
 one-octet x at k l t st other s n o e f g = one o
   where
-    next : walk textAutomaton (letter (k - 1 - length l)) (at + 1 + length l) t ≡ walk textAutomaton (letter (k - suc (length l))) (at + suc (length l)) t
+    next : walk text_automaton (letter (k - 1 - length l)) (at + 1 + length l) t ≡ walk text_automaton (letter (k - suc (length l))) (at + suc (length l)) t
     next =
         let i : k - 1 - length l ≡ k - suc (length l) = omega arith in
         let j : at + 1 + length l ≡ at + suc (length l) = omega arith in
         cc
 
     one : Ldh x → Passed st at k (x ∷ l) t
-    one (inl a) = goes textAutomaton st at x (l ++ t) (s ∙ inside-letter k x other a (omega arith)) ∙ f a ∙ next
+    one (inl a) = goes text_automaton st at x (l ++ t) (s ∙ inside-letter k x other a (omega arith)) ∙ f a ∙ next
     one (inr q) =
         let p = not_last x l q e in
-        goes textAutomaton st at x (l ++ t) (s ∙ inside-hyphen k x other (hyphen-not-alnum x q) q (omega arith)) ∙ g q ∙ next
+        goes text_automaton st at x (l ++ t) (s ∙ inside-hyphen k x other (hyphen-not-alnum x q) q (omega arith)) ∙ g q ∙ next
 
 -- the rest of a label, from the state after y on, up to the label's end
 mutual
@@ -60,13 +60,13 @@ mutual
 
 -- a whole label from its first octet on
 one_label : (l : List ℕ) (at : ℕ) (t : List ℕ) → Label l → at + length l ≤ 253
-    → walk textAutomaton start at (l ++ t) ≡ walk textAutomaton (letter (after at - (length l - 1))) (at + length l) t
+    → walk text_automaton start at (l ++ t) ≡ walk text_automaton (letter (after at - (length l - 1))) (at + length l) t
 one_label [] at t o h = let s = o.some in absurd (omega arith)
 one_label (x ∷ l) at t o h =
     let s = o.short in
     let i : suc (length l) - 1 ≡ length l = omega arith in
     let j : at + 1 + length l ≡ at + suc (length l) = omega arith in
-    goes textAutomaton start at x (l ++ t) (start-letter at x o.begins)
+    goes text_automaton start at x (l ++ t) (start-letter at x o.begins)
     ∙ rest-letter l x (at + 1) (after at) t (omega arith) o.octets.1 o.ends
     ∙ rw (i, j)
 
@@ -75,23 +75,23 @@ dotted-some l [] o = o.some
 dotted-some l (m ∷ ms) o = let a = length-append l (46 ∷ dotted m ms) in omega arith
 
 dotted-good : (ms : List (List ℕ)) (l : List ℕ) (at : ℕ) → Label l → All Label ms → at + length (dotted l ms) ≤ 253
-    → walk textAutomaton start at (dotted l ms) ≡ Good
-dotted-good [] l at o p h = ap (walk textAutomaton start at) (sym (append-nil l)) ∙ one_label l at [] o h ∙ ends-good textAutomaton (letter _) _ refl
+    → walk text_automaton start at (dotted l ms) ≡ Good
+dotted-good [] l at o p h = ap (walk text_automaton start at) (sym (append-nil l)) ∙ one_label l at [] o h ∙ ends-good text_automaton (letter _) _ refl
 dotted-good (m ∷ ms) l at o p h =
     let a = length-append l (46 ∷ dotted m ms) in
     let b = dotted-some m ms p.0 in
     let j : ℕ = at + length l in
     let k : ℕ = after at - (length l - 1) in
     one_label l at (46 ∷ dotted m ms) o (omega arith)
-    ∙ goes textAutomaton (letter k) j 46 (dotted m ms) (inside-other k 46 (dot j 46) dot-not-alnum (λ q. omega arith) ∙ dot-goes j 46 refl (omega arith))
+    ∙ goes text_automaton (letter k) j 46 (dotted m ms) (inside-other k 46 (dot j 46) dot-not-alnum (λ q. omega arith) ∙ dot-goes j 46 refl (omega arith))
     ∙ dotted-good ms m (j + 1) p.0 p.1 (omega arith)
 
-text-good : (ls : List (List ℕ)) → 1 ≤ length ls → All Label ls → length (text ls) ≤ 253 → walk textAutomaton start 0 (text ls) ≡ Good
+text-good : (ls : List (List ℕ)) → 1 ≤ length ls → All Label ls → length (text ls) ≤ 253 → walk text_automaton start 0 (text ls) ≡ Good
 text-good [] n o h = absurd (omega arith)
 text-good (l ∷ ls) n o h = dotted-good ls l 0 o.0 o.1 (omega arith)
 
-pub good-complete : (s : List ℕ) → IsText s → textCheck s ≡ Good
-unfolding textCheck
+pub good-complete : (s : List ℕ) → IsText s → text_check s ≡ Good
+unfolding text_check
 good-complete s o =
     let h = o.short in
     let e = ap length o.is in

@@ -1,4 +1,4 @@
--- What `textCheck` takes is a text. Assumes nothing.
+-- What `text_check` takes is a text. Assumes nothing.
 use Rattle.std.specs.Prelude.{◌≡◌, refl, List, [], ◌∷◌, true, ℕ, ◌+◌, ◌-◌, ◌≤◌, length}
 use Rattle.std.proofs.Common.{ap, ◌∙◌, inl, inr, arith}
 use Rattle.names.specs.declared.Name.TheVariants.{Good}
@@ -7,7 +7,7 @@ use Rattle.names.specs.Names.{alnum, last, Ldh, Label}
 use Rattle.texts.specs.Texts.{dotted, IsText}
 use Rattle.names.specs.Automaton.{Move, stop}
 use Rattle.names.specs.AutomatonLaws.{After, taken}
-use Rattle.texts.specs.TextCheck.{State, start, letter, hyphen, step, ended, after, inside, dot, textAutomaton, textCheck}
+use Rattle.texts.specs.TextCheck.{State, start, letter, hyphen, step, ended, after, inside, dot, text_automaton, text_check}
 use Rattle.texts.specs.Cases.{by-start, by-dot, by-inside}
 
 -- xs are the octets from the place `at` on: at most k to the end of the label that y is in, and the labels after it
@@ -100,7 +100,7 @@ opens x at xs a r =
 
 -- what holds of each step
 abbrev Stepped : State → ℕ → ℕ → ℕ → List ℕ → Move State → Type 0
-Stepped = After textAutomaton Valid Claim
+Stepped = After text_automaton Valid Claim
 
 inside-stepped : (st : State) (k x y at : ℕ) (xs : List ℕ) (other : Move State) → at + k ≤ 253 → (Rest y k at (x ∷ xs) → Claim st y at (x ∷ xs))
     → Stepped st y at x xs other → Stepped st y at x xs (inside k x other)
@@ -111,22 +111,22 @@ inside-stepped st k x y at xs other h c o =
     o
     tt
 
-pub stepped : (st : State) (y at x : ℕ) (xs : List ℕ) → Valid st y at → After textAutomaton Valid Claim st y at x xs (step st at x)
+pub stepped : (st : State) (y at x : ℕ) (xs : List ℕ) → Valid st y at → After text_automaton Valid Claim st y at x xs (step st at x)
 stepped start y at x xs v = by-start at x (Stepped start y at x xs) (λ a. ((a, omega arith), λ r. opens x at xs a r)) tt
 stepped (letter k) y at x xs v =
     inside-stepped (letter k) k x y at xs (dot at x) v.1 (λ r. r)
     (by-dot at x (Stepped (letter k) y at x xs) (λ q l. (omega arith, λ r. dots x y k at xs v.0 q r)) tt)
 stepped (hyphen k) y at x xs v = inside-stepped (hyphen k) k x y at xs stop v.1 (λ r. r) tt
 
-at-end : (st : State) (y at : ℕ) → Valid st y at → ended st ≡ true → Claim st y at []
-at-end start y at v e = let z : ◌≡◌ {A = ℕ} 0 1 = cc in absurd (omega arith)
-at-end (letter k) y at v e = ending y k at v.0 (omega arith)
-at-end (hyphen k) y at v e = let z : ◌≡◌ {A = ℕ} 0 1 = cc in absurd (omega arith)
+at_end : (st : State) (y at : ℕ) → Valid st y at → ended st ≡ true → Claim st y at []
+at_end start y at v e = let z : ◌≡◌ {A = ℕ} 0 1 = cc in absurd (omega arith)
+at_end (letter k) y at v e = ending y k at v.0 (omega arith)
+at_end (hyphen k) y at v e = let z : ◌≡◌ {A = ℕ} 0 1 = cc in absurd (omega arith)
 
-pub good-sound : (s : List ℕ) → textCheck s ≡ Good → IsText s
-unfolding textCheck
+pub good-sound : (s : List ℕ) → text_check s ≡ Good → IsText s
+unfolding text_check
 good-sound s e =
-    let r : Labels 0 s = taken textAutomaton Valid Claim stepped at-end s start 0 0 (omega arith) e in
+    let r : Labels 0 s = taken text_automaton Valid Claim stepped at_end s start 0 0 (omega arith) e in
     let h = r.short in
     record {
       labels = r.label ∷ r.labels;

@@ -5,8 +5,8 @@
 ghost use Rattle.std.specs.Prelude.{◌≡◌, ◌+◌, ◌-◌, ◌≤◌, length};
 ghost use Rattle.octets.specs.Over.{Wrote};
 ghost use Rattle.names.specs.Answered.{answer_in};
-ghost use Rattle.texts.specs.Texts.{wireOf, text_of};
-ghost use Rattle.texts.specs.TextCheck.{textCheck, textAutomaton, letter, hyphen, after};
+ghost use Rattle.texts.specs.Texts.{wire_of, text_of};
+ghost use Rattle.texts.specs.TextCheck.{text_check, text_automaton, letter, hyphen, after};
 ghost use Rattle.texts.specs.Right.{Right};
 
 use names::{GOOD, Name};
@@ -29,7 +29,7 @@ fn left_after(at: usize) -> usize
 #[cycle(after_hyphen_after_letter)]
 fn after_letter(text: &&[u8], n: usize, left: usize, label: usize) -> usize
     requires { (n ≤ 254) × (n ≤ length text.now.now) × (left ≤ n) }
-    ensures { result ≡ answer_in textAutomaton text.now.now n (letter label) left }
+    ensures { result ≡ answer_in text_automaton text.now.now n (letter label) left }
 {
     if left == 0 {
         return GOOD;
@@ -69,7 +69,7 @@ fn after_letter(text: &&[u8], n: usize, left: usize, label: usize) -> usize
 #[cycle(after_hyphen_after_letter)]
 fn after_hyphen(text: &&[u8], n: usize, left: usize, label: usize) -> usize
     requires { (n ≤ 254) × (n ≤ length text.now.now) × (left ≤ n) × (1 ≤ label) }
-    ensures { result ≡ answer_in textAutomaton text.now.now n (hyphen label) left }
+    ensures { result ≡ answer_in text_automaton text.now.now n (hyphen label) left }
 {
     if left == 0 {
         return n;
@@ -91,7 +91,7 @@ fn after_hyphen(text: &&[u8], n: usize, left: usize, label: usize) -> usize
 
 // Whether s is a name as text, filling s exactly, and the first bad place if it is not.
 pub fn check_text(s: &[u8]) -> Name
-    ensures value { result ≡ textCheck s.now }
+    ensures value { result ≡ text_check s.now }
     ensures right { Right s.now result }
 {
     if s.len() == 0 {
@@ -110,7 +110,7 @@ pub fn check_text(s: &[u8]) -> Name
 // label is known where its length octet stands.
 pub fn to_wire(out: &mut [u8], at: usize, text: &[u8]) -> usize
     requires { (at + length text.now + 2 ≤ length out.old) × (length text.now ≤ 253) }
-    ensures { Wrote at (wireOf text.now) out.old result out.new }
+    ensures { Wrote at (wire_of text.now) out.old result out.new }
 {
     let n = text.len();
     let first = at + 1;

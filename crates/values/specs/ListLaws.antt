@@ -1,5 +1,5 @@
 -- The laws of a list that a loop writes item by item: what is written, what is left, and what stands before the next item. Assumes nothing.
-use Rattle.std.specs.Prelude.{◌≡◌, refl, Bool, true, false, List, [], ◌∷◌, ◌++◌, map, ℕ, ◌<◌, min, eqb, length}
+use Rattle.std.specs.Prelude.{◌≡◌, refl, Bool, true, false, List, [], ◌∷◌, ◌++◌, map, ℕ, ◌<◌, min, eq, length}
 use Rattle.std.proofs.Common.{sym, ap, ◌∙◌, append_assoc, append-nil, arith, ne_eqb}
 use Rattle.std.proofs.lemmas.List.{map-append}
 use Rattle.octets.specs.Lists.{flat}
@@ -7,7 +7,7 @@ use Rattle.octets.specs.ListsLaws.{flat_map_append}
 use Rattle.ips.specs.Ips.{led}
 use Rattle.chars.specs.Puts.{Puts}
 use Rattle.chars.specs.PutsLaws.{puts_none, puts_then, puts-as}
-use Rattle.values.specs.Values.{comma, list_of, beforeOf}
+use Rattle.values.specs.Values.{comma, list_of, before_of}
 
 -- ---- one item more
 
@@ -21,7 +21,7 @@ led-more [] x = ap (λ (l : List ℕ). comma ∷ l) (sym (append-nil x))
 led-more (y ∷ xs) x = ap (λ (l : List ℕ). comma ∷ l) (append_assoc y (led comma xs) (comma ∷ x) ∙ ap (λ (l : List ℕ). y ++ l) (led-more xs x))
 
 list-more : {A : Type 0} (text : A → List ℕ) (commas : Bool) (xs : List A) (x : A)
-    → list_of commas (map text xs) ++ (beforeOf commas (opens xs) ++ text x) ≡ list_of commas (map text (xs ++ (x ∷ [])))
+    → list_of commas (map text xs) ++ (before_of commas (opens xs) ++ text x) ≡ list_of commas (map text (xs ++ (x ∷ [])))
 list-more text true [] x = sym (append-nil (text x))
 list-more text false [] x = sym (append-nil (text x))
 list-more text true (y ∷ xs) x =
@@ -37,7 +37,7 @@ list-more text false (y ∷ xs) x =
 pub record Listed {A : Type 0} (commas : Bool) (text : A → List ℕ) (all left : List A) (before : List ℕ) (at : ℕ) (l : List ℕ) (r : ℕ) (l' : List ℕ) : Type 0 where
   pub done : List A
   pub whole : all ≡ done ++ left
-  pub open_is : before ≡ beforeOf commas (opens done)
+  pub open_is : before ≡ before_of commas (opens done)
   pub wrote : Puts at (list_of commas (map text done)) l r l'
 
 nothing : (commas : Bool) → list_of commas [] ≡ []
@@ -53,13 +53,13 @@ module _ {A : Type 0} (commas : Bool) (text : A → List ℕ) {at : ℕ} {l : Li
   listed_start all e = record { done = []; whole = refl; open_is = refl; wrote = puts-as (sym (nothing commas)) (puts_none at l e) }
 
   module _ {all left : List A} {before : List ℕ} {r : ℕ} {l' : List ℕ} (d : Listed commas text all left before at l r l') where
-    pub listed_next : {x : A} {rest : List A} {later : List ℕ} {r' : ℕ} {l'' : List ℕ} → left ≡ x ∷ rest → later ≡ beforeOf commas false
+    pub listed_next : {x : A} {rest : List A} {later : List ℕ} {r' : ℕ} {l'' : List ℕ} → left ≡ x ∷ rest → later ≡ before_of commas false
         → Puts r (before ++ text x) l' r' l'' → Listed commas text all rest later at l r' l''
     listed_next {x} {rest} e n p =
         record {
           done = d.done ++ (x ∷ []);
           whole = d.whole ∙ ap (λ (xs : List A). d.done ++ xs) e ∙ sym (append_assoc d.done (x ∷ []) rest);
-          open_is = n ∙ sym (ap (beforeOf commas) (some d.done x));
+          open_is = n ∙ sym (ap (before_of commas) (some d.done x));
           wrote = puts-as
               (ap (λ (b : List ℕ). list_of commas (map text d.done) ++ (b ++ text x)) d.open_is ∙ list-more text commas d.done x)
               (puts_then d.wrote p);
@@ -67,8 +67,8 @@ module _ {A : Type 0} (commas : Bool) (text : A → List ℕ) {at : ℕ} {l : Li
 
     -- the same, where an index says whether an item is the first
     pub listed-past : (first i : ℕ) → first < i → {x : A} {rest : List A} {r' : ℕ} {l'' : List ℕ} → left ≡ x ∷ rest → Puts r (before ++ text x) l' r' l''
-        → Listed commas text all rest (beforeOf commas (eqb i first)) at l r' l''
-    listed-past first i h e p = listed_next e (ap (beforeOf commas) (ne_eqb i first (λ z. omega arith))) p
+        → Listed commas text all rest (before_of commas (eq i first)) at l r' l''
+    listed-past first i h e p = listed_next e (ap (before_of commas) (ne_eqb i first (λ z. omega arith))) p
 
     pub listed-end : left ≡ [] → Puts at (list_of commas (map text all)) l r l'
     listed-end e =

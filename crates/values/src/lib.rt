@@ -3,7 +3,7 @@
 // digits, hyphens and dots alone. Nothing here judges a value.
 ghost use Rattle.std.specs.Prelude.{true, cond, [], ◌∷◌, ◌++◌, ◌≤◌, length};
 ghost use Rattle.chars.specs.Puts.{Puts};
-ghost use Rattle.values.specs.Values.{code_of, escapedOf, value_of, quoted, bracketed, beforeOf, key_of, gap_of, label_of, keys_of, protocolsOf, carrierOf, longestName, name_of, span_of, address_of};
+ghost use Rattle.values.specs.Values.{code_of, escaped_of, value_of, quoted, bracketed, before_of, key_of, gap_of, label_of, keys_of, protocols_of, carrier_of, longest_name, name_of, span_of, address_of};
 
 use carriers::Carrier;
 use chars::{put, put_all, put_number};
@@ -63,7 +63,7 @@ fn put_code(out: &mut [u8], at: usize, json: bool, b: u8) -> usize
 // Writes an octet of a value: 33 to 126 as they are, but a backslash, a quotation mark and a comma after a backslash, and every other octet as
 // a backslash and three decimal digits (in the manner of RFC 9460 appendix A).
 fn put_escaped(out: &mut [u8], at: usize, json: bool, b: u8) -> usize
-    ensures { Puts at (escapedOf json b) out.old result out.new }
+    ensures { Puts at (escaped_of json b) out.old result out.new }
 {
     if b <= b' ' {
         return put_code(out, at, json, b);
@@ -109,7 +109,7 @@ pub fn put_string(out: &mut [u8], at: usize, json: bool, s: &[u8]) -> usize
 
 // Writes a comma where commas stand between items, but before the first.
 pub fn put_comma(out: &mut [u8], at: usize, commas: bool, first: bool) -> usize
-    ensures { Puts at (beforeOf commas first) out.old result out.new }
+    ensures { Puts at (before_of commas first) out.old result out.new }
 {
     if first {
         return lesser(at, out.len());
@@ -117,7 +117,7 @@ pub fn put_comma(out: &mut [u8], at: usize, commas: bool, first: bool) -> usize
     put_mark(out, at, commas, b',')
 }
 
-// Writes a key by its name, or as keyN (RFC 9460 §2.1).
+// Writes a key by its name, or as key_n (RFC 9460 §2.1).
 pub fn put_key(out: &mut [u8], at: usize, key: usize) -> usize
     ensures { Puts at (key_of key) out.old result out.new }
 {
@@ -173,7 +173,7 @@ pub fn put_label(out: &mut [u8], at: usize, json: bool, key: usize, size: usize)
 
 // Writes an item of a list of keys.
 fn put_key_item(out: &mut [u8], at: usize, json: bool, first: bool, key: usize) -> usize
-    ensures { Puts at (beforeOf true first ++ quoted json (key_of key)) out.old result out.new }
+    ensures { Puts at (before_of true first ++ quoted json (key_of key)) out.old result out.new }
 {
     let opens = put_comma(out, at, true, first);
     let from = put_mark(out, opens, json, b'"');
@@ -205,7 +205,7 @@ pub fn put_keys(out: &mut [u8], at: usize, json: bool, s: &[u8]) -> usize
 
 // Writes an item of a list of protocols.
 fn put_protocol(out: &mut [u8], at: usize, json: bool, first: bool, id: &[u8]) -> usize
-    ensures { Puts at (beforeOf true first ++ quoted json (value_of json id.now)) out.old result out.new }
+    ensures { Puts at (before_of true first ++ quoted json (value_of json id.now)) out.old result out.new }
 {
     let from = put_comma(out, at, true, first);
     put_string(out, from, json, id)
@@ -213,7 +213,7 @@ fn put_protocol(out: &mut [u8], at: usize, json: bool, first: bool, id: &[u8]) -
 
 // Writes the protocols of an alpn list one after another.
 fn put_protocol_items(out: &mut [u8], at: usize, json: bool, s: &[u8]) -> usize
-    ensures { Puts at (protocolsOf json s.now) out.old result out.new }
+    ensures { Puts at (protocols_of json s.now) out.old result out.new }
 {
     let mut o = lesser(at, out.len());
     let mut i = 0;
@@ -232,7 +232,7 @@ fn put_protocol_items(out: &mut [u8], at: usize, json: bool, s: &[u8]) -> usize
 
 // Writes the protocols of an alpn list, in JSON within brackets.
 pub fn put_protocols(out: &mut [u8], at: usize, json: bool, s: &[u8]) -> usize
-    ensures { Puts at (bracketed json (protocolsOf json s.now)) out.old result out.new }
+    ensures { Puts at (bracketed json (protocols_of json s.now)) out.old result out.new }
 {
     let from = put_mark(out, at, json, b'[');
     let end = put_protocol_items(out, from, json, s);
@@ -243,7 +243,7 @@ pub fn put_protocols(out: &mut [u8], at: usize, json: bool, s: &[u8]) -> usize
 
 // Writes a carrier's name.
 pub fn put_carrier(out: &mut [u8], at: usize, c: Carrier) -> usize
-    ensures { Puts at (carrierOf c) out.old result out.new }
+    ensures { Puts at (carrier_of c) out.old result out.new }
 {
     match c {
         Carrier::Dhcp4 => put_all(out, at, b"DHCPv4"),
@@ -256,7 +256,7 @@ pub fn put_carrier(out: &mut [u8], at: usize, c: Carrier) -> usize
 
 // Writes a name as text.
 pub fn put_name(out: &mut [u8], at: usize, wire: &[u8]) -> usize
-    requires { length wire.now ≤ longestName }
+    requires { length wire.now ≤ longest_name }
     ensures { Puts at (name_of wire.now) out.old result out.new }
 {
     if wire.len() < 2 {

@@ -6,13 +6,13 @@ ghost use Rattle.std.specs.Prelude.{◌≡◌, ◌+◌, ◌≤◌, length, drop}
 ghost use Rattle.io.specs.Counts.{IsPrefixLen};
 ghost use Rattle.chars.specs.Puts.{Puts};
 ghost use Rattle.names.specs.Names.{IsName};
-ghost use Rattle.names.specs.Wire.{nameCheck};
-ghost use Rattle.texts.specs.Texts.{IsText, text_of, wireOf};
-ghost use Rattle.texts.specs.TextCheck.{textCheck};
+ghost use Rattle.names.specs.Wire.{name_check};
+ghost use Rattle.texts.specs.Texts.{IsText, text_of, wire_of};
+ghost use Rattle.texts.specs.TextCheck.{text_check};
 ghost use Rattle.addresses.specs.Addresses.{Width};
-ghost use Rattle.hexes.specs.Decoding.{decodeOf};
-ghost use Rattle.vectors.specs.Answers.{numberText, hexText, goodText, badText, nameText, dropsOf, keptText, addressesText};
-ghost use Rattle.vectors.specs.Answers.{answerText, caseText, letterOf, decodedText, lineText, answersText};
+ghost use Rattle.hexes.specs.Decoding.{decode_of};
+ghost use Rattle.vectors.specs.Answers.{number_text, hex_text, good_text, bad_text, name_text, drops_of, kept_text, addresses_text};
+ghost use Rattle.vectors.specs.Answers.{answer_text, case_text, letter_of, decoded_text, line_text, answers_text};
 ghost use Rattle.vectors.specs.Answers as answers;
 
 use chars::{put, put_all, put_number};
@@ -22,7 +22,7 @@ use names::Name;
 
 // Writes x in decimal, after a space.
 fn put_decimal(out: &mut [u8], at: usize, x: usize) -> usize
-    ensures { Puts at (numberText x) out.old result out.new }
+    ensures { Puts at (number_text x) out.old result out.new }
 {
     let next = put(out, at, b' ');
     put_number(out, next, x)
@@ -30,7 +30,7 @@ fn put_decimal(out: &mut [u8], at: usize, x: usize) -> usize
 
 // Writes the octets of s in hexadecimal, after a space; nothing where there are none.
 fn put_hex(out: &mut [u8], at: usize, s: &[u8]) -> usize
-    ensures { Puts at (hexText s.now) out.old result out.new }
+    ensures { Puts at (hex_text s.now) out.old result out.new }
 {
     if s.len() == 0 {
         return put_all(out, at, &s[..0]);
@@ -41,7 +41,7 @@ fn put_hex(out: &mut [u8], at: usize, s: &[u8]) -> usize
 
 // Writes that a name is good, and its other form.
 fn put_good(out: &mut [u8], at: usize, form: &[u8]) -> usize
-    ensures { Puts at (goodText form.now) out.old result out.new }
+    ensures { Puts at (good_text form.now) out.old result out.new }
 {
     let next = put_all(out, at, b" ok");
     put_hex(out, next, form)
@@ -49,7 +49,7 @@ fn put_good(out: &mut [u8], at: usize, form: &[u8]) -> usize
 
 // Writes that a name is bad, and where.
 fn put_bad(out: &mut [u8], at: usize, place: usize) -> usize
-    ensures { Puts at (badText place) out.old result out.new }
+    ensures { Puts at (bad_text place) out.old result out.new }
 {
     let next = put_all(out, at, b" bad");
     put_decimal(out, next, place)
@@ -58,7 +58,7 @@ fn put_bad(out: &mut [u8], at: usize, place: usize) -> usize
 // Writes that a name in wire form is good, and its text form.
 fn put_text(out: &mut [u8], at: usize, wire: &[u8]) -> usize
     requires { IsName wire.now }
-    ensures { Puts at (goodText (text_of wire.now)) out.old result out.new }
+    ensures { Puts at (good_text (text_of wire.now)) out.old result out.new }
 {
     let mut text = [0u8; 256];
     let n = texts::to_text(&mut text, 0, wire);
@@ -68,7 +68,7 @@ fn put_text(out: &mut [u8], at: usize, wire: &[u8]) -> usize
 // Writes that a name in text form is good, and its wire form.
 fn put_wire(out: &mut [u8], at: usize, text: &[u8]) -> usize
     requires { IsText text.now }
-    ensures { Puts at (goodText (wireOf text.now)) out.old result out.new }
+    ensures { Puts at (good_text (wire_of text.now)) out.old result out.new }
 {
     let mut wire = [0u8; 256];
     let n = texts::to_wire(&mut wire, 0, text);
@@ -77,7 +77,7 @@ fn put_wire(out: &mut [u8], at: usize, text: &[u8]) -> usize
 
 // Writes the answer of a name in wire form.
 fn answer_wire(out: &mut [u8], at: usize, wire: &[u8]) -> usize
-    ensures { Puts at (nameText (text_of wire.now) (nameCheck wire.now)) out.old result out.new }
+    ensures { Puts at (name_text (text_of wire.now) (name_check wire.now)) out.old result out.new }
 {
     match names::check_wire(wire) {
         Name::Good => put_text(out, at, wire),
@@ -87,7 +87,7 @@ fn answer_wire(out: &mut [u8], at: usize, wire: &[u8]) -> usize
 
 // Writes the answer of a name in text form.
 fn answer_text(out: &mut [u8], at: usize, text: &[u8]) -> usize
-    ensures { Puts at (nameText (wireOf text.now) (textCheck text.now)) out.old result out.new }
+    ensures { Puts at (name_text (wire_of text.now) (text_check text.now)) out.old result out.new }
 {
     match texts::check_text(text) {
         Name::Good => put_wire(out, at, text),
@@ -99,7 +99,7 @@ fn answer_text(out: &mut [u8], at: usize, text: &[u8]) -> usize
 fn put_kept(out: &mut [u8], at: usize, w: usize, s: &[u8]) -> usize
     requires width { Width w }
     requires s_len_bound { length s.now ≤ 4096 }
-    ensures { Puts at (keptText w s.now) out.old result out.new }
+    ensures { Puts at (kept_text w s.now) out.old result out.new }
 {
     let mut kept = io::buffer();
     let n = addresses::put_kept(&mut kept, 0, w, s);
@@ -109,7 +109,7 @@ fn put_kept(out: &mut [u8], at: usize, w: usize, s: &[u8]) -> usize
 // 1 for an address list that has one to drop, and else 0.
 fn drops(w: usize, s: &[u8]) -> usize
     requires { Width w }
-    ensures { result ≡ dropsOf w s.now }
+    ensures { result ≡ drops_of w s.now }
 {
     if addresses::any_unusable(w, s) {
         return 1;
@@ -121,7 +121,7 @@ fn drops(w: usize, s: &[u8]) -> usize
 fn answer_addresses(out: &mut [u8], at: usize, w: usize, s: &[u8]) -> usize
     requires width { Width w }
     requires s_len_bound { length s.now ≤ 4096 }
-    ensures { Puts at (addressesText w s.now) out.old result out.new }
+    ensures { Puts at (addresses_text w s.now) out.old result out.new }
 {
     let next = put_decimal(out, at, addresses::kept_count(w, s));
     let from = put_decimal(out, next, drops(w, s));
@@ -131,7 +131,7 @@ fn answer_addresses(out: &mut [u8], at: usize, w: usize, s: &[u8]) -> usize
 // Writes what follows the letter in the answer of a case; nothing after `?`.
 fn answer(out: &mut [u8], at: usize, letter: u8, s: &[u8]) -> usize
     requires { length s.now ≤ 4096 }
-    ensures { Puts at (answerText letter s.now) out.old result out.new }
+    ensures { Puts at (answer_text letter s.now) out.old result out.new }
 {
     if letter == b'w' {
         return answer_wire(out, at, s);
@@ -175,7 +175,7 @@ fn known(x: u8) -> u8
 
 // The letter of a line that begins as a case does, and `?` for any other.
 fn letter_of(line: &[u8]) -> u8
-    ensures { result ≡ letterOf line.now }
+    ensures { result ≡ letter_of line.now }
 {
     if line.len() < 2 {
         return b'?';
@@ -189,7 +189,7 @@ fn letter_of(line: &[u8]) -> u8
 // Writes the answer of a case.
 fn put_case(out: &mut [u8], at: usize, letter: u8, s: &[u8]) -> usize
     requires { length s.now ≤ 4096 }
-    ensures { Puts at (caseText letter s.now) out.old result out.new }
+    ensures { Puts at (case_text letter s.now) out.old result out.new }
 {
     let next = put(out, at, letter);
     answer(out, next, letter, s)
@@ -197,7 +197,7 @@ fn put_case(out: &mut [u8], at: usize, letter: u8, s: &[u8]) -> usize
 
 // Writes the answer of a case whose octets are given in hexadecimal.
 fn put_decoded(out: &mut [u8], at: usize, letter: u8, digits: &[u8]) -> usize
-    ensures { Puts at (decodedText letter (decodeOf digits.now 4096)) out.old result out.new }
+    ensures { Puts at (decoded_text letter (decode_of digits.now 4096)) out.old result out.new }
 {
     let mut octets = io::buffer();
     match hexes::decode(digits, &mut octets) {
@@ -209,7 +209,7 @@ fn put_decoded(out: &mut [u8], at: usize, letter: u8, digits: &[u8]) -> usize
 
 // Writes the answer of a line.
 fn put_line(out: &mut [u8], at: usize, line: &[u8]) -> usize
-    ensures { Puts at (lineText line.now) out.old result out.new }
+    ensures { Puts at (line_text line.now) out.old result out.new }
 {
     let letter = letter_of(line);
     if line.len() <= 2 {
@@ -221,7 +221,7 @@ fn put_line(out: &mut [u8], at: usize, line: &[u8]) -> usize
 // Writes the answer of each line of s, and returns how many octets that is.
 fn run(s: &[u8], out: &mut [u8]) -> usize
     ensures prefix_len { IsPrefixLen result out.new }
-    ensures puts { Puts 0 (answersText s.now) out.old result out.new }
+    ensures puts { Puts 0 (answers_text s.now) out.old result out.new }
 {
     let mut at = 0;
     let mut o = 0;

@@ -1,6 +1,6 @@
 -- The octets of a record and of records, and each turn of the pass that weighs them. Assumes nothing.
 use Rattle.std.specs.Prelude.{◌≡◌, refl, Bool, true, false, cond, ◌||◌, List, [], ◌∷◌, ◌++◌, map, ℕ, suc, ◌+◌, ◌-◌, ◌*◌, ◌≤◌, ◌<◌, length, take, drop, ltb}
-use Rattle.std.proofs.Common.{sym, ap, ◌∙◌, subst, arith, eq-eqb, ne_eqb, length-append}
+use Rattle.std.proofs.Common.{sym, ap, ◌∙◌, subst, arith, eq-eq, ne_eqb, length-append}
 use Rattle.std.proofs.Math.Path.{subst⁻¹}
 use Rattle.std.proofs.Math.Bool.{or_assoc, or-false}
 use Rattle.numbers.specs.Limit as limit
@@ -10,22 +10,22 @@ use Rattle.octets.specs.Numbers.{Bytes}
 use Rattle.carriers.specs.declared.Carrier.{Carrier}
 use Rattle.carriers.specs.declared.Carrier.TheVariants.{Dhcp4}
 use Rattle.carriers.specs.declared.Facts.{Facts}
-use Rattle.carriers.specs.Carriers.{facts_of, addressWidth, in_eights, isJoined}
+use Rattle.carriers.specs.Carriers.{facts_of, address_width, in_eights, is_joined}
 use Rattle.carriers.specs.CarriersLaws.{few-addresses, eights-router}
 use Rattle.names.specs.Right.{three}
-use Rattle.blocks.specs.Block.{Fields, optionSize}
+use Rattle.blocks.specs.Block.{Fields, option_size}
 use Rattle.judge.specs.declared.Side.TheVariants.{Writing}
 use Rattle.judge.specs.declared.Judged.{Judged}
-use Rattle.judge.specs.Place.{judged, placeFrom, from}
-use Rattle.judge.specs.Judge.{judgedBy, faultOf}
+use Rattle.judge.specs.Place.{judged, place_from, from}
+use Rattle.judge.specs.Judge.{judged_by, fault_of}
 use Rattle.judge.specs.Passed.{Passed}
 use Rattle.judge.specs.JudgeLaws.{fault-passed, written-name}
 use Rattle.judge.specs.PlaceLaws.{place-within}
-use Rattle.layouts.specs.Writable.{overhead, optionOctets, instanceOctets}
-use Rattle.layouts.specs.Layouts.{ownOption, instanceOf, joinedOf, streamOf}
+use Rattle.layouts.specs.Writable.{overhead, option_octets, instance_octets}
+use Rattle.layouts.specs.Layouts.{own_option, instance_of, joined_of, stream_of}
 use Rattle.layouts.specs.LayoutsLaws.{header-small, own-length, instance-length, body-small}
-use Rattle.records.specs.Records.{headSize, recordOf}
-use Rattle.sheets.specs.Sheets.{frontSize}
+use Rattle.records.specs.Records.{head_size, record_of}
+use Rattle.sheets.specs.Sheets.{front_size}
 use Rattle.taking.specs.declared.Spot.{Spot}
 use Rattle.taking.specs.Sheet.{FitsTail, FitsRecord, IsSheet}
 use Rattle.taking.specs.Spot.{spot_of, fields_at, Inside}
@@ -34,70 +34,70 @@ use Rattle.taking.specs.Standing.{Step}
 use Rattle.taking.specs.StandingLaws.{stands-is, standing-none, standing-step, taken-standing}
 use Rattle.taking.specs.Exactly.{taken-sheet}
 use Rattle.vetting.specs.declared.Weighed.{Weighed}
-use Rattle.vetting.specs.Vetting.{firstFault, large, anyLarge, largeBy}
-use Rattle.vetting.specs.Weighing.{recordsOf, TakenAs, cut_at, share_of, shareOctets, weightOf, Light, most, faultAlone, foundBy, WeighsOne, Weighs, Weighing}
+use Rattle.vetting.specs.Vetting.{first_fault, large, any_large, large_by}
+use Rattle.vetting.specs.Weighing.{records_of, TakenAs, cut_at, share_of, share_octets, weight_of, Light, most, fault_alone, found_by, WeighsOne, Weighs, Weighing}
 
 -- ---- octets
 
-share-length : (c : Carrier) (r : Fields) → length (share_of c r) ≡ weightOf c r
-share-length c r = go (isJoined c)
+share-length : (c : Carrier) (r : Fields) → length (share_of c r) ≡ weight_of c r
+share-length c r = go (is_joined c)
   where
-    go : (j : Bool) → length (cond j (instanceOf r) (ownOption c r)) ≡ (let k = length r.name in let a = length r.addresses in let p = length r.parameters in
-        cond j (instanceOctets r.full k a p) (optionOctets c r.full k a p))
+    go : (j : Bool) → length (cond j (instance_of r) (own_option c r)) ≡ (let k = length r.name in let a = length r.addresses in let p = length r.parameters in
+        cond j (instance_octets r.full k a p) (option_octets c r.full k a p))
     go true = instance-length r
     go false = own-length c r
 
-pub stream-none : (c : Carrier) → streamOf c [] ≡ []
-stream-none c = go (isJoined c)
+pub stream-none : (c : Carrier) → stream_of c [] ≡ []
+stream-none c = go (is_joined c)
   where
-    go : (j : Bool) → cond j (joinedOf []) (flat (map (ownOption c) [])) ≡ []
+    go : (j : Bool) → cond j (joined_of []) (flat (map (own_option c) [])) ≡ []
     go true = refl
     go false = refl
 
-pub stream-one : (c : Carrier) (r : Fields) (rs : List Fields) → streamOf c (r ∷ rs) ≡ share_of c r ++ streamOf c rs
-stream-one c r rs = go (isJoined c)
+pub stream-one : (c : Carrier) (r : Fields) (rs : List Fields) → stream_of c (r ∷ rs) ≡ share_of c r ++ stream_of c rs
+stream-one c r rs = go (is_joined c)
   where
-    go : (j : Bool) → cond j (joinedOf (r ∷ rs)) (flat (map (ownOption c) (r ∷ rs)))
-        ≡ cond j (instanceOf r) (ownOption c r) ++ cond j (joinedOf rs) (flat (map (ownOption c) rs))
+    go : (j : Bool) → cond j (joined_of (r ∷ rs)) (flat (map (own_option c) (r ∷ rs)))
+        ≡ cond j (instance_of r) (own_option c r) ++ cond j (joined_of rs) (flat (map (own_option c) rs))
     go true = refl
     go false = refl
 
-stream-length : (c : Carrier) (r : Fields) (rs : List Fields) → length (streamOf c (r ∷ rs)) ≡ length (share_of c r) + length (streamOf c rs)
-stream-length c r rs = ap length (stream-one c r rs) ∙ length-append (share_of c r) (streamOf c rs)
+stream-length : (c : Carrier) (r : Fields) (rs : List Fields) → length (stream_of c (r ∷ rs)) ≡ length (share_of c r) + length (stream_of c rs)
+stream-length c r rs = ap length (stream-one c r rs) ∙ length-append (share_of c r) (stream_of c rs)
 
 -- in carrier 3 they are those of the option, rounded up
-large-by : (c : Carrier) (r : Fields) → largeBy c (weightOf c r) ≡ large c r
+large-by : (c : Carrier) (r : Fields) → large_by c (weight_of c r) ≡ large c r
 large-by c r = go (in_eights c) refl
   where
-    go : (b : Bool) → in_eights c ≡ b → cond b (ltb limit.option (weightOf c r)) false ≡ cond b (ltb limit.option (optionSize r)) false
-    go true e = ap (λ (d : Carrier). ltb limit.option (weightOf d r)) (eights-router c e)
+    go : (b : Bool) → in_eights c ≡ b → cond b (ltb limit.option (weight_of c r)) false ≡ cond b (ltb limit.option (option_size r)) false
+    go true e = ap (λ (d : Carrier). ltb limit.option (weight_of d r)) (eights-router c e)
     go false e = refl
 
 -- the two ways out of the code, by the carrier's row of the table
 module _ (c : Carrier) {f : Facts} (row : f ≡ facts_of c) where
-  pub large-eights : (n : ℕ) → f.eights ≡ true → ltb limit.option n ≡ largeBy c n
+  pub large-eights : (n : ℕ) → f.eights ≡ true → ltb limit.option n ≡ large_by c n
   large-eights n e = let i : in_eights c ≡ true = ap (λ (f : Facts). f.eights) (sym row) ∙ e in rw i
 
-  pub large-never : (n : ℕ) → f.eights ≡ false → false ≡ largeBy c n
+  pub large-never : (n : ℕ) → f.eights ≡ false → false ≡ large_by c n
   large-never n e = let i : in_eights c ≡ false = ap (λ (f : Facts). f.eights) (sym row) ∙ e in rw i
 
   module _ (full : Bool) (n a p : ℕ) where
-    pub share-joined : f.joined ≡ true → instanceOctets full n a p ≡ shareOctets c full n a p
-    share-joined e = let i : isJoined c ≡ true = ap (λ (f : Facts). f.joined) (sym row) ∙ e in rw i
+    pub share-joined : f.joined ≡ true → instance_octets full n a p ≡ share_octets c full n a p
+    share-joined e = let i : is_joined c ≡ true = ap (λ (f : Facts). f.joined) (sym row) ∙ e in rw i
 
-    pub share_other : f.joined ≡ false → optionOctets c full n a p ≡ shareOctets c full n a p
-    share_other e = let i : isJoined c ≡ false = ap (λ (f : Facts). f.joined) (sym row) ∙ e in rw i
+    pub share_other : f.joined ≡ false → option_octets c full n a p ≡ share_octets c full n a p
+    share_other e = let i : is_joined c ≡ false = ap (λ (f : Facts). f.joined) (sym row) ∙ e in rw i
 
-share-small : (c : Carrier) (full : Bool) (n a p : ℕ) → shareOctets c full n a p ≤ 4 + (overhead + (n + a + p))
-share-small c full n a p = go (isJoined c)
+share-small : (c : Carrier) (full : Bool) (n a p : ℕ) → share_octets c full n a p ≤ 4 + (overhead + (n + a + p))
+share-small c full n a p = go (is_joined c)
   where
-    go : (j : Bool) → cond j (instanceOctets full n a p) (optionOctets c full n a p) ≤ 4 + (overhead + (n + a + p))
+    go : (j : Bool) → cond j (instance_octets full n a p) (option_octets c full n a p) ≤ 4 + (overhead + (n + a + p))
     go true = omega (arith, body-small Dhcp4 full n a p)
     go false = omega (arith, header-small c, body-small c full n a p)
 
 -- ---- a record without a fault is small
 
-passed-light : (c : Carrier) (r : Fields) → FitsRecord c r → faultOf Writing c r ≡ 0
+passed-light : (c : Carrier) (r : Fields) → FitsRecord c r → fault_of Writing c r ≡ 0
     → Light (length r.name) (length r.addresses) (length r.parameters)
 passed-light c r f e =
     let p : Passed Writing c r = fault-passed Writing c r e in
@@ -105,7 +105,7 @@ passed-light c r f e =
     let h : 2 ≤ length r.name = omega (arith, three named) in
     go h named.short r.full refl f.tail p
   where
-    go : 2 ≤ length r.name → length r.name ≤ 255 → (full : Bool) → r.full ≡ full → FitsTail (addressWidth c) full r.addresses r.parameters
+    go : 2 ≤ length r.name → length r.name ≤ 255 → (full : Bool) → r.full ≡ full → FitsTail (address_width c) full r.addresses r.parameters
         → Passed Writing c r → Light (length r.name) (length r.addresses) (length r.parameters)
     go h k true u t p =
         let q = p.tail u in
@@ -113,7 +113,7 @@ passed-light c r f e =
     go h k false u t p = record { some = h; name = k; addresses = rw t.0 (omega arith); parameters = rw t.1 (omega arith) }
 
 -- so are records that have a place in a sheet and no fault, one after another
-pub stream-small : (c : Carrier) (rs : List Fields) → All (FitsRecord c) rs → All (λ r. faultOf Writing c r ≡ 0) rs → length (streamOf c rs) ≤ most * length rs
+pub stream-small : (c : Carrier) (rs : List Fields) → All (FitsRecord c) rs → All (λ r. fault_of Writing c r ≡ 0) rs → length (stream_of c rs) ≤ most * length rs
 stream-small c [] f e = omega (arith, ap length (stream-none c))
 stream-small c (r ∷ rs) f e =
     let l = passed-light c r f.0 e.0 in
@@ -134,7 +134,7 @@ inside-any {n} {at} {p} i = record {
   addresses = i.addresses;
   parameters = i.parameters;
   next = i.next;
-  further = λ g. let k : at + headSize ≤ p.next = i.further g in omega arith;
+  further = λ g. let k : at + head_size ≤ p.next = i.further g in omega arith;
 }
 
 module _ (s : List ℕ) (p : Spot) where
@@ -142,10 +142,10 @@ module _ (s : List ℕ) (p : Spot) where
   fields-cut = rw (cut_out s p.name p.nlen, cut_out s p.addresses p.alen, cut_out s p.parameters p.plen)
 
   module _ (i : Inside (length s) 0 p) (c : Carrier) where
-    pub light-at : FitsRecord c (fields_at s p) → faultOf Writing c (fields_at s p) ≡ 0 → Light p.nlen p.alen p.plen
+    pub light-at : FitsRecord c (fields_at s p) → fault_of Writing c (fields_at s p) ≡ 0 → Light p.nlen p.alen p.plen
     light-at f e = rw (name-length s p i, addresses-length s p i, parameters-length s p i) at (passed-light c (fields_at s p) f e)
 
-    weight-at : weightOf c (fields_at s p) ≡ shareOctets c p.full p.nlen p.alen p.plen
+    weight-at : weight_of c (fields_at s p) ≡ share_octets c p.full p.nlen p.alen p.plen
     weight-at = rw (name-length s p i, addresses-length s p i, parameters-length s p i)
 
 -- ---- one record
@@ -154,11 +154,11 @@ module _ (s : List ℕ) (p : Spot) where
 none_from : (n : ℕ) (j : Judged) → j.fault ≡ 0 → from n j ≡ judged 0 0
 none_from n j z = rw z
 
-module _ (c : Carrier) (s : List ℕ) (p : Spot) {j : Judged} (is : j ≡ judgedBy Writing c (cut_at p.lifetime s p)) where
-  same-judged : j ≡ judgedBy Writing c (fields_at s p)
-  same-judged = is ∙ ap (judgedBy Writing c) (fields-cut s p)
+module _ (c : Carrier) (s : List ℕ) (p : Spot) {j : Judged} (is : j ≡ judged_by Writing c (cut_at p.lifetime s p)) where
+  same-judged : j ≡ judged_by Writing c (fields_at s p)
+  same-judged = is ∙ ap (judged_by Writing c) (fields-cut s p)
 
-  pub judged-at : j.fault ≡ faultOf Writing c (fields_at s p)
+  pub judged-at : j.fault ≡ fault_of Writing c (fields_at s p)
   judged-at = ap (λ (j : Judged). j.fault) same-judged
 
   -- the place is in the sheet
@@ -167,26 +167,26 @@ module _ (c : Carrier) (s : List ℕ) (p : Spot) {j : Judged} (is : j ≡ judged
       let h : j.place ≤ length (fields_at s p).name = rw same-judged (place-within Writing c (fields_at s p)) in
       omega (arith, h, name-length s p i, i.name)
 
-  pub weighs-faulty : {place : ℕ} {w : Weighed} → (j.fault ≡ 0 → ⊥) → place ≡ placeFrom p.name j.fault j.place
-      → w ≡ faultAlone (judged j.fault place) → WeighsOne c p.name (fields_at s p) w
+  pub weighs-faulty : {place : ℕ} {w : Weighed} → (j.fault ≡ 0 → ⊥) → place ≡ place_from p.name j.fault j.place
+      → w ≡ fault_alone (judged j.fault place) → WeighsOne c p.name (fields_at s p) w
   weighs-faulty n q e =
       let k = ap (λ (x : Weighed). x.fault) e in
       record {
-        first = ap foundBy e ∙ ap (judged j.fault) q ∙ ap (from p.name) same-judged;
+        first = ap found_by e ∙ ap (judged j.fault) q ∙ ap (from p.name) same-judged;
         large_is = λ o. absurd (n (sym k ∙ o));
         size_is = λ o. absurd (n (sym k ∙ o));
         small = omega (arith, ap (λ (x : Weighed). x.size) e);
       }
 
-  pub weighs-passed : {w : Weighed} → Inside (length s) 0 p → FitsRecord c (fields_at s p) → j.fault ≡ 0 → foundBy w ≡ judged 0 0
-      → w.large ≡ largeBy c w.size → w.size ≡ shareOctets c p.full p.nlen p.alen p.plen → WeighsOne c p.name (fields_at s p) w
+  pub weighs-passed : {w : Weighed} → Inside (length s) 0 p → FitsRecord c (fields_at s p) → j.fault ≡ 0 → found_by w ≡ judged 0 0
+      → w.large ≡ large_by c w.size → w.size ≡ share_octets c p.full p.nlen p.alen p.plen → WeighsOne c p.name (fields_at s p) w
   weighs-passed {w} i f z e l k =
-      let n : faultOf Writing c (fields_at s p) ≡ 0 = sym judged-at ∙ z in
-      let m : w.size ≡ weightOf c (fields_at s p) = k ∙ sym (weight-at s p i c) in
+      let n : fault_of Writing c (fields_at s p) ≡ 0 = sym judged-at ∙ z in
+      let m : w.size ≡ weight_of c (fields_at s p) = k ∙ sym (weight-at s p i c) in
       let h : Light p.nlen p.alen p.plen = light-at s p i c f n in
       record {
-        first = e ∙ sym (none_from p.name (judgedBy Writing c (fields_at s p)) n);
-        large_is = λ _. l ∙ ap (largeBy c) m ∙ large-by c (fields_at s p);
+        first = e ∙ sym (none_from p.name (judged_by Writing c (fields_at s p)) n);
+        large_is = λ _. l ∙ ap (large_by c) m ∙ large-by c (fields_at s p);
         size_is = λ _. m ∙ sym (share-length c (fields_at s p));
         small = omega (arith, k, share-small c p.full p.nlen p.alen p.plen, h);
       }
@@ -194,43 +194,43 @@ module _ (c : Carrier) (s : List ℕ) (p : Spot) {j : Judged} (is : j ≡ judged
 -- ---- the pass
 
 module _ (c : Carrier) (at : ℕ) (r : Fields) (rs : List Fields) where
-  pub first-passed : faultOf Writing c r ≡ 0 → firstFault c at (r ∷ rs) ≡ firstFault c (at + length (recordOf c r)) rs
-  unfolding firstFault
-  first-passed e = rw (eq-eqb (faultOf Writing c r) 0 e)
+  pub first-passed : fault_of Writing c r ≡ 0 → first_fault c at (r ∷ rs) ≡ first_fault c (at + length (record_of c r)) rs
+  unfolding first_fault
+  first-passed e = rw (eq-eq (fault_of Writing c r) 0 e)
 
-  pub first-faulty : (faultOf Writing c r ≡ 0 → ⊥) → firstFault c at (r ∷ rs) ≡ from (at + headSize) (judgedBy Writing c r)
-  unfolding firstFault
-  first-faulty n = rw (ne_eqb (faultOf Writing c r) 0 n)
+  pub first_faulty : (fault_of Writing c r ≡ 0 → ⊥) → first_fault c at (r ∷ rs) ≡ from (at + head_size) (judged_by Writing c r)
+  unfolding first_fault
+  first_faulty n = rw (ne_eqb (fault_of Writing c r) 0 n)
 
-first-none : (c : Carrier) (at : ℕ) → firstFault c at [] ≡ judged 0 0
-unfolding firstFault
+first-none : (c : Carrier) (at : ℕ) → first_fault c at [] ≡ judged 0 0
+unfolding first_fault
 first-none c at = refl
 
-large-one : (c : Carrier) (r : Fields) (rs : List Fields) → anyLarge c (r ∷ rs) ≡ (large c r || anyLarge c rs)
-unfolding anyLarge
+large-one : (c : Carrier) (r : Fields) (rs : List Fields) → any_large c (r ∷ rs) ≡ (large c r || any_large c rs)
+unfolding any_large
 large-one c r rs = refl
 
 -- where none is found, no record has one
-pub first-faultless : (c : Carrier) (at : ℕ) (rs : List Fields) → (firstFault c at rs).fault ≡ 0 → All (λ r. faultOf Writing c r ≡ 0) rs
-unfolding firstFault
+pub first-faultless : (c : Carrier) (at : ℕ) (rs : List Fields) → (first_fault c at rs).fault ≡ 0 → All (λ r. fault_of Writing c r ≡ 0) rs
+unfolding first_fault
 first-faultless c at [] = λ _. tt
 first-faultless c at (r ∷ rs) =
-    let next : ℕ = at + length (recordOf c r) in
-    by_equal (λ j. j.fault ≡ 0 → All (λ r. faultOf Writing c r ≡ 0) (r ∷ rs)) (faultOf Writing c r) 0 (firstFault c next rs)
-    (from (at + headSize) (judgedBy Writing c r))
+    let next : ℕ = at + length (record_of c r) in
+    by_equal (λ j. j.fault ≡ 0 → All (λ r. fault_of Writing c r ≡ 0) (r ∷ rs)) (fault_of Writing c r) 0 (first_fault c next rs)
+    (from (at + head_size) (judged_by Writing c r))
     (λ z e. (z, first-faultless c next rs e))
     (λ n e. absurd (n e))
 
-large-none : (c : Carrier) → anyLarge c [] ≡ false
-unfolding anyLarge
+large-none : (c : Carrier) → any_large c [] ≡ false
+unfolding any_large
 large-none c = refl
 
-pub weighing-start : (c : Carrier) (s : List ℕ) → Bytes s → TakenAs c s → Weighing c s (recordsOf s) frontSize false 0
+pub weighing-start : (c : Carrier) (s : List ℕ) → Bytes s → TakenAs c s → Weighing c s (records_of s) front_size false 0
 weighing-start c s octets e =
     let t = taken-standing s e in
-    let i : IsSheet s c (recordsOf s) = taken-sheet s c (recordsOf s) octets e in
+    let i : IsSheet s c (records_of s) = taken-sheet s c (records_of s) octets e in
     record {
-      rest = recordsOf s;
+      rest = records_of s;
       standing = t.0;
       fits = i.each;
       faults = refl;
@@ -241,51 +241,51 @@ weighing-start c s octets e =
 
 module _ {c : Carrier} {s : List ℕ} {rs : List Fields} {at size : ℕ} {big : Bool} {p : Spot} (w : Weighing c s rs at big size) (e : p ≡ spot_of c s at)
     (h : at < length s) where
-  abbrev weighing-step : Step c s at w.rest p
-  weighing-step = standing-step e w.standing h
+  abbrev weighing_step : Step c s at w.rest p
+  weighing_step = standing-step e w.standing h
 
-  rest-fits : All (FitsRecord c) (weighing-step.first ∷ weighing-step.rest)
-  rest-fits = subst (All (FitsRecord c)) weighing-step.are w.fits
+  rest-fits : All (FitsRecord c) (weighing_step.first ∷ weighing_step.rest)
+  rest-fits = subst (All (FitsRecord c)) weighing_step.are w.fits
 
   pub weighing-fits : FitsRecord c (fields_at s p)
-  weighing-fits = subst⁻¹ (FitsRecord c) (stands-is weighing-step.stands) rest-fits.0
+  weighing-fits = subst⁻¹ (FitsRecord c) (stands-is weighing_step.stands) rest-fits.0
 
   pub weighing-inside : Inside (length s) at p
-  weighing-inside = weighing-step.stands.inside
+  weighing-inside = weighing_step.stands.inside
 
-  pub weighing-further : at + headSize ≤ p.next
-  weighing-further = weighing-inside.further weighing-step.stands.good
+  pub weighing-further : at + head_size ≤ p.next
+  weighing-further = weighing-inside.further weighing_step.stands.good
 
-  name-at : p.name ≡ at + headSize
-  name-at = spot-name c s at e (omega arith) weighing-step.stands.good
+  name-at : p.name ≡ at + head_size
+  name-at = spot-name c s at e (omega arith) weighing_step.stands.good
 
-  next-at : p.next ≡ at + length (recordOf c weighing-step.first)
-  next-at = spot-next c s at e (omega arith) weighing-step.stands.good ∙ ap (λ (r : Fields). at + length (recordOf c r)) (stands-is weighing-step.stands)
+  next-at : p.next ≡ at + length (record_of c weighing_step.first)
+  next-at = spot-next c s at e (omega arith) weighing_step.stands.good ∙ ap (λ (r : Fields). at + length (record_of c r)) (stands-is weighing_step.stands)
 
   module _ {one : Weighed} (o : WeighsOne c p.name (fields_at s p) one) where
-    first-is : foundBy one ≡ from (at + headSize) (judgedBy Writing c weighing-step.first)
+    first-is : found_by one ≡ from (at + head_size) (judged_by Writing c weighing_step.first)
     first-is =
         o.first
-        ∙ ap (λ (n : ℕ). from n (judgedBy Writing c (fields_at s p))) name-at
-        ∙ ap (λ (r : Fields). from (at + headSize) (judgedBy Writing c r)) (stands-is weighing-step.stands)
+        ∙ ap (λ (n : ℕ). from n (judged_by Writing c (fields_at s p))) name-at
+        ∙ ap (λ (r : Fields). from (at + head_size) (judged_by Writing c r)) (stands-is weighing_step.stands)
 
-    fault-is : one.fault ≡ faultOf Writing c weighing-step.first
+    fault-is : one.fault ≡ fault_of Writing c weighing_step.first
     fault-is = ap (λ (j : Judged). j.fault) first-is
 
-    pub weighing-faulty : {r : Weighed} → (one.fault ≡ 0 → ⊥) → r ≡ faultAlone (foundBy one) → Weighs c rs r
+    pub weighing-faulty : {r : Weighed} → (one.fault ≡ 0 → ⊥) → r ≡ fault_alone (found_by one) → Weighs c rs r
     weighing-faulty n e =
         let k = ap (λ (x : Weighed). x.fault) e in
-        let t = weighing-step in
-        let f = first-faulty c at t.first t.rest (λ q. n (fault-is ∙ q)) in
+        let t = weighing_step in
+        let f = first_faulty c at t.first t.rest (λ q. n (fault-is ∙ q)) in
         record {
-          first = ap foundBy e ∙ first-is ∙ sym f ∙ ap (firstFault c at) (sym t.are) ∙ sym w.faults;
+          first = ap found_by e ∙ first-is ∙ sym f ∙ ap (first_fault c at) (sym t.are) ∙ sym w.faults;
           large_is = λ q. absurd (n (sym k ∙ q));
           size_is = λ q. absurd (n (sym k ∙ q));
         }
 
     pub weighing-next : {l : Bool} → one.fault ≡ 0 → l ≡ (big || one.large) → Weighing c s rs p.next l (size + one.size)
     weighing-next {l} z k =
-        let t = weighing-step in
+        let t = weighing_step in
         let r : Fields = t.first in
         let f = first-passed c at r t.rest (sym fault-is ∙ z) in
         let lr : one.large ≡ large c r = o.large_is z ∙ ap (large c) (stands-is t.stands) in
@@ -295,30 +295,30 @@ module _ {c : Carrier} {s : List ℕ} {rs : List Fields} {at size : ℕ} {big : 
           rest = t.rest;
           standing = t.standing;
           fits = rest-fits.1;
-          faults = w.faults ∙ ap (firstFault c at) t.are ∙ f ∙ ap (λ (n : ℕ). firstFault c n t.rest) (sym next-at);
+          faults = w.faults ∙ ap (first_fault c at) t.are ∙ f ∙ ap (λ (n : ℕ). first_fault c n t.rest) (sym next-at);
           larges =
               w.larges
-              ∙ ap (λ (x : List Fields). big || anyLarge c x) t.are
+              ∙ ap (λ (x : List Fields). big || any_large c x) t.are
               ∙ ap (λ (x : Bool). big || x) (large-one c r t.rest)
-              ∙ sym (or_assoc big (large c r) (anyLarge c t.rest))
-              ∙ ap (λ (x : Bool). (big || x) || anyLarge c t.rest) (sym lr)
-              ∙ ap (λ (x : Bool). x || anyLarge c t.rest) (sym k);
-          sizes = omega (arith, w.sizes, ap (λ (x : List Fields). length (streamOf c x)) t.are, stream-length c r t.rest, sr);
+              ∙ sym (or_assoc big (large c r) (any_large c t.rest))
+              ∙ ap (λ (x : Bool). (big || x) || any_large c t.rest) (sym lr)
+              ∙ ap (λ (x : Bool). x || any_large c t.rest) (sym k);
+          sizes = omega (arith, w.sizes, ap (λ (x : List Fields). length (stream_of c x)) t.are, stream-length c r t.rest, sr);
           small = omega (arith, w.small, o.small);
         }
 
 -- at the sheet's end
 pub weighing-end : {c : Carrier} {s : List ℕ} {rs : List Fields} {at size : ℕ} {big : Bool} {r : Weighed} → Weighing c s rs at big size → length s ≤ at
-    → foundBy r ≡ judged 0 0 → r.large ≡ big → r.size ≡ size → Weighs c rs r
+    → found_by r ≡ judged 0 0 → r.large ≡ big → r.size ≡ size → Weighs c rs r
 weighing-end {c} {s} {rs} {at} {size} {big} w h e l k =
     let z : w.rest ≡ [] = standing-none w.standing h in
     record {
-      first = e ∙ sym (first-none c at) ∙ ap (firstFault c at) (sym z) ∙ sym w.faults;
+      first = e ∙ sym (first-none c at) ∙ ap (first_fault c at) (sym z) ∙ sym w.faults;
       large_is = λ _.
           l
           ∙ sym (or-false big)
           ∙ ap (λ (x : Bool). big || x) (sym (large-none c))
-          ∙ ap (λ (x : List Fields). big || anyLarge c x) (sym z)
+          ∙ ap (λ (x : List Fields). big || any_large c x) (sym z)
           ∙ sym w.larges;
-      size_is = λ _. omega (arith, k, w.sizes, ap (λ (x : List Fields). length (streamOf c x)) z, ap length (stream-none c));
+      size_is = λ _. omega (arith, k, w.sizes, ap (λ (x : List Fields). length (stream_of c x)) z, ap length (stream-none c));
     }

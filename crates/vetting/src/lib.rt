@@ -5,8 +5,8 @@ ghost use Rattle.std.specs.Prelude.{◌≡◌, ◌||◌, ◌+◌, ◌≤◌, ◌
 ghost use Rattle.judge.specs.Place.{judged};
 ghost use Rattle.taking.specs.Sheet.{FitsRecord};
 ghost use Rattle.taking.specs.Spot.{fields_at, Inside};
-ghost use Rattle.vetting.specs.Vetting.{vetRecords, vetOf, told, largeBy};
-ghost use Rattle.vetting.specs.Weighing.{recordsOf, TakenAs, shareOctets, faultAlone, WeighsOne, Weighs};
+ghost use Rattle.vetting.specs.Vetting.{vet_records, vet_of, told, large_by};
+ghost use Rattle.vetting.specs.Weighing.{records_of, TakenAs, share_octets, fault_alone, WeighsOne, Weighs};
 
 use carriers::Carrier;
 use judge::Side;
@@ -40,7 +40,7 @@ struct Weighed {
 }
 
 fn faulty(fault: usize, place: usize) -> Weighed
-    ensures { result ≡ faultAlone (judged fault place) }
+    ensures { result ≡ fault_alone (judged fault place) }
 {
     Weighed {
         fault,
@@ -53,7 +53,7 @@ fn faulty(fault: usize, place: usize) -> Weighed
 // Octets of a record: in carrier 1 of its instance, else of its option or attribute.
 fn share_size(c: Carrier, full: bool, nlen: usize, alen: usize, plen: usize) -> usize
     requires { (2 ≤ nlen) × (nlen + alen + plen < 65536) }
-    ensures { result ≡ shareOctets c full nlen alen plen }
+    ensures { result ≡ share_octets c full nlen alen plen }
 {
     let f = c.facts();
     if f.joined {
@@ -64,7 +64,7 @@ fn share_size(c: Carrier, full: bool, nlen: usize, alen: usize, plen: usize) -> 
 
 // Whether an option of `size` octets is too large for its carrier: only one whose length is in units of eight has such a limit.
 fn is_large(c: Carrier, size: usize) -> bool
-    ensures { result ≡ largeBy c size }
+    ensures { result ≡ large_by c size }
 {
     let f = c.facts();
     if f.eights {
@@ -117,7 +117,7 @@ fn weigh_record(c: Carrier, s: &[u8], p: Spot) -> Weighed
 // Weighs the records of a sheet, from its head's end on.
 fn weigh(c: Carrier, s: &[u8]) -> Weighed
     requires { TakenAs c s.now }
-    ensures { Weighs c (recordsOf s.now) result }
+    ensures { Weighs c (records_of s.now) result }
 {
     let mut at = sheets::FRONT;
     let mut large = false;
@@ -144,8 +144,8 @@ fn weigh(c: Carrier, s: &[u8]) -> Weighed
 // 21 to 28, or what is found of the `count` records of a sheet of carrier `c`.
 fn vet_records(c: Carrier, s: &[u8], count: usize) -> Vetted
     requires taken_as { TakenAs c s.now }
-    requires count_value { count ≡ length (recordsOf s.now) }
-    ensures { result ≡ told (vetRecords c (recordsOf s.now)) }
+    requires count_value { count ≡ length (records_of s.now) }
+    ensures { result ≡ told (vet_records c (records_of s.now)) }
 {
     let w = weigh(c, s);
     let fault = w.fault;
@@ -165,7 +165,7 @@ fn vet_records(c: Carrier, s: &[u8], count: usize) -> Vetted
 
 // Vets the sheet `s`.
 pub fn vet(s: &[u8]) -> Vetted
-    ensures { result ≡ told (vetOf s.now) }
+    ensures { result ≡ told (vet_of s.now) }
 {
     match taking::take(s) {
         Took::Refused(number) => Vetted::Refused { number, place: 0 },

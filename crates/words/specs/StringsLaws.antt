@@ -1,5 +1,5 @@
 -- The laws of C strings: the closing octet after what was written, and the words of every number, which are visible and fit. Assumes nothing.
-use Rattle.std.specs.Prelude.{◌≡◌, refl, Bool, true, false, cond, ◌&&◌, List, [], ◌∷◌, ◌++◌, ℕ, zero, suc, ◌+◌, ◌-◌, ◌≤◌, ◌<◌, min, eqb, leb, ltb, length, take, drop, set}
+use Rattle.std.specs.Prelude.{◌≡◌, refl, Bool, true, false, cond, ◌&&◌, List, [], ◌∷◌, ◌++◌, ℕ, zero, suc, ◌+◌, ◌-◌, ◌≤◌, ◌<◌, min, eq, leb, ltb, length, take, drop, set}
 use Rattle.std.proofs.Common.{sym, ap, ◌∙◌, append_assoc, arith, leb-true, leb-false, ltb-true, length-take, length-append, take_all, take-take, length-take-le}
 use Rattle.std.proofs.Math.Bool.{and-eq-true_iff}
 use Rattle.std.proofs.lemmas.List.{set_split, take-append-le}
@@ -8,7 +8,7 @@ use Rattle.octets.specs.OverLaws.{over-nil, over-behind, over-length}
 use Rattle.chars.specs.Puts.{Puts}
 use Rattle.chars.specs.PutsLaws.{puts-length}
 use Rattle.words.specs.Words.{Worded, table, unknown, words_in, words_of}
-use Rattle.words.specs.Strings.{cString, PutsString, visible, maxWords}
+use Rattle.words.specs.Strings.{c_string, PutsString, visible, max_words}
 
 -- ---- the closing octet
 
@@ -28,8 +28,8 @@ over-close k v a l h e f g =
     ∙ sym (append_assoc (take k a) (v ∷ []) (drop (0 + length (take k a ++ (v ∷ []))) l))
 
 -- a C string in a room of n octets, if it has any
-has_room : (n : ℕ) (text : List ℕ) → 0 < n → cString n text ≡ take (n - 1) text ++ (0 ∷ [])
-unfolding cString
+has_room : (n : ℕ) (text : List ℕ) → 0 < n → c_string n text ≡ take (n - 1) text ++ (0 ∷ [])
+unfolding c_string
 has_room zero text h = absurd (omega arith)
 has_room (suc n) text h =
     let e : n ≡ suc n - 1 = omega arith in
@@ -58,16 +58,16 @@ closing_at t n = omega arith
 
 -- where there is no room, nothing is written
 pub string-none : (text l : List ℕ) → length l ≡ 0 → PutsString text l 0 l
-unfolding cString
+unfolding c_string
 string-none text l e =
     record {
       size = omega arith;
-      laid = sym (ap (λ (n : ℕ). over 0 (cString n text) l) e ∙ over-nil 0 l);
+      laid = sym (ap (λ (n : ℕ). over 0 (c_string n text) l) e ∙ over-nil 0 l);
     }
 
 -- the octet 0 stored there closes what was laid over the front as far as there is room
 close : (text l : List ℕ) (k : ℕ) → 0 < length l → k ≡ min (length text) (length l - 1)
-    → set (over 0 (take (length l) text) l) k 0 ≡ over 0 (cString (length l) text) l
+    → set (over 0 (take (length l) text) l) k 0 ≡ over 0 (c_string (length l) text) l
 close text l k h e =
     let n : ℕ = length l in
     let cut : length (take n text) ≡ min n (length text) = length-take n text in
@@ -105,16 +105,16 @@ unfolding all words_in
 holds p [] k f = f
 holds p (w ∷ ws) k f =
     let q = (and-eq-true_iff (p w.words) (all p ws)).0 f in
-    go (eqb w.number k) q.0 (holds p ws k q.1)
+    go (eq w.number k) q.0 (holds p ws k q.1)
   where
     go : (b : Bool) → p w.words ≡ true → p (words_in ws k) ≡ true → p (cond b w.words (words_in ws k)) ≡ true
     go true here there = here
     go false here there = there
 
 -- they leave room for a closing octet
-pub words-fit : (k : ℕ) → length (words_of k) < maxWords
+pub words-fit : (k : ℕ) → length (words_of k) < max_words
 unfolding table all
-words-fit k = ltb-true _ _ (holds (λ x. ltb (length x) maxWords) table k refl)
+words-fit k = ltb-true _ _ (holds (λ x. ltb (length x) max_words) table k refl)
 
 -- and are visible
 pub words-visible : (k : ℕ) → visible (words_of k) ≡ true
@@ -122,7 +122,7 @@ unfolding table all visible
 words-visible k = holds visible table k refl
 
 -- so with that room, or more, a caller in C is given all of them
-pub words-whole : (k room : ℕ) → maxWords ≤ room → cString room (words_of k) ≡ words_of k ++ (0 ∷ [])
-unfolding cString
+pub words-whole : (k room : ℕ) → max_words ≤ room → c_string room (words_of k) ≡ words_of k ++ (0 ∷ [])
+unfolding c_string
 words-whole k zero h = absurd (omega arith)
 words-whole k (suc n) h = ap (λ (x : List ℕ). x ++ (0 ∷ [])) (take_all n (words_of k) (omega (arith, words-fit k)))

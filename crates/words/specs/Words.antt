@@ -1,5 +1,5 @@
 -- The numbers given back, in words (RULES R0 to R44), and why a name is no host name. Assumes nothing: these are definitions.
-use Rattle.std.specs.Prelude.{ℕ, cond, List, [], ◌∷◌, eqb}
+use Rattle.std.specs.Prelude.{ℕ, cond, List, [], ◌∷◌, eq}
 use Rattle.octets.specs.Lists.{same}
 use Rattle.numbers.specs.Refusal as refusal
 use Rattle.numbers.specs.Fault as fault
@@ -35,7 +35,7 @@ table =
     ∷ worded fault.padding (ascii "what follows the last field is not 0 to 7 zeros")
     ∷ worded refusal.sheet (ascii "not a record sheet: shorter than 7 octets, or not beginning with RSV")
     ∷ worded refusal.version (ascii "record sheet version not 1")
-    ∷ worded refusal.sheetCarrier (ascii "record sheet carrier not 1 to 5")
+    ∷ worded refusal.sheet_carrier (ascii "record sheet carrier not 1 to 5")
     ∷ worded refusal.tiling (ascii "the record sheet is damaged: lengths do not add up, a mode is not 0 or 1, priorities fall, or a lifetime stands where none belongs")
     ∷ worded refusal.large (ascii "router advertisement record above 2,040 octets")
     ∷ []
@@ -62,7 +62,7 @@ unknown = ascii "unknown number"
 -- the words of a number in a table; of any other, that it is unknown
 unfoldable pub words_in : List Worded → ℕ → List ℕ
 words_in [] k = unknown
-words_in (w ∷ ws) k = cond (eqb w.number k) w.words (words_in ws k)
+words_in (w ∷ ws) k = cond (eq w.number k) w.words (words_in ws k)
 
 -- the number of the first entry that has these words; of any other words, 0
 unfoldable pub number_in : List Worded → List ℕ → ℕ

@@ -2,7 +2,7 @@
 ghost use Rattle.std.specs.Prelude.{◌≡◌, ◌+◌, ◌≤◌, length, drop};
 ghost use Rattle.chars.specs.Puts.{Puts};
 ghost use Rattle.words.specs.Words.{words_in, words_of, reasons};
-ghost use Rattle.words.specs.Encoded.{wordsAt, number_at, breakAt};
+ghost use Rattle.words.specs.Encoded.{words_at, number_at, break_at};
 
 use chars::put_all;
 use octets::{same, wide};
@@ -67,7 +67,7 @@ pub fn put_reason(out: &mut [u8], at: usize, reason: usize) -> usize
 
 // Writes the words of a number in a table, or that it is unknown.
 pub fn put_found(out: &mut [u8], at: usize, number: usize, table: &[u8]) -> usize
-    ensures { Puts at (wordsAt number table.now) out.old result out.new }
+    ensures { Puts at (words_at number table.now) out.old result out.new }
 {
     let mut i = 0;
     while i < table.len() {
@@ -100,7 +100,7 @@ pub fn number_of(table: &[u8], word: &[u8]) -> usize
 // The index of the first line break of s at `from` or after it, or its end.
 pub fn line_end(s: &[u8], from: usize) -> usize
     requires { from ≤ length s.now }
-    ensures { (result ≡ from + breakAt (drop from s.now)) × (result ≤ length s.now) }
+    ensures { (result ≡ from + break_at (drop from s.now)) × (result ≤ length s.now) }
 {
     let mut i = from;
     while i < s.len() {

@@ -9,16 +9,16 @@ use Rattle.octets.specs.OverLaws.{over-length, then, wrote_none}
 use Rattle.carriers.specs.declared.Carrier.{Carrier}
 use Rattle.carriers.specs.declared.Carrier.TheVariants.{Dhcp4}
 use Rattle.carriers.specs.declared.Facts.{Facts}
-use Rattle.carriers.specs.Carriers.{facts_of, isJoined, Plain}
+use Rattle.carriers.specs.Carriers.{facts_of, is_joined, Plain}
 use Rattle.carriers.specs.CarriersLaws.{other-joined}
 use Rattle.blocks.specs.Block.{Fields}
 use Rattle.frames.specs.WalkLaws.{false-apart}
-use Rattle.pieces.specs.Pieces.{cut_of, cutOctets}
+use Rattle.pieces.specs.Pieces.{cut_of, cut_octets}
 use Rattle.pieces.specs.PiecesLaws.{cut-length}
-use Rattle.layouts.specs.Layouts.{ownOption, instanceOf, streamOf}
+use Rattle.layouts.specs.Layouts.{own_option, instance_of, stream_of}
 use Rattle.layouts.specs.Writable.{Writable}
-use Rattle.records.specs.Records.{headSize}
-use Rattle.sheets.specs.Sheets.{frontSize}
+use Rattle.records.specs.Records.{head_size}
+use Rattle.sheets.specs.Sheets.{front_size}
 use Rattle.taking.specs.declared.Spot.{Spot}
 use Rattle.taking.specs.Spot.{spot_of, fields_at, Inside}
 use Rattle.taking.specs.Standing.{Step}
@@ -26,18 +26,18 @@ use Rattle.taking.specs.StandingLaws.{stands-is, standing-none, standing-step, t
 use Rattle.taking.specs.Exactly.{sheet-taken}
 use Rattle.vetting.specs.Weighing.{cut_at, share_of}
 use Rattle.vetting.specs.WeighingLaws.{stream-none, stream-one, fields-cut}
-use Rattle.written.specs.Octets.{octetsOf}
+use Rattle.written.specs.Octets.{octets_of}
 use Rattle.written.specs.Accepted.{Sound}
 use Rattle.written.specs.AcceptedLaws.{writable}
-use Rattle.writing.specs.Laying.{recordsOf, Ready, Laying, total_of, Measured}
+use Rattle.writing.specs.Laying.{records_of, Ready, Laying, total_of, Measured}
 
 -- ---- by the carrier's row of the table
 
 module _ (c : Carrier) {f : Facts} (row : f ≡ facts_of c) where
-  pub row-joined : {b : Bool} → f.joined ≡ b → isJoined c ≡ b
+  pub row-joined : {b : Bool} → f.joined ≡ b → is_joined c ≡ b
   row-joined e = ap (λ (f : Facts). f.joined) (sym row) ∙ e
 
-  pub total-joined : (n : ℕ) → f.joined ≡ true → cutOctets n ≡ total_of c n
+  pub total-joined : (n : ℕ) → f.joined ≡ true → cut_octets n ≡ total_of c n
   total-joined n e = rw (row-joined e)
 
   pub total-other : (n : ℕ) → f.joined ≡ false → n ≡ total_of c n
@@ -49,15 +49,15 @@ module _ (c : Carrier) (n : c ≡ Dhcp4 → ⊥) where
   other-plain : Plain c
   other-plain = false-apart (other-joined c n)
 
-  other-share : (r : Fields) → ownOption c r ≡ share_of c r
+  other-share : (r : Fields) → own_option c r ≡ share_of c r
   other-share r = rw (other-joined c n)
 
 -- how many octets the result has
-pub total-octets : (c : Carrier) (rs : List Fields) → total_of c (length (streamOf c rs)) ≡ length (octetsOf c rs)
-unfolding octetsOf
-total-octets c rs = go (isJoined c) (streamOf c rs)
+pub total-octets : (c : Carrier) (rs : List Fields) → total_of c (length (stream_of c rs)) ≡ length (octets_of c rs)
+unfolding octets_of
+total-octets c rs = go (is_joined c) (stream_of c rs)
   where
-    go : (j : Bool) (l : List ℕ) → cond j (cutOctets (length l)) (length l) ≡ length (cond j (cut_of l) l)
+    go : (j : Bool) (l : List ℕ) → cond j (cut_octets (length l)) (length l) ≡ length (cond j (cut_of l) l)
     go true l = sym (cut-length l)
     go false l = refl
 
@@ -67,38 +67,38 @@ module _ (c : Carrier) (s : List ℕ) (p : Spot) (w : Writable c (fields_at s p)
   -- carrier 1
   module _ (e : c ≡ Dhcp4) where
     pub instance-asked : (at : ℕ) {n : ℕ} → at + length (share_of c (fields_at s p)) ≤ n
-        → Writable Dhcp4 (cut_at p.lifetime s p) × (at + length (instanceOf (cut_at p.lifetime s p)) ≤ n)
+        → Writable Dhcp4 (cut_at p.lifetime s p) × (at + length (instance_of (cut_at p.lifetime s p)) ≤ n)
     instance-asked at h = (subst⁻¹ (Writable Dhcp4) (fields-cut s p) (rw e at w), rw (fields-cut s p) (rw e at h))
 
-    pub instance-laid : {at : ℕ} {out out' : List ℕ} {r : ℕ} → Wrote at (instanceOf (cut_at p.lifetime s p)) out r out'
+    pub instance-laid : {at : ℕ} {out out' : List ℕ} {r : ℕ} → Wrote at (instance_of (cut_at p.lifetime s p)) out r out'
         → Wrote at (share_of c (fields_at s p)) out r out'
     instance-laid v = rw e (rw (fields-cut s p) at v)
 
   -- carriers 2 to 5
   module _ (n : c ≡ Dhcp4 → ⊥) where
-    option-cut : ownOption c (cut_at p.lifetime s p) ≡ share_of c (fields_at s p)
-    option-cut = ap (ownOption c) (fields-cut s p) ∙ other-share c n (fields_at s p)
+    option-cut : own_option c (cut_at p.lifetime s p) ≡ share_of c (fields_at s p)
+    option-cut = ap (own_option c) (fields-cut s p) ∙ other-share c n (fields_at s p)
 
     pub option-asked : (at : ℕ) {m : ℕ} → at + length (share_of c (fields_at s p)) ≤ m
-        → Plain c × (Writable c (cut_at p.lifetime s p) × (at + length (ownOption c (cut_at p.lifetime s p)) ≤ m))
+        → Plain c × (Writable c (cut_at p.lifetime s p) × (at + length (own_option c (cut_at p.lifetime s p)) ≤ m))
     option-asked at {m} h = (
       other-plain c n,
       (subst⁻¹ (Writable c) (fields-cut s p) w, subst⁻¹ (λ (l : List ℕ). at + length l ≤ m) option-cut h),
     )
 
-    pub option-laid : {at : ℕ} {out out' : List ℕ} {r : ℕ} → Wrote at (ownOption c (cut_at p.lifetime s p)) out r out'
+    pub option-laid : {at : ℕ} {out out' : List ℕ} {r : ℕ} → Wrote at (own_option c (cut_at p.lifetime s p)) out r out'
         → Wrote at (share_of c (fields_at s p)) out r out'
     option-laid {at} {out} {out'} {r} v = subst (λ (l : List ℕ). Wrote at l out r out') option-cut v
 
 -- ---- the pass
 
-pub laying-start : {c : Carrier} {s : List ℕ} {from : ℕ} {out : List ℕ} → Ready c s → from + length (streamOf c (recordsOf s)) ≤ length out
-    → Laying c s (recordsOf s) from out frontSize from out
+pub laying-start : {c : Carrier} {s : List ℕ} {from : ℕ} {out : List ℕ} → Ready c s → from + length (stream_of c (records_of s)) ≤ length out
+    → Laying c s (records_of s) from out front_size from out
 laying-start {c} {s} {from} {out} r h = record {
   done = [];
-  rest = recordsOf s;
+  rest = records_of s;
   are = refl;
-  standing = (taken-standing s (sheet-taken s c (recordsOf s) r.is)).0;
+  standing = (taken-standing s (sheet-taken s c (records_of s) r.is)).0;
   sound = r.sound;
   room = h;
   wrote = wrote_none (omega arith);
@@ -109,54 +109,54 @@ module _ {c : Carrier} {s : List ℕ} {rs : List Fields} {from at o : ℕ} {out 
   laying-length = ap length w.wrote.laid ∙ over-length from w.done out w.wrote.room
 
   -- at the sheet's end
-  pub laying-end : length s ≤ at → Wrote from (streamOf c rs) out o out'
+  pub laying-end : length s ≤ at → Wrote from (stream_of c rs) out o out'
   laying-end h =
       let z : w.rest ≡ [] = standing-none w.standing h in
-      let e : streamOf c rs ≡ w.done =
+      let e : stream_of c rs ≡ w.done =
       w.are
-      ∙ ap (λ (x : List Fields). w.done ++ streamOf c x) z
+      ∙ ap (λ (x : List Fields). w.done ++ stream_of c x) z
       ∙ ap (λ (x : List ℕ). w.done ++ x) (stream-none c)
       ∙ append-nil w.done in
       subst⁻¹ (λ (x : List ℕ). Wrote from x out o out') e w.wrote
 
   module _ {p : Spot} (e : p ≡ spot_of c s at) (h : at < length s) where
-    abbrev laying-step : Step c s at w.rest p
-    laying-step = standing-step e w.standing h
+    abbrev laying_step : Step c s at w.rest p
+    laying_step = standing-step e w.standing h
 
     pub laying-inside : Inside (length s) at p
-    laying-inside = laying-step.stands.inside
+    laying-inside = laying_step.stands.inside
 
-    pub laying-further : at + headSize ≤ p.next
-    laying-further = laying-inside.further laying-step.stands.good
+    pub laying-further : at + head_size ≤ p.next
+    laying-further = laying-inside.further laying_step.stands.good
 
-    rest-sound : All (Sound c) (laying-step.first ∷ laying-step.rest)
-    rest-sound = subst (All (Sound c)) laying-step.are w.sound
+    rest-sound : All (Sound c) (laying_step.first ∷ laying_step.rest)
+    rest-sound = subst (All (Sound c)) laying_step.are w.sound
 
     pub laying-writable : Writable c (fields_at s p)
-    laying-writable = subst⁻¹ (Writable c) (stands-is laying-step.stands) (writable c laying-step.first rest-sound.0)
+    laying-writable = subst⁻¹ (Writable c) (stands-is laying_step.stands) (writable c laying_step.first rest-sound.0)
 
     -- what is laid, this record and what follows
-    laying-parts : streamOf c rs ≡ (w.done ++ share_of c (fields_at s p)) ++ streamOf c laying-step.rest
+    laying-parts : stream_of c rs ≡ (w.done ++ share_of c (fields_at s p)) ++ stream_of c laying_step.rest
     laying-parts =
-        let t = laying-step in
+        let t = laying_step in
         w.are
-        ∙ ap (λ (x : List Fields). w.done ++ streamOf c x) t.are
+        ∙ ap (λ (x : List Fields). w.done ++ stream_of c x) t.are
         ∙ ap (λ (x : List ℕ). w.done ++ x) (stream-one c t.first t.rest)
-        ∙ ap (λ (x : Fields). w.done ++ (share_of c x ++ streamOf c t.rest)) (sym (stands-is t.stands))
-        ∙ sym (append_assoc w.done (share_of c (fields_at s p)) (streamOf c t.rest))
+        ∙ ap (λ (x : Fields). w.done ++ (share_of c x ++ stream_of c t.rest)) (sym (stands-is t.stands))
+        ∙ sym (append_assoc w.done (share_of c (fields_at s p)) (stream_of c t.rest))
 
     pub laying-room : o + length (share_of c (fields_at s p)) ≤ length out'
     laying-room =
         let d : List ℕ = w.done ++ share_of c (fields_at s p) in
-        let l = ap length laying-parts ∙ length-append d (streamOf c laying-step.rest) in
+        let l = ap length laying-parts ∙ length-append d (stream_of c laying_step.rest) in
         omega (arith, l, length-append w.done (share_of c (fields_at s p)), w.room, w.wrote.next, laying-length)
 
     pub laying-next : {o' : ℕ} {out'' : List ℕ} → Wrote o (share_of c (fields_at s p)) out' o' out'' → Laying c s rs from out p.next o' out''
     laying-next v = record {
       done = w.done ++ share_of c (fields_at s p);
-      rest = laying-step.rest;
+      rest = laying_step.rest;
       are = laying-parts;
-      standing = laying-step.standing;
+      standing = laying_step.standing;
       sound = rest-sound.1;
       room = w.room;
       wrote = then w.wrote v;
@@ -185,22 +185,22 @@ over-there k b l h =
     ∙ ap (take (length b)) (drop_at (take k l) (b ++ rest) k t)
     ∙ take_at b rest (length b) refl
 
-octets-joined : (c : Carrier) (rs : List Fields) → isJoined c ≡ true → octetsOf c rs ≡ cut_of (streamOf c rs)
-unfolding octetsOf
-octets-joined c rs e = ap (λ (j : Bool). cond j (cut_of (streamOf c rs)) (streamOf c rs)) e
+octets-joined : (c : Carrier) (rs : List Fields) → is_joined c ≡ true → octets_of c rs ≡ cut_of (stream_of c rs)
+unfolding octets_of
+octets-joined c rs e = ap (λ (j : Bool). cond j (cut_of (stream_of c rs)) (stream_of c rs)) e
 
-module _ {c : Carrier} (joins : isJoined c ≡ true) {s : List ℕ} {size total room : ℕ} (m : Measured c s size total room) where
+module _ {c : Carrier} (joins : is_joined c ≡ true) {s : List ℕ} {size total room : ℕ} (m : Measured c s size total room) where
   -- where the instances are joined
-  pub joined-place : (size ≤ total) × (total - size + size ≡ cutOctets size) × (total - size + length (streamOf c (recordsOf s)) ≤ room)
+  pub joined-place : (size ≤ total) × (total - size + size ≡ cut_octets size) × (total - size + length (stream_of c (records_of s)) ≤ room)
   joined-place =
-      let t : total ≡ cutOctets size = m.totals ∙ ap (λ (j : Bool). cond j (cutOctets size) size) joins in
+      let t : total ≡ cut_octets size = m.totals ∙ ap (λ (j : Bool). cond j (cut_octets size) size) joins in
       (omega (arith, t), omega (arith, t), omega (arith, t, m.sizes, m.fits))
 
-  pub joined-cut : {out out₁ out₂ : List ℕ} {o r : ℕ} → Wrote (total - size) (streamOf c (recordsOf s)) out o out₁
-      → Wrote 0 (cut_of (take size (drop (total - size) out₁))) out₁ r out₂ → Wrote 0 (octetsOf c (recordsOf s)) out r out₂
+  pub joined-cut : {out out₁ out₂ : List ℕ} {o r : ℕ} → Wrote (total - size) (stream_of c (records_of s)) out o out₁
+      → Wrote 0 (cut_of (take size (drop (total - size) out₁))) out₁ r out₂ → Wrote 0 (octets_of c (records_of s)) out r out₂
   joined-cut {out} {out₁} {out₂} {o} {r} w v =
       let from : ℕ = total - size in
-      let joined : List ℕ = streamOf c (recordsOf s) in
+      let joined : List ℕ = stream_of c (records_of s) in
       let there : take size (drop from out₁) ≡ joined =
       ap (λ (l : List ℕ). take size (drop from l)) w.laid
       ∙ ap (λ (n : ℕ). take n (drop from (over from joined out))) m.sizes
@@ -212,17 +212,17 @@ module _ {c : Carrier} (joins : isJoined c ≡ true) {s : List ℕ} {size total 
         next = u.next;
         laid = u.laid ∙ ap (over 0 (cut_of joined)) w.laid ∙ over-covers from (cut_of joined) joined out long w.room;
       } in
-      subst⁻¹ (λ (l : List ℕ). Wrote 0 l out r out₂) (octets-joined c (recordsOf s) joins) all
+      subst⁻¹ (λ (l : List ℕ). Wrote 0 l out r out₂) (octets-joined c (records_of s) joins) all
 
 -- ---- the other carriers
 
-module _ (c : Carrier) (other : isJoined c ≡ false) where
-  pub stream-room : {s : List ℕ} {size total room : ℕ} → Measured c s size total room → 0 + length (streamOf c (recordsOf s)) ≤ room
+module _ (c : Carrier) (other : is_joined c ≡ false) where
+  pub stream-room : {s : List ℕ} {size total room : ℕ} → Measured c s size total room → 0 + length (stream_of c (records_of s)) ≤ room
   stream-room {s} {size} {total} m =
-      let e : total ≡ size = m.totals ∙ ap (λ (j : Bool). cond j (cutOctets size) size) other in
+      let e : total ≡ size = m.totals ∙ ap (λ (j : Bool). cond j (cut_octets size) size) other in
       omega (arith, m.sizes, m.fits, e)
 
-  pub stream-laid : (rs : List Fields) {out out' : List ℕ} {r : ℕ} → Wrote 0 (streamOf c rs) out r out' → Wrote 0 (octetsOf c rs) out r out'
-  unfolding octetsOf
+  pub stream-laid : (rs : List Fields) {out out' : List ℕ} {r : ℕ} → Wrote 0 (stream_of c rs) out r out' → Wrote 0 (octets_of c rs) out r out'
+  unfolding octets_of
   stream-laid rs {out} {out'} {r} w =
-      subst⁻¹ (λ (j : Bool). Wrote 0 (cond j (cut_of (streamOf c rs)) (streamOf c rs)) out r out') other w
+      subst⁻¹ (λ (j : Bool). Wrote 0 (cond j (cut_of (stream_of c rs)) (stream_of c rs)) out r out') other w

@@ -4,15 +4,15 @@
 ghost use Rattle.std.specs.Prelude.{◌≡◌, true, ◌+◌, ◌*◌, ◌≤◌, length};
 ghost use Rattle.octets.specs.Over.{Wrote};
 ghost use Rattle.numbers.specs.Limit as limit;
-ghost use Rattle.carriers.specs.Carriers.{isJoined};
+ghost use Rattle.carriers.specs.Carriers.{is_joined};
 ghost use Rattle.layouts.specs.Writable.{Writable};
 ghost use Rattle.taking.specs.Spot.{fields_at, Inside};
-ghost use Rattle.layouts.specs.Layouts.{streamOf};
+ghost use Rattle.layouts.specs.Layouts.{stream_of};
 ghost use Rattle.vetting.specs.Weighing.{share_of, most};
-ghost use Rattle.written.specs.Writing.{writeRecords, writeOf};
+ghost use Rattle.written.specs.Writing.{write_records, write_of};
 ghost use Rattle.answers.specs.Answers.{Writes};
-ghost use Rattle.written.specs.Octets.{octetsOf};
-ghost use Rattle.writing.specs.Laying.{recordsOf, Found, Ready, total_of, Measured};
+ghost use Rattle.written.specs.Octets.{octets_of};
+ghost use Rattle.writing.specs.Laying.{records_of, Found, Ready, total_of, Measured};
 
 use answers::{Result, refused};
 use blocks::Head;
@@ -56,8 +56,8 @@ fn put_record(out: &mut [u8], at: usize, c: Carrier, s: &[u8], p: Spot) -> usize
 // Speed.)
 fn put_stream(out: &mut [u8], from: usize, c: Carrier, s: &[u8]) -> usize
     requires ready { Ready c s.now }
-    requires s_in_bounds { from + length (streamOf c (recordsOf s.now)) ≤ length out.old }
-    ensures { Wrote from (streamOf c (recordsOf s.now)) out.old result out.new }
+    requires s_in_bounds { from + length (stream_of c (records_of s.now)) ≤ length out.old }
+    ensures { Wrote from (stream_of c (records_of s.now)) out.old result out.new }
 {
     let mut next = sheets::FRONT;
     let mut at = from;
@@ -84,10 +84,10 @@ fn total_size(c: Carrier, size: usize) -> usize
 // Carrier 1: the instances of `size` octets are joined where the result of `total` octets ends, and then cut into options from its
 // front on.
 fn put_joined(out: &mut [u8], c: Carrier, s: &[u8], size: usize, total: usize) -> usize
-    requires c_value { isJoined c ≡ true }
+    requires c_value { is_joined c ≡ true }
     requires ready { Ready c s.now }
     requires measured { Measured c s.now size total (length out.old) }
-    ensures { Wrote 0 (octetsOf c (recordsOf s.now)) out.old result out.new }
+    ensures { Wrote 0 (octets_of c (records_of s.now)) out.old result out.new }
 {
     let from = total - size;
     put_stream(out, from, c, s);
@@ -98,7 +98,7 @@ fn put_joined(out: &mut [u8], c: Carrier, s: &[u8], size: usize, total: usize) -
 fn put_octets(out: &mut [u8], c: Carrier, s: &[u8], size: usize, total: usize) -> usize
     requires ready { Ready c s.now }
     requires measured { Measured c s.now size total (length out.old) }
-    ensures { Wrote 0 (octetsOf c (recordsOf s.now)) out.old result out.new }
+    ensures { Wrote 0 (octets_of c (records_of s.now)) out.old result out.new }
 {
     let f = c.facts();
     if f.joined {
@@ -112,7 +112,7 @@ fn put_octets(out: &mut [u8], c: Carrier, s: &[u8], size: usize, total: usize) -
 // 44, 5, or the octets of a vetted sheet of carrier `c`, whose records have `size` octets; `large`: one of them is large.
 fn write_sheet(c: Carrier, s: &[u8], large: bool, size: usize, out: &mut [u8]) -> Result
     requires { Found c s.now large size }
-    ensures { Writes (writeRecords c (recordsOf s.now) (length out.old)) out.old result out.new }
+    ensures { Writes (write_records c (records_of s.now) (length out.old)) out.old result out.new }
 {
     let total = total_size(c, size);
     if large {
@@ -127,7 +127,7 @@ fn write_sheet(c: Carrier, s: &[u8], large: bool, size: usize, out: &mut [u8]) -
 
 // Writes the octets of the record sheet `s` to `out`.
 pub fn write(s: &[u8], out: &mut [u8]) -> Result
-    ensures { Writes (writeOf s.now (length out.old)) out.old result out.new }
+    ensures { Writes (write_of s.now (length out.old)) out.old result out.new }
 {
     match vetting::vet(s) {
         Vetted::Refused { number, place } => refused(number, place),

@@ -6,14 +6,14 @@ use Rattle.numbers.specs.Refusal as refusal
 use Rattle.numbers.specs.Limit as limit
 use Rattle.carriers.specs.declared.Carrier.{Carrier}
 use Rattle.carriers.specs.declared.Carrier.TheVariants.{Router}
-use Rattle.blocks.specs.Block.{Fields, optionSize}
+use Rattle.blocks.specs.Block.{Fields, option_size}
 use Rattle.judge.specs.declared.Side.TheVariants.{Writing}
 use Rattle.judge.specs.Allowed.{Allowed}
 use Rattle.taking.specs.Sheet.{FitsRecord, IsSheet}
 
 -- in carrier 3 a record's option has at most 2,040 octets (RULES R44, L6)
 abbrev pub Sized : Carrier → Fields → Type 0
-Sized c r = c ≡ Router → optionSize r ≤ limit.option
+Sized c r = c ≡ Router → option_size r ≤ limit.option
 
 -- a record that writing accepts: its fields fit a sheet's record (RULES S2, S4), the RFCs and the limits allow it with no address to be dropped
 -- (RULES R21 to R28), and its option is not too large (RULES R44)

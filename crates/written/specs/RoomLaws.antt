@@ -5,31 +5,31 @@ use Rattle.std.proofs.Common.{ap, arith}
 use Rattle.numbers.specs.Refusal as refusal
 use Rattle.carriers.specs.declared.Carrier.{Carrier}
 use Rattle.blocks.specs.Block.{Fields}
-use Rattle.vetting.specs.Vetting.{Vetted, anyLarge, vetOf}
+use Rattle.vetting.specs.Vetting.{Vetted, any_large, vet_of}
 use Rattle.vetting.specs.Vetting as vetting
-use Rattle.written.specs.Writing.{inRoom, writeRecords, writeVetted, writeOf}
+use Rattle.written.specs.Writing.{in_room, write_records, write_vetted, write_of}
 use Rattle.answers.specs.Answers.{refuse, written}
-use Rattle.written.specs.Octets.{octetsOf}
+use Rattle.written.specs.Octets.{octets_of}
 
 module _ {octets : List ℕ} where
   refused : {k p : ℕ} → refuse k p ≡ written octets → ⊥
   refused e = let z : ◌≡◌ {A = ℕ} 0 1 = cc in omega arith
 
-  records-so : (c : Carrier) (rs : List Fields) (a b : ℕ) → writeRecords c rs a ≡ written octets → writeRecords c rs b ≡ inRoom octets b
-  records-so c rs a b = go (anyLarge c rs) (ltb a (length (octetsOf c rs)))
+  records-so : (c : Carrier) (rs : List Fields) (a b : ℕ) → write_records c rs a ≡ written octets → write_records c rs b ≡ in_room octets b
+  records-so c rs a b = go (any_large c rs) (ltb a (length (octets_of c rs)))
     where
       go : (big short : Bool)
-          → cond big (refuse refusal.large 0) (cond short (refuse refusal.room 0) (written (octetsOf c rs))) ≡ written octets
-          → cond big (refuse refusal.large 0) (inRoom (octetsOf c rs) b) ≡ inRoom octets b
+          → cond big (refuse refusal.large 0) (cond short (refuse refusal.room 0) (written (octets_of c rs))) ≡ written octets
+          → cond big (refuse refusal.large 0) (in_room (octets_of c rs) b) ≡ in_room octets b
       go true short e = absurd (refused e)
       go false true e = absurd (refused e)
-      go false false e = let i : octetsOf c rs ≡ octets = cc in ap (λ (l : List ℕ). inRoom l b) i
+      go false false e = let i : octets_of c rs ≡ octets = cc in ap (λ (l : List ℕ). in_room l b) i
 
-  vetted-so : (v : Vetted) (a b : ℕ) → writeVetted v a ≡ written octets → writeVetted v b ≡ inRoom octets b
+  vetted-so : (v : Vetted) (a b : ℕ) → write_vetted v a ≡ written octets → write_vetted v b ≡ in_room octets b
   vetted-so (vetting.refuse k p) a b e = absurd (refused e)
   vetted-so (vetting.sheet c rs) a b e = records-so c rs a b e
 
   -- done in room a, it is in room b done with the same octets, or refused by 5
-  pub room-decides : (s : List ℕ) (a b : ℕ) → writeOf s a ≡ written octets → writeOf s b ≡ inRoom octets b
-  unfolding writeOf
-  room-decides s a b e = vetted-so (vetOf s) a b e
+  pub room-decides : (s : List ℕ) (a b : ℕ) → write_of s a ≡ written octets → write_of s b ≡ in_room octets b
+  unfolding write_of
+  room-decides s a b e = vetted-so (vet_of s) a b e

@@ -4,24 +4,24 @@ use Rattle.std.specs.Prelude.{cond, List, ℕ, ltb, length}
 use Rattle.numbers.specs.Refusal as refusal
 use Rattle.carriers.specs.declared.Carrier.{Carrier}
 use Rattle.blocks.specs.Block.{Fields}
-use Rattle.vetting.specs.Vetting.{Vetted, anyLarge, vetOf}
+use Rattle.vetting.specs.Vetting.{Vetted, any_large, vet_of}
 use Rattle.vetting.specs.Vetting as vetting
 use Rattle.answers.specs.Answers.{Answer, refuse, written}
-use Rattle.written.specs.Octets.{octetsOf}
+use Rattle.written.specs.Octets.{octets_of}
 
 -- 5, or the octets, by the room for them
-abbrev pub inRoom : List ℕ → ℕ → Answer
-inRoom octets room = cond (ltb room (length octets)) (refuse refusal.room 0) (written octets)
+abbrev pub in_room : List ℕ → ℕ → Answer
+in_room octets room = cond (ltb room (length octets)) (refuse refusal.room 0) (written octets)
 
 -- 44, then 5
-abbrev pub writeRecords : Carrier → List Fields → ℕ → Answer
-writeRecords c rs room = cond (anyLarge c rs) (refuse refusal.large 0) (inRoom (octetsOf c rs) room)
+abbrev pub write_records : Carrier → List Fields → ℕ → Answer
+write_records c rs room = cond (any_large c rs) (refuse refusal.large 0) (in_room (octets_of c rs) room)
 
 -- 2, 40, 41, 42, 4, 43, 21 to 28
-abbrev pub writeVetted : Vetted → ℕ → Answer
-writeVetted (vetting.refuse k p) room = refuse k p
-writeVetted (vetting.sheet c rs) room = writeRecords c rs room
+abbrev pub write_vetted : Vetted → ℕ → Answer
+write_vetted (vetting.refuse k p) room = refuse k p
+write_vetted (vetting.sheet c rs) room = write_records c rs room
 
 -- writing a sheet to an output buffer of `room` octets
-unfoldable pub writeOf : List ℕ → ℕ → Answer
-writeOf s room = writeVetted (vetOf s) room
+unfoldable pub write_of : List ℕ → ℕ → Answer
+write_of s room = write_vetted (vet_of s) room

@@ -6,8 +6,8 @@ use Rattle.names.specs.Names.{IsName, FirstBad}
 use Rattle.blocks.specs.Block.{Fields}
 use Rattle.judge.specs.declared.Side.TheVariants.{Writing}
 use Rattle.judge.specs.Allowed.{Allowed}
-use Rattle.records.specs.Records.{headSize}
-use Rattle.sheets.specs.Sheets.{frontSize, recordsOf}
+use Rattle.records.specs.Records.{head_size}
+use Rattle.sheets.specs.Sheets.{front_size, records_of}
 use Rattle.taking.specs.Sheet.{IsSheet}
 
 -- the sheet s has a record whose name is wrong, and those before it are allowed: its name stands in s from `start` on, after the sheet's head, the records
@@ -21,7 +21,7 @@ pub record WrongName (s : List ℕ) (p : ℕ) : Type 0 where
   pub allowed : All (Allowed Writing carrier) before
   pub service : wrong.priority ≡ 0 → ⊥
   pub start : ℕ
-  pub starts : start ≡ frontSize + length (recordsOf carrier before) + headSize
+  pub starts : start ≡ front_size + length (records_of carrier before) + head_size
   pub stands : Stands wrong.name start s
   pub from : start ≤ p
   pub bad : FirstBad IsName wrong.name (p - start)

@@ -11,7 +11,7 @@ use lib.ListN.{length, take, drop, length-append}
 use Rattle.octets.specs.Lists.{flat}
 use Rattle.octets.specs.Over.{Wrote}
 use Rattle.octets.specs.OverLaws.{then, wrote_none}
-use Rattle.addresses.specs.Addresses.{Width, unusable, list_of, keptOf}
+use Rattle.addresses.specs.Addresses.{Width, unusable, list_of, kept_of}
 use Rattle.addresses.specs.AddressesLaws.{part-wide, kept-drop, kept-keep, kept-end}
 use Rattle.addresses.proofs.put_kept.Statement.{statement}
 use Rattle.addresses.proofs.put_kept.Tie as tie
@@ -21,16 +21,16 @@ record Keeping (w : ℕ) (s : List ℕ) (o : ℕ) (out₀ : List ℕ) (at next :
   passed : List ℕ
   within : at ≤ length s
   wrote : Wrote o passed out₀ next out
-  whole : flat (keptOf w (list_of w s)) ≡ passed ++ flat (keptOf w (list_of w (drop at s)))
+  whole : flat (kept_of w (list_of w s)) ≡ passed ++ flat (kept_of w (list_of w (drop at s)))
   same : length out ≡ length out₀
 
 module _ {w : ℕ} {s : List ℕ} {o : ℕ} {out₀ : List ℕ} where
-  keeping_start : o + length (flat (keptOf w (list_of w s))) ≤ length out₀ → Keeping w s o out₀ 0 o out₀
+  keeping_start : o + length (flat (kept_of w (list_of w s))) ≤ length out₀ → Keeping w s o out₀ 0 o out₀
   keeping_start h = record { passed = []; within = omega arith; wrote = wrote_none (omega arith); whole = refl; same = refl }
 
-  keeping-done : {at next : ℕ} {out : List ℕ} → length s - at < w → Keeping w s o out₀ at next out → Wrote o (flat (keptOf w (list_of w s))) out₀ next out
+  keeping-done : {at next : ℕ} {out : List ℕ} → length s - at < w → Keeping w s o out₀ at next out → Wrote o (flat (kept_of w (list_of w s))) out₀ next out
   keeping-done {at} h k =
-      let e : flat (keptOf w (list_of w s)) ≡ k.passed = k.whole ∙ rw (kept-end w s at h) (append-nil k.passed) in
+      let e : flat (kept_of w (list_of w s)) ≡ k.passed = k.whole ∙ rw (kept-end w s at h) (append-nil k.passed) in
       rw e k.wrote
 
   module _ {at next : ℕ} {out : List ℕ} {r : Bool} (wide : Width w) (h : w ≤ length s - at) (e : r ≡ unusable w (take (at + w - at) (drop at s)))
@@ -47,14 +47,14 @@ module _ {w : ℕ} {s : List ℕ} {o : ℕ} {out₀ : List ℕ} where
         }
 
     module _ (t : not r ≡ true) where
-      keeping-whole : flat (keptOf w (list_of w s)) ≡ k.passed ++ take w (drop at s) ++ flat (keptOf w (list_of w (drop (at + w) s)))
+      keeping-whole : flat (kept_of w (list_of w s)) ≡ k.passed ++ take w (drop at s) ++ flat (kept_of w (list_of w (drop (at + w) s)))
       keeping-whole =
           k.whole
           ∙ ap (λ (l : List (List ℕ)). k.passed ++ flat l) (kept-keep w s at wide h e t)
-          ∙ sym (append_assoc k.passed (take w (drop at s)) (flat (keptOf w (list_of w (drop (at + w) s)))))
+          ∙ sym (append_assoc k.passed (take w (drop at s)) (flat (kept_of w (list_of w (drop (at + w) s)))))
 
       -- an address that is kept has room
-      keeping-room : o + length (flat (keptOf w (list_of w s))) ≤ length out₀ → next + length (take (at + w - at) (drop at s)) ≤ length out
+      keeping-room : o + length (flat (kept_of w (list_of w s))) ≤ length out₀ → next + length (take (at + w - at) (drop at s)) ≤ length out
       keeping-room room = rw add-sub_cancel_left (omega (arith, k.wrote.next, k.same, simp length-append at (ap length keeping-whole)))
 
       -- an address that is kept, written

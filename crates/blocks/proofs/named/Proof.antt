@@ -3,7 +3,7 @@ use mathlib.Core.Path.{refl, sym}
 use native.Mathlib.Omega.{arith}
 use borrow.Author.Rules.{rules}
 use Rattle.carriers.specs.CarriersLaws.{length-width}
-use Rattle.blocks.specs.Parse.{afterName}
+use Rattle.blocks.specs.Parse.{after_name}
 use Rattle.blocks.specs.PlacesLaws.{fixed-cut, name-cut, named-opens, named-alone, named-followed, no-lifetime, alone-ranged}
 use Rattle.blocks.proofs.named.Statement.{statement}
 use Rattle.blocks.proofs.named.Tie as tie
@@ -16,7 +16,7 @@ returns c =
     let k = c.before in
     let start = k.before.before in
     let opens = named-opens _ _ start.requires in
-    (fixed-cut _ _ (afterName start.args.carrier) opens (sym start.requires.0) k.length-width.ensures refl (omega arith), (tt, tt))
+    (fixed-cut _ _ (after_name start.args.carrier) opens (sym start.requires.0) k.length-width.ensures refl (omega arith), (tt, tt))
 
 get-number-requires : tie.Need-get-number-requires
 get-number-requires c κs = (omega arith, omega (arith, length-width c.before.before.before.before.args.carrier))
@@ -25,7 +25,7 @@ returns-2 : tie.Need-returns-2
 returns-2 c =
     let k = c.before.before.before.before in
     let start = k.before.before in (
-      name-cut _ _ (afterName start.args.carrier) (named-opens _ _ start.requires) (sym start.requires.0) k.length-width.ensures refl (omega arith)
+      name-cut _ _ (after_name start.args.carrier) (named-opens _ _ start.requires) (sym start.requires.0) k.length-width.ensures refl (omega arith)
           c.before.get-number.ensures.0 (omega arith),
       (tt, tt),
     )

@@ -4,17 +4,17 @@ use native.Mathlib.Omega.{arith}
 use borrow.Author.Rules.{rules}
 use Rattle.octets.specs.NumbersLaws.{number-16}
 use Rattle.carriers.specs.declared.Carrier.TheVariants.{Router}
-use Rattle.blocks.specs.Parse.{afterNamePadded}
+use Rattle.blocks.specs.Parse.{after_name_padded}
 use Rattle.blocks.specs.PlacesLaws.{fixed-cut, name-cut, router-opens, router-alone, router-unpadded, router-followed, router-numbers, alone-ranged}
 use Rattle.blocks.proofs.router.Statement.{statement}
 use Rattle.blocks.proofs.router.Tie as tie
 
 returns : tie.Need-returns
-returns c = (fixed-cut Router _ afterNamePadded (router-opens _) refl refl refl (omega arith), (tt, tt))
+returns c = (fixed-cut Router _ after_name_padded (router-opens _) refl refl refl (omega arith), (tt, tt))
 
 returns-2 : tie.Need-returns-2
 returns-2 c = (
-  name-cut Router _ afterNamePadded (router-opens _) refl refl refl (omega arith) (c.before.get162.ensures.0 ∙ number-16 _ 6 (omega arith))
+  name-cut Router _ after_name_padded (router-opens _) refl refl refl (omega arith) (c.before.get162.ensures.0 ∙ number-16 _ 6 (omega arith))
       (omega arith),
   (tt, tt),
 )

@@ -5,13 +5,13 @@ use mathlib.Core.Path.{◌≡◌, refl}
 use mathlib.Core.Bool.{true}
 use Prim.Native.Nat.{◌-◌, ◌≤◌}
 use lib.ListN.{length, take, length-set}
-use Rattle.boundaries.specs.Filling.{allFilled}
+use Rattle.boundaries.specs.Filling.{all_filled}
 use Rattle.boundaries.specs.FillingLaws.{filled_none, filled-store, filled-whole}
 use Rattle.boundaries.proofs.fill.Statement.{statement}
 use Rattle.boundaries.proofs.fill.Tie as tie
 
 abbrev invariant-loop : tie.invariant-loop
-invariant-loop out₀ i₀ out i = (i ≤ length out) × (length out ≡ length out₀) × (allFilled (take i out) ≡ true)
+invariant-loop out₀ i₀ out i = (i ≤ length out) × (length out ≡ length out₀) × (all_filled (take i out) ≡ true)
 
 abbrev decreases-loop : tie.decreases-loop
 decreases-loop out₀ i₀ out i = length out - i

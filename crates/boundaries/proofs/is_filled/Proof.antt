@@ -3,13 +3,13 @@ use native.Mathlib.Omega.{arith}
 use mathlib.Core.Path.{◌≡◌, refl, ◌∙◌}
 use Prim.Native.Nat.{◌-◌, ◌≤◌}
 use lib.ListN.{length, drop}
-use Rattle.boundaries.specs.Filling.{allFilled}
+use Rattle.boundaries.specs.Filling.{all_filled}
 use Rattle.boundaries.specs.FillingLaws.{filled-turn, filled-not, filled-end}
 use Rattle.boundaries.proofs.is_filled.Statement.{statement}
 use Rattle.boundaries.proofs.is_filled.Tie as tie
 
 abbrev invariant-loop : tie.invariant-loop
-invariant-loop s i₀ i = (i ≤ length s) × (allFilled (drop i s) ≡ allFilled s)
+invariant-loop s i₀ i = (i ≤ length s) × (all_filled (drop i s) ≡ all_filled s)
 
 abbrev decreases-loop : tie.decreases-loop
 decreases-loop s i₀ i = length s - i

@@ -3,13 +3,13 @@ use mathlib.Core.Path.{◌≡◌, refl, sym, ◌∙◌}
 use Prim.Native.Nat.{◌-◌, ◌≤◌}
 use native.Mathlib.Omega.{arith}
 use borrow.Author.Rules.{rules}
-use Rattle.command.specs.Hints.{hintFrom, hintOf}
+use Rattle.command.specs.Hints.{hint_from, hint_of}
 use Rattle.command.specs.HintsLaws.{hint-here, hint-other, hint-none}
 use Rattle.command.proofs.hint.Statement.{statement}
 use Rattle.command.proofs.hint.Tie as tie
 
 abbrev invariant-loop : tie.invariant-loop
-invariant-loop carrier area k₀ k = (hintFrom (6 - k) k carrier area ≡ hintOf carrier area) × (k ≤ 6)
+invariant-loop carrier area k₀ k = (hint_from (6 - k) k carrier area ≡ hint_of carrier area) × (k ≤ 6)
 
 abbrev decreases-loop : tie.decreases-loop
 decreases-loop carrier area k₀ k = 6 - k

@@ -9,7 +9,7 @@ use Rattle.findings.proofs.past_padding.Statement.{statement}
 use Rattle.findings.proofs.past_padding.Tie as tie
 
 abbrev invariant-loop : tie.invariant-loop
-invariant-loop rest i₀ i = (i ≤ length rest) × (i < 8) × (troubles.pastPadding 0 rest ≡ troubles.pastPadding i (drop i rest))
+invariant-loop rest i₀ i = (i ≤ length rest) × (i < 8) × (troubles.past_padding 0 rest ≡ troubles.past_padding i (drop i rest))
 
 abbrev decreases-loop : tie.decreases-loop
 decreases-loop rest i₀ i = length rest - i

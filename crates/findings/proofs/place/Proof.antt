@@ -7,7 +7,7 @@ use borrow.Author.Rules.{rules}
 use lib.ListN.{length}
 use Rattle.carriers.specs.declared.Carrier.TheVariants.{Dhcp4}
 use Rattle.frames.specs.declared.Step.{Step}
-use Rattle.frames.specs.Step.{stepAt}
+use Rattle.frames.specs.Step.{step_at}
 use Rattle.frames.specs.Laws.{step_block, step-skipped}
 use Rattle.findings.specs.PlacingLaws.{Placing, placing-start, placing-found, placing-block, placing-skipped, placing-end, placing-fault}
 use Rattle.findings.proofs.place.Statement.{statement}
@@ -22,12 +22,12 @@ decreases-loop area j at₀ last₀ left₀ at last left = length area - at
 -- in the arms of a block and of a skipped option: the step that was taken
 block : (c : tie.After-start invariant-loop decreases-loop)
     → let l = c.before.before.before in
-    stepAt Dhcp4 l.before.before.args.area.now l.loop.at ≡ Step.Block c.start.given.0.0 c.start.given.0.1.0
+    step_at Dhcp4 l.before.before.args.area.now l.loop.at ≡ Step.Block c.start.given.0.0 c.start.given.0.1.0
 block c = sym c.before.before.next-block.ensures.0 ∙ c.start.given.1
 
 skipped : (c : tie.After-end invariant-loop decreases-loop)
     → let l = c.before.before.before in
-    stepAt Dhcp4 l.before.before.args.area.now l.loop.at ≡ Step.Skipped c.end.given.0.0
+    step_at Dhcp4 l.before.before.args.area.now l.loop.at ≡ Step.Skipped c.end.given.0.0
 skipped c = sym c.before.before.next-block.ensures.0 ∙ c.end.given.1
 
 loop-holds : tie.Need-loop-init invariant-loop decreases-loop

@@ -2,12 +2,12 @@
 use mathlib.Core.Path.{◌≡◌}
 use native.Mathlib.Omega.{arith}
 use borrow.Author.Rules.{rules}
-use Rattle.forms.specs.Forms.{lineEnd}
+use Rattle.forms.specs.Forms.{line_end}
 use Rattle.forms.specs.FormsLaws.{line-end, headed-late, headed-first, headed-none, headed-octets, headed-bad, headed-long, dump-within}
 use Rattle.forms.proofs.read_headed.Statement.{statement}
 use Rattle.forms.proofs.read_headed.Tie as tie
 
-first-line : (p : tie.After-place) → p.place.result ≡ lineEnd p.before.before.before.before.args.text.now
+first-line : (p : tie.After-place) → p.place.result ≡ line_end p.before.before.before.before.args.text.now
 first-line p =
     let b = p.before in
     line-end b.begin.result p.place.result b.before.before.before.args.text.now b.begin.ensures.0 p.place.ensures.0

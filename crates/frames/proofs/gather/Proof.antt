@@ -9,7 +9,7 @@ use lib.ListN.{length}
 use Rattle.carriers.specs.declared.Carrier.TheVariants.{Dhcp4}
 use Rattle.frames.specs.declared.Gathered.TheVariants.{Absent}
 use Rattle.frames.specs.declared.Step.{Step}
-use Rattle.frames.specs.Step.{stepAt}
+use Rattle.frames.specs.Step.{step_at}
 use Rattle.frames.specs.Laws.{step_block, step-skipped}
 use Rattle.frames.specs.GatherLaws.{Gathering, gathering-start, gathering-first, gathering-second, gathering-skipped, gathering-end, gathering-fault}
 use Rattle.frames.proofs.gather.Statement.{statement}
@@ -24,12 +24,12 @@ decreases-loop area at₀ from₀ found₀ at from found = length area - at
 -- in the arms of a block and of a skipped option: the step that was taken
 block : (c : tie.After-start invariant-loop decreases-loop)
     → let l = c.before.before.before in
-    stepAt Dhcp4 l.before.before.args.area.now l.loop.at ≡ Step.Block c.start.given.0.0 c.start.given.0.1.0
+    step_at Dhcp4 l.before.before.args.area.now l.loop.at ≡ Step.Block c.start.given.0.0 c.start.given.0.1.0
 block c = sym c.before.before.next-block.ensures.0 ∙ c.start.given.1
 
 skipped : (c : tie.After-end invariant-loop decreases-loop)
     → let l = c.before.before.before in
-    stepAt Dhcp4 l.before.before.args.area.now l.loop.at ≡ Step.Skipped c.end.given.0.0
+    step_at Dhcp4 l.before.before.args.area.now l.loop.at ≡ Step.Skipped c.end.given.0.0
 skipped c = sym c.before.before.next-block.ensures.0 ∙ c.end.given.1
 
 -- where something was found before

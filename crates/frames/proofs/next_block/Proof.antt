@@ -1,4 +1,4 @@
--- `frames::next_block` meets its contract: each return is one of the laws of `stepAt`, and so has its number and values. Assumes nothing.
+-- `frames::next_block` meets its contract: each return is one of the laws of `step_at`, and so has its number and values. Assumes nothing.
 use mathlib.Core.Path.{◌≡◌, refl, sym, ap, ◌∙◌}
 use mathlib.Core.Bool.{Bool, true}
 use mathlib.Core.List.{List}
@@ -9,7 +9,7 @@ use Rattle.carriers.specs.Carriers.{octets}
 use Rattle.frames.specs.declared.Head.{Head}
 use Rattle.frames.specs.declared.Step.{Step}
 use Rattle.frames.specs.Frame.{first_of}
-use Rattle.frames.specs.Step.{optionAt, stepAt}
+use Rattle.frames.specs.Step.{option_at, step_at}
 use Rattle.frames.specs.Told.{StepSays}
 use Rattle.frames.specs.Laws.{step-at-end, step_is, option-fits, option-over, own_room}
 use Rattle.frames.specs.ToldLaws.{step-says}
@@ -28,8 +28,8 @@ read : (c : tie.After-own) → Head.Option c.own.given.0.0 c.own.given.0.1.0 ≡
 read c = sym c.own.given.1 ∙ c.before.before.first.ensures.0
 
 -- what stands at the index, and what its number says
-says : (a : tie.Start) {r : Step} → r ≡ stepAt a.args.c a.args.area.now a.args.at
-    → (r ≡ stepAt a.args.c a.args.area.now a.args.at) × StepSays a.args.c a.args.area.now a.args.at r
+says : (a : tie.Start) {r : Step} → r ≡ step_at a.args.c a.args.area.now a.args.at
+    → (r ≡ step_at a.args.c a.args.area.now a.args.at) × StepSays a.args.c a.args.area.now a.args.at r
 says a e = (e, step-says _ _ _ _ a.requires e)
 
 returns : tie.Need-returns
@@ -65,7 +65,7 @@ returns-4 c =
     says (start k)
     (step_is a.c a.area.now a.at (omega arith) (read k)
     (option-fits a.c (length a.area.now - a.at) a.at k.own.given.0.0 n (omega arith)
-    ∙ ap (λ (own : Bool). optionAt a.c a.at own n) c.before.if3.true
+    ∙ ap (λ (own : Bool). option_at a.c a.at own n) c.before.if3.true
     ∙ ap (λ (h : ℕ). Step.Block (a.at + h) (a.at + n)) (sym c.header-size.ensures)))
 
 returns-5 : tie.Need-returns-5
@@ -76,7 +76,7 @@ returns-5 c =
     says (start k)
     (step_is a.c a.area.now a.at (omega arith) (read k)
     (option-fits a.c (length a.area.now - a.at) a.at k.own.given.0.0 n (omega arith)
-    ∙ ap (λ (own : Bool). optionAt a.c a.at own n) c.if3.false))
+    ∙ ap (λ (own : Bool). option_at a.c a.at own n) c.if3.false))
 
 returns-6 : tie.Need-returns-6
 returns-6 c =

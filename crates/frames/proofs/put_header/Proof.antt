@@ -2,7 +2,7 @@
 use borrow.Author.Rules.{rules}
 use native.Mathlib.Omega.{arith}
 use Rattle.octets.specs.NumbersLaws.{length-be}
-use Rattle.carriers.specs.Carriers.{headWidth, headerOf, in_eights}
+use Rattle.carriers.specs.Carriers.{head_width, header_of, in_eights}
 use Rattle.frames.specs.EmitLaws.{said-small, row-width, row-code, row-said, row_wrote}
 use Rattle.frames.proofs.put_header.Statement.{statement}
 use Rattle.frames.proofs.put_header.Tie as tie
@@ -12,7 +12,7 @@ length-said-requires c κs =
     let s = c.before.before in
     let a = s.args in
     let w = row-width a.c a.n c.facts.ensures in
-    (omega arith, said-small (in_eights a.c) (headerOf a.c) (headWidth a.c) a.n (omega arith) s.requires.1)
+    (omega arith, said-small (in_eights a.c) (header_of a.c) (head_width a.c) a.n (omega arith) s.requires.1)
 
 put-number-requires : tie.Need-put-number-requires
 put-number-requires c κs =

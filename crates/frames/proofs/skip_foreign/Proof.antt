@@ -14,7 +14,7 @@ returns-3 c =
     c.skip-wide.ensures.skips
     (record {
       code_is = sym (ap (λ (f : Facts). f.code) row);
-      reserved-is = sym (ap (λ (f : Facts). f.reserved) row);
+      reserved_is = sym (ap (λ (f : Facts). f.reserved) row);
       width = sym (ap (λ (f : Facts). f.width) row) ∙ t.if3.true;
       octets = sym (ap (λ (f : Facts). f.eights) row) ∙ e.if2.false;
       apart = sym (ap (λ (f : Facts). f.joined) row) ∙ e.before.if1.false;

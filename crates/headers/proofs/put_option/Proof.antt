@@ -4,10 +4,10 @@ use native.Mathlib.Omega.{arith}
 use mathlib.Core.Path.{subst}
 use Prim.Native.Nat.{ℕ, ◌+◌}
 use lib.ListN.{length}
-use Rattle.carriers.specs.Carriers.{headWidth, headerOf, in_eights}
+use Rattle.carriers.specs.Carriers.{head_width, header_of, in_eights}
 use Rattle.frames.specs.Emit.{CanSay}
 use Rattle.frames.specs.EmitLaws.{option-length, head-length}
-use Rattle.headers.specs.Headers.{paddedOf}
+use Rattle.headers.specs.Headers.{padded_of}
 use Rattle.headers.specs.HeadersLaws.{most-few, padded-length, padded-fits, option-wrote}
 use Rattle.headers.proofs.put_option.Statement.{statement}
 use Rattle.headers.proofs.put_option.Tie as tie
@@ -24,9 +24,9 @@ put-header-requires c κs =
     let a = s.args in
     let v = a.value.now in
     let n = padded-length a.c v in
-    let o = option-length a.c (paddedOf a.c v) in (
+    let o = option-length a.c (padded_of a.c v) in (
       omega (arith, s.requires.1, n, o),
-      subst (λ (n : ℕ). CanSay (in_eights a.c) (headerOf a.c) (headWidth a.c) n) (omega (arith, n, g.gap.ensures.0))
+      subst (λ (n : ℕ). CanSay (in_eights a.c) (header_of a.c) (head_width a.c) n) (omega (arith, n, g.gap.ensures.0))
           (padded-fits a.c v s.requires.0.0 s.requires.0.1),
     )
 
@@ -43,7 +43,7 @@ copy-requires c κs =
       h.put-header.ensures.next,
       head-length a.c (length v + g.gap.result),
       padded-length a.c v,
-      option-length a.c (paddedOf a.c v),
+      option-length a.c (padded_of a.c v),
     )
 
 put-zeros-requires : tie.Need-put-zeros-requires
@@ -62,7 +62,7 @@ put-zeros-requires c κs =
         h.put-header.ensures.next,
         head-length a.c (length v + g.gap.result),
         padded-length a.c v,
-        option-length a.c (paddedOf a.c v),
+        option-length a.c (padded_of a.c v),
       ),
       g.gap.ensures.1,
     )

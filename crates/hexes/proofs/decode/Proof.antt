@@ -1,7 +1,7 @@
 -- `hexes::decode` meets its contract: an outcome for each return. Assumes nothing.
 use borrow.Author.Rules.{rules}
 use native.Mathlib.Omega.{arith}
-use Rattle.hexes.specs.DecodingLaws.{no-hex, no_room, read-in}
+use Rattle.hexes.specs.DecodingLaws.{no-hex, no_room_lem, read-in}
 use Rattle.hexes.proofs.decode.Statement.{statement}
 use Rattle.hexes.proofs.decode.Tie as tie
 
@@ -9,7 +9,7 @@ returns : tie.Need-returns
 returns c = no-hex c.before.count.ensures c.if1.true
 
 returns-2 : tie.Need-returns-2
-returns-2 c = no_room c.before.before.count.ensures (omega arith)
+returns-2 c = no_room_lem c.before.before.count.ensures (omega arith)
 
 returns-3 : tie.Need-returns-3
 returns-3 c =

@@ -8,13 +8,13 @@ use lib.Seq.{take_all}
 use Rattle.io.proofs.Counting.{prefix_len_of_le}
 use Rattle.chars.specs.Puts.{Puts}
 use Rattle.chars.specs.PutsLaws.{puts_none, puts-within, puts_then, puts-as}
-use Rattle.hexes.specs.Hexes.{hexOf}
+use Rattle.hexes.specs.Hexes.{hex_of}
 use Rattle.hexes.specs.HexesLaws.{hex-more}
 use Rattle.hexes.proofs.put_octets.Statement.{statement}
 use Rattle.hexes.proofs.put_octets.Tie as tie
 
 abbrev invariant-loop : tie.invariant-loop
-invariant-loop out₀ at s o₀ i₀ out o i = (i ≤ length s) × (length out ≡ length out₀) × Puts at (hexOf (take i s)) out₀ o out
+invariant-loop out₀ at s o₀ i₀ out o i = (i ≤ length s) × (length out ≡ length out₀) × Puts at (hex_of (take i s)) out₀ o out
 
 abbrev decreases-loop : tie.decreases-loop
 decreases-loop out₀ at s o₀ i₀ out o i = length s - i
@@ -33,7 +33,7 @@ returns : tie.Need-returns invariant-loop decreases-loop
 returns c =
     let l = c.before in
     let s = l.before.before.before.before.args.s.now in
-    (prefix_len_of_le _ _ (puts-within l.loop.invariant.2), puts-as (ap hexOf (take_all l.loop.i s (omega arith))) l.loop.invariant.2)
+    (prefix_len_of_le _ _ (puts-within l.loop.invariant.2), puts-as (ap hex_of (take_all l.loop.i s (omega arith))) l.loop.invariant.2)
 
 pub put-octets-spec : {M : Type 1} → statement M
 put-octets-spec =

@@ -7,7 +7,7 @@ use mathlib.Core.List.{List}
 use Prim.Native.Nat.{ℕ, ◌+◌, ◌-◌, ◌≤◌}
 use lib.ListN.{drop}
 use Rattle.octets.specs.Numbers.{words}
-use Rattle.ips.specs.Ips.{zerosAhead, longestFrom, shortening, run_of}
+use Rattle.ips.specs.Ips.{zeros_ahead, longest_from, shortening, run_of}
 use Rattle.ips.specs.RunLaws.{ahead-few}
 use Rattle.octets.specs.NumbersLaws.{words-length}
 use Rattle.ips.specs.Writes.{zeros-turn, longest-turn, no_fields}
@@ -15,13 +15,13 @@ use Rattle.ips.proofs.run_in.Statement.{statement}
 use Rattle.ips.proofs.run_in.Tie as tie
 
 abbrev invariant-loop : tie.invariant-loop
-invariant-loop a i₀ n₀ best₀ i n best = (i ≤ 8) × (n ≡ zerosAhead (drop i (words a))) × (best ≡ longestFrom i (drop i (words a)))
+invariant-loop a i₀ n₀ best₀ i n best = (i ≤ 8) × (n ≡ zeros_ahead (drop i (words a))) × (best ≡ longest_from i (drop i (words a)))
 
 abbrev decreases-loop : tie.decreases-loop
 decreases-loop a i₀ n₀ best₀ i n best = i
 
 loop-holds : tie.Need-loop-init invariant-loop decreases-loop
-unfolding zerosAhead longestFrom
+unfolding zeros_ahead longest_from
 loop-holds c = let e = no_fields c.before.args.a.now c.before.requires in (omega arith, rw e, rw e)
 
 zeros-from-requires : tie.Need-zeros-from-requires invariant-loop decreases-loop
@@ -37,9 +37,9 @@ loop-again c =
     let a : List ℕ = l.before.before.args.a.now in
     let i : ℕ = l.loop.i in
     let e : i - 1 + 1 ≡ i = omega arith in
-    let turn : c.before.zeros-from.result ≡ zerosAhead (drop (i - 1) (words a)) =
+    let turn : c.before.zeros-from.result ≡ zeros_ahead (drop (i - 1) (words a)) =
     c.before.zeros-from.ensures ∙ zeros-turn a (i - 1) l.loop.n g.get16.result (omega arith) g.get16.ensures.0 (rw e l.loop.invariant.1) in
-    let best : c.longer-of.result ≡ longestFrom (i - 1) (drop (i - 1) (words a)) =
+    let best : c.longer-of.result ≡ longest_from (i - 1) (drop (i - 1) (words a)) =
     c.longer-of.ensures ∙ longest-turn (words a) (i - 1) c.before.zeros-from.result l.loop.best (omega (arith, words-length a)) turn (rw e l.loop.invariant.2) in
     (omega arith, turn, best)
 

@@ -6,7 +6,7 @@ use Prim.Native.Nat.{ℕ, ◌+◌, ◌≤◌, ◌<◌}
 use Rattle.carriers.specs.declared.Form.{Form}
 use Rattle.carriers.specs.Carriers.{form_of}
 use Rattle.carriers.specs.CarriersLaws.{length-width}
-use Rattle.layouts.specs.Writable.{overhead, bodyBy}
+use Rattle.layouts.specs.Writable.{overhead, body_by}
 use Rattle.layouts.specs.LayoutsLaws.{body-small}
 use Rattle.layouts.proofs.body_size.Statement.{statement}
 use Rattle.layouts.proofs.body_size.Tie as tie
@@ -14,11 +14,11 @@ use Rattle.layouts.proofs.body_size.Tie as tie
 -- a size that is the body's in the carrier's form is small
 sized : (c : tie.After-form) {k : Form} {n : ℕ} → c.form.result ≡ k
     → let a = c.before.args in
-    n ≡ bodyBy k a.c a.full a.nlen a.alen a.plen
-    → (n ≡ bodyBy (form_of a.c) a.c a.full a.nlen a.alen a.plen) × (n ≤ overhead + (a.nlen + a.alen + a.plen))
+    n ≡ body_by k a.c a.full a.nlen a.alen a.plen
+    → (n ≡ body_by (form_of a.c) a.c a.full a.nlen a.alen a.plen) × (n ≤ overhead + (a.nlen + a.alen + a.plen))
 sized c {k} {n} e q =
     let a = c.before.args in
-    let all = q ∙ ap (λ (k : Form). bodyBy k a.c a.full a.nlen a.alen a.plen) (sym e ∙ c.form.ensures) in
+    let all = q ∙ ap (λ (k : Form). body_by k a.c a.full a.nlen a.alen a.plen) (sym e ∙ c.form.ensures) in
     (all, omega (arith, body-small a.c a.full a.nlen a.alen a.plen))
 
 returns : tie.Need-returns

@@ -4,7 +4,7 @@ use native.Mathlib.Omega.{arith}
 use mathlib.Core.Path.{◌≡◌, ap}
 use Prim.Native.Nat.{ℕ, ◌+◌, ◌-◌, ◌/◌, ◌≤◌}
 use lib.ListN.{length}
-use Rattle.carriers.specs.Carriers.{addressWidth}
+use Rattle.carriers.specs.Carriers.{address_width}
 use Rattle.carriers.specs.CarriersLaws.{address-width}
 use Rattle.blocks.specs.Block.{Fields, fields_of}
 use Rattle.layouts.specs.Writes.{attribute-length, attribute-asks, text-room, after-text-room, wrote-attribute}
@@ -21,7 +21,7 @@ start c = c.before.before.before.before.before
 room : (s : tie.Start) → s.args.at + (4 + length s.args.addresses.now + (length s.args.name.now - 2) + length s.args.parameters.now) ≤ length s.args.out.now
 room s = omega (arith, attribute-length (written s) s.args.c s.requires.0, s.requires.1.1.1)
 
-count : (c : tie.After-address-width) → length (start c).args.addresses.now / c.address-width.result ≡ length (start c).args.addresses.now / addressWidth (start c).args.c
+count : (c : tie.After-address-width) → length (start c).args.addresses.now / c.address-width.result ≡ length (start c).args.addresses.now / address_width (start c).args.c
 count c = ap (λ (n : ℕ). length (start c).args.addresses.now / n) c.address-width.ensures
 
 -- from each call back to the one before

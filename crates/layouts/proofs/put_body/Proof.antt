@@ -5,7 +5,7 @@ use mathlib.Core.Path.{◌≡◌, sym, ap, ◌∙◌}
 use mathlib.Core.Bool.{true}
 use Rattle.carriers.specs.declared.Form.TheVariants.{Wire}
 use Rattle.carriers.specs.declared.Carrier.TheVariants.{Router}
-use Rattle.carriers.specs.Carriers.{form_of, lifetimeIn, textIn, asText}
+use Rattle.carriers.specs.Carriers.{form_of, lifetime_in, text_in, as_text}
 use Rattle.carriers.specs.CarriersLaws.{padded-router}
 use Rattle.blocks.specs.Block.{Fields, fields_of}
 use Rattle.blocks.specs.Places.{Named}
@@ -28,13 +28,13 @@ named s k = carried-named s.args.c (written s) k
 
 -- what each arm knows of the carrier
 wire : (c : tie.After-enum-told) → Named (start c.before.before).args.c
-wire c = let e : form_of (start c.before.before).args.c ≡ Wire = sym c.before.before.form.ensures ∙ c.enum_told.given.1 in (ap lifetimeIn e, ap textIn e)
+wire c = let e : form_of (start c.before.before).args.c ≡ Wire = sym c.before.before.form.ensures ∙ c.enum_told.given.1 in (ap lifetime_in e, ap text_in e)
 
 router : (c : tie.After-enum-told2) → (start c.before.before).args.c ≡ Router
 router c = padded-router _ (sym c.before.before.form.ensures ∙ c.enum-told2.given.1)
 
-text : (c : tie.After-enum-told3) → asText (start c.before.before).args.c ≡ true
-text c = ap textIn (sym c.before.before.form.ensures ∙ c.enum-told3.given.1)
+text : (c : tie.After-enum-told3) → as_text (start c.before.before).args.c ≡ true
+text c = ap text_in (sym c.before.before.form.ensures ∙ c.enum-told3.given.1)
 
 put-named-requires : tie.Need-put-named-requires
 put-named-requires c κs =

@@ -2,7 +2,7 @@
 use borrow.Author.Rules.{rules}
 use native.Mathlib.Omega.{arith}
 use mathlib.Core.Path.{◌≡◌, ap, ◌∙◌}
-use Rattle.blocks.specs.Block.{Fields, fields_of, paddingAfter, paddingOf}
+use Rattle.blocks.specs.Block.{Fields, fields_of, padding_after, padding_of}
 use Rattle.layouts.specs.Writes.{router-least, router-asks, addresses-room, parameters-room, zeros-room-full, zeros-room-name-only, wrote-router-full, wrote-router-name-only}
 use Rattle.layouts.proofs.put_router.Statement.{statement}
 use Rattle.layouts.proofs.put_router.Tie as tie
@@ -15,8 +15,8 @@ abbrev start : tie.After-padding-size → tie.Start
 start c = c.before.before.before.before.before.before
 
 -- the zeros are those that the record asks for
-padding : (c : tie.After-padding-size) → c.padding-size.result ≡ paddingOf (written (start c))
-padding c = c.padding-size.ensures.0 ∙ ap paddingAfter c.before.unpadded-size.ensures.0
+padding : (c : tie.After-padding-size) → c.padding-size.result ≡ padding_of (written (start c))
+padding c = c.padding-size.ensures.0 ∙ ap padding_after c.before.unpadded-size.ensures.0
 
 -- from each call back to the one before
 abbrev before-put16 : tie.After-put16 → tie.After-padding-size

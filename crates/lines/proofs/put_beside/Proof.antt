@@ -1,12 +1,12 @@
 -- `lines::put_beside` meets its contract: its parts one after another. Assumes nothing.
 use borrow.Author.Rules.{rules}
 use Rattle.chars.specs.PutsLaws.{puts_then}
-use Rattle.lines.specs.Messages.{besideOf}
+use Rattle.lines.specs.Messages.{beside_of}
 use Rattle.lines.proofs.put_beside.Statement.{statement}
 use Rattle.lines.proofs.put_beside.Tie as tie
 
 returns : tie.Need-returns
-unfolding besideOf
+unfolding beside_of
 returns c =
     let p3 = c.before.before in
     let p2 = p3.before.before.before.before.before in

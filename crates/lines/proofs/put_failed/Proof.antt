@@ -1,12 +1,12 @@
 -- `lines::put_failed` meets its contract: its parts one after another. Assumes nothing.
 use borrow.Author.Rules.{rules}
 use Rattle.chars.specs.PutsLaws.{puts_then}
-use Rattle.lines.specs.Messages.{failedOf}
+use Rattle.lines.specs.Messages.{failed_of}
 use Rattle.lines.proofs.put_failed.Statement.{statement}
 use Rattle.lines.proofs.put_failed.Tie as tie
 
 returns : tie.Need-returns
-unfolding failedOf
+unfolding failed_of
 returns c =
     let p3 = c.before.before in
     let p2 = p3.before.before.before.before.before in

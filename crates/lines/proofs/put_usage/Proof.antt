@@ -1,12 +1,12 @@
 -- `lines::put_usage` meets its contract: its parts one after another. Assumes nothing.
 use borrow.Author.Rules.{rules}
 use Rattle.chars.specs.PutsLaws.{puts_then}
-use Rattle.lines.specs.Messages.{usageOf}
+use Rattle.lines.specs.Messages.{usage_of}
 use Rattle.lines.proofs.put_usage.Statement.{statement}
 use Rattle.lines.proofs.put_usage.Tie as tie
 
 returns : tie.Need-returns
-unfolding usageOf
+unfolding usage_of
 returns c =
     let d = c.before.before in
     let c = d.before.before.before.before.before in

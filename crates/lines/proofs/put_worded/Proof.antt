@@ -1,12 +1,12 @@
 -- `lines::put_worded` meets its contract: its parts one after another. Assumes nothing.
 use borrow.Author.Rules.{rules}
 use Rattle.chars.specs.PutsLaws.{puts_then}
-use Rattle.lines.specs.Messages.{wordedOf}
+use Rattle.lines.specs.Messages.{worded_of}
 use Rattle.lines.proofs.put_worded.Statement.{statement}
 use Rattle.lines.proofs.put_worded.Tie as tie
 
 returns : tie.Need-returns
-unfolding wordedOf
+unfolding worded_of
 returns c =
     let p3 = c.before.before in
     let p2 = p3.before.before.before.before in

@@ -5,7 +5,7 @@ use mathlib.Core.Path.{◌≡◌, ◌∙◌}
 use Prim.Native.Nat.{ℕ}
 use mathlib.Core.List.{List}
 use lib.ListN.{length-take}
-use Rattle.names.specs.Wire.{nameCheck}
+use Rattle.names.specs.Wire.{name_check}
 use Rattle.names.specs.Exact.{first-enough}
 use Rattle.names.specs.Right.{right}
 use Rattle.names.proofs.check_wire.Statement.{statement}
@@ -23,7 +23,7 @@ check-held-requires-2 c κs = simp length-take (omega arith)
 returns-2 : tie.Need-returns-2
 returns-2 c =
     let s : List ℕ = c.before.before.before.before.args.s.now in
-    let e : c.check-held2.result ≡ nameCheck s = c.check-held2.ensures ∙ first-enough s 256 (omega arith) in
+    let e : c.check-held2.result ≡ name_check s = c.check-held2.ensures ∙ first-enough s 256 (omega arith) in
     (e, right s _ e)
 
 pub check-wire-spec : {M : Type 1} → statement M

@@ -3,13 +3,13 @@ use native.Mathlib.Omega.{arith}
 use mathlib.Core.Path.{◌≡◌, refl, ◌∙◌}
 use Prim.Native.Nat.{◌-◌, ◌≤◌}
 use lib.ListN.{length, drop}
-use Rattle.octets.specs.Numbers.{allZero}
+use Rattle.octets.specs.Numbers.{all_zero}
 use Rattle.octets.specs.NumbersLaws.{zero_turn, zero-not, zero-end}
 use Rattle.octets.proofs.zeros.Statement.{statement}
 use Rattle.octets.proofs.zeros.Tie as tie
 
 abbrev invariant-loop : tie.invariant-loop
-invariant-loop s i₀ i = (i ≤ length s) × (allZero (drop i s) ≡ allZero s)
+invariant-loop s i₀ i = (i ≤ length s) × (all_zero (drop i s) ≡ all_zero s)
 
 abbrev decreases-loop : tie.decreases-loop
 decreases-loop s i₀ i = length s - i

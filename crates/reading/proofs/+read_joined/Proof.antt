@@ -12,7 +12,7 @@ use Rattle.frames.specs.Frame.{Framed, frame}
 use Rattle.frames.specs.Gather.{GatheredFrom}
 use Rattle.frames.specs.GatherLaws.{part_length}
 use Rattle.frames.specs.ToldLaws.{number-fault, number-framed}
-use Rattle.reading.specs.Reading.{readFramed}
+use Rattle.reading.specs.Reading.{read_framed}
 use Rattle.reading.specs.TallyLaws.{holds-none, holds-ready, shows-none}
 use Rattle.reading.specs.AnswerLaws.{reads_as, reads-refused, answer-yields, answer-absent, answer-joined}
 use borrow.Author.Rules.{rules}
@@ -123,7 +123,7 @@ module _ (t : ℕ) where
       let a = k.before.before.before.before.before.args in
       let m = several k in
       let rest = take_all (length a.area.now - k.from.given.0.0) (drop k.from.given.0.0 a.area.now) (omega (arith, length-drop k.from.given.0.0 a.area.now)) in
-      reads_as (ap (λ (f : Framed). readFramed Dhcp4 f (length a.out.now)) (m.1 ∙ sym (ap (frame Dhcp4) rest))) s.read-joined.ensures
+      reads_as (ap (λ (f : Framed). read_framed Dhcp4 f (length a.out.now)) (m.1 ∙ sym (ap (frame Dhcp4) rest))) s.read-joined.ensures
 
   read-few-requires : lts.Need-read-few-requires (calls t) (at t) read-joined.Post
   read-few-requires c κs = (c.before.if2.true, (several c.before.before.before.before).2)
@@ -152,7 +152,7 @@ module _ (t : ℕ) where
       let a = g.before.before.before.args in
       let told = subst (GatheredFrom _) c.before.enum_told.given.1 g.gather.ensures in
       let broken = number-fault (frame Dhcp4 a.area.now) told.0 in
-      reads-refused _ (ap (λ (f : Framed). readFramed Dhcp4 f (length a.out.now)) broken) c.refused.ensures
+      reads-refused _ (ap (λ (f : Framed). read_framed Dhcp4 f (length a.out.now)) broken) c.refused.ensures
 
   same-length-4 : lts.Need-same-length-4 (calls t) (at t) read-joined.Post
   same-length-4 c = search rules

@@ -8,7 +8,7 @@ use lib.Seq.{get_or-take}
 use Rattle.octets.specs.OverLaws.{over-length}
 use Rattle.order.specs.Listed.{none, listed}
 use Rattle.sheets.specs.SheetsLaws.{length-sheet}
-use Rattle.reading.specs.Tally.{Good, recordsAt}
+use Rattle.reading.specs.Tally.{Good, records_at}
 use Rattle.reading.specs.Walks.{Written}
 use Rattle.reading.specs.SlotLaws.{ordered-length, ordered_at, cut-kept, cut-clean, written-length, written-room, written_next, written_start, sheet-written}
 use borrow.Author.Rules.{rules}
@@ -53,7 +53,7 @@ cast-put-front : tie.Need-overflow-cast-put-front invariant-loop decreases-loop
 cast-put-front c = omega (arith, c.before.before.ordered.ensures.count, c.before.before.before.before.before.requires.0.few)
 
 put-front-requires : tie.Need-put-front-requires invariant-loop decreases-loop
-put-front-requires c κs = let start = c.before.before.before.before.before in omega (arith, start.requires.1, length-sheet start.args.c (recordsAt start.args.c start.args.source.now start.args.slots))
+put-front-requires c κs = let start = c.before.before.before.before.before in omega (arith, start.requires.1, length-sheet start.args.c (records_at start.args.c start.args.source.now start.args.slots))
 
 loop-holds : tie.Need-loop-init invariant-loop decreases-loop
 loop-holds c =

@@ -6,7 +6,7 @@ use lib.ListN.{length}
 use Rattle.carriers.specs.declared.Carrier.{Carrier}
 use Rattle.carriers.specs.declared.Carrier.TheVariants.{Dhcp4}
 use Rattle.frames.specs.Frame.{frame}
-use Rattle.reading.specs.Reading.{readFramed}
+use Rattle.reading.specs.Reading.{read_framed}
 use Rattle.reading.specs.AnswerLaws.{reads_as}
 use borrow.Author.Rules.{rules}
 use Rattle.reading.proofs.read_area.Statement.{statement}
@@ -25,7 +25,7 @@ returns c =
     let j = c.before.before in
     let e = j.before.before in
     let a = e.before.before.before.before.args in
-    reads_as (ap (λ (k : Carrier). readFramed k (frame k a.area.now) (length a.out.now)) e.enum_told.given.1) j.read-joined.ensures
+    reads_as (ap (λ (k : Carrier). read_framed k (frame k a.area.now) (length a.out.now)) e.enum_told.given.1) j.read-joined.ensures
 
 pub read-area-spec : {M : Type 1} → statement M
 read-area-spec =

@@ -7,16 +7,16 @@ use Prim.Native.Nat.{ℕ, ◌-◌}
 use lib.ListN.{length, length-set}
 use Rattle.frames.specs.declared.Step.{Step}
 use Rattle.frames.specs.Frame.{frame}
-use Rattle.frames.specs.Step.{stepAt}
+use Rattle.frames.specs.Step.{step_at}
 use Rattle.frames.specs.Laws.{step_block, step-body, step-skipped}
 use Rattle.frames.specs.GatherLaws.{part_length}
 use Rattle.frames.specs.SkipLaws.{skips-forward, skips-step, skips-then}
 use Rattle.numbers.specs.Limit as limit
-use Rattle.judge.specs.Place.{judged, placeFrom}
+use Rattle.judge.specs.Place.{judged, place_from}
 use Rattle.order.specs.declared.Slot.{Slot}
 use Rattle.order.specs.Listed.{listed}
 use Rattle.order.specs.ListedLaws.{listed_next}
-use Rattle.reading.specs.Reading.{readFramed}
+use Rattle.reading.specs.Reading.{read_framed}
 use Rattle.reading.specs.Tally.{held_of, Seen, tally_of, Open}
 use Rattle.reading.specs.Walks.{Tallying}
 use Rattle.reading.specs.TallyLaws.{holds-none, holds-ready, tallying-start, tallying-open, tallying-discarded, tallying-kept, tallying-full, tallying-skips}
@@ -39,7 +39,7 @@ start c = c.before.before.before.before
 block : (c : tie.After-start invariant-loop decreases-loop)
     → let l = c.before.before.before in
     let a = (start l).args in
-    stepAt a.c a.area.now l.loop.at ≡ Step.Block c.start.given.0.0 c.start.given.0.1.0
+    step_at a.c a.area.now l.loop.at ≡ Step.Block c.start.given.0.0 c.start.given.0.1.0
 block c = sym c.before.before.next-block.ensures.0 ∙ c.start.given.1
 
 -- what the body's examination tells
@@ -72,19 +72,19 @@ open_more c =
 skipped : (c : tie.After-past invariant-loop decreases-loop)
     → let l = c.before.before.before in
     let a = (start l).args in
-    stepAt a.c a.area.now l.loop.at ≡ Step.Skipped c.past.given.0.0
+    step_at a.c a.area.now l.loop.at ≡ Step.Skipped c.past.given.0.0
 skipped c = sym c.before.before.next-block.ensures.0 ∙ c.past.given.1
 
 ended : (c : tie.After-enum-told invariant-loop decreases-loop)
     → let l = c.before.before.before in
     let a = (start l).args in
-    stepAt a.c a.area.now l.loop.at ≡ Step.End
+    step_at a.c a.area.now l.loop.at ≡ Step.End
 ended c = sym c.before.before.next-block.ensures.0 ∙ c.enum_told.given.1
 
 broken : (c : tie.After-enum-told2 invariant-loop decreases-loop)
     → let l = c.before.before.before in
     let a = (start l).args in
-    stepAt a.c a.area.now l.loop.at ≡ Step.Fault
+    step_at a.c a.area.now l.loop.at ≡ Step.Fault
 broken c = sym c.before.before.next-block.ensures.0 ∙ c.enum-told2.given.1
 
 loop-holds : tie.Need-loop-init invariant-loop decreases-loop
@@ -129,7 +129,7 @@ loop-again c =
     let x = h.before.before.before in
     let k = x.before.before.before in
     let i = k.before.before.before.loop.invariant in
-    let there = p.place-from.ensures ∙ ap (λ (n : ℕ). placeFrom n x.examine.result.fault x.examine.result.place) h.header-size.ensures in
+    let there = p.place-from.ensures ∙ ap (λ (n : ℕ). place_from n x.examine.result.fault x.examine.result.place) h.header-size.ensures in
     (tallying-discarded _ _ i.0 (block k) (seen x) h.before.if1.true there f.first_of.ensures c.first-of2.ensures, i.1, i.2)
 
 slot-of-requires : tie.Need-slot-of-requires invariant-loop decreases-loop
@@ -205,7 +205,7 @@ returns c =
     let e = s.before.before in
     let l = e.before.before.before in
     let a = (start l).args in
-    reads-from (readFramed a.c (frame a.c a.area.now)) l.loop.invariant.1
+    reads-from (read_framed a.c (frame a.c a.area.now)) l.loop.invariant.1
     (reads_as (answer-end _ _ _ l.loop.invariant.0 (start l).requires.0 (ended e)) s.settle.ensures)
 
 same-length-2 : tie.Need-same-length-2 invariant-loop decreases-loop
@@ -216,7 +216,7 @@ returns-2 c =
     let e = c.before in
     let l = e.before.before.before in
     let a = (start l).args in
-    reads-from (readFramed a.c (frame a.c a.area.now)) l.loop.invariant.1
+    reads-from (read_framed a.c (frame a.c a.area.now)) l.loop.invariant.1
     (reads-refused _ (answer-fault _ _ _ l.loop.invariant.0 (broken e)) c.refused.ensures)
 
 pub read-blocks-spec : {M : Type 1} → statement M

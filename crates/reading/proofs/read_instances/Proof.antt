@@ -11,7 +11,7 @@ use Rattle.frames.specs.GatherLaws.{part_length}
 use Rattle.order.specs.declared.Slot.{Slot}
 use Rattle.order.specs.Listed.{listed}
 use Rattle.order.specs.ListedLaws.{listed_next}
-use Rattle.reading.specs.Reading.{readBlocks}
+use Rattle.reading.specs.Reading.{read_blocks}
 use Rattle.reading.specs.Tally.{held_of, Seen}
 use Rattle.reading.specs.Walks.{Passed}
 use Rattle.reading.specs.InstanceLaws.{joined-none}
@@ -72,7 +72,7 @@ returns-2 : tie.Need-returns-2 invariant-loop decreases-loop
 returns-2 c =
     let d = c.before.before in
     let l = d.before.before.before.before in
-    reads-from (readBlocks Dhcp4 ((start l).args.joined.now ∷ [])) l.loop.invariant.1 d.discard-joined2.ensures
+    reads-from (read_blocks Dhcp4 ((start l).args.joined.now ∷ [])) l.loop.invariant.1 d.discard-joined2.ensures
 
 discard-joined-requires-3 : tie.Need-discard-joined-requires-3 invariant-loop decreases-loop
 discard-joined-requires-3 c κs =
@@ -87,7 +87,7 @@ returns-3 : tie.Need-returns-3 invariant-loop decreases-loop
 returns-3 c =
     let d = c.before.before in
     let l = turn d.before.before.before in
-    reads-from (readBlocks Dhcp4 ((start l).args.joined.now ∷ [])) l.loop.inv.1 d.discard-joined3.ensures
+    reads-from (read_blocks Dhcp4 ((start l).args.joined.now ∷ [])) l.loop.inv.1 d.discard-joined3.ensures
 
 place-from-requires : tie.Need-place-from-requires invariant-loop decreases-loop
 place-from-requires c κs =
@@ -111,7 +111,7 @@ returns-4 : tie.Need-returns-4 invariant-loop decreases-loop
 returns-4 c =
     let d = c.before.before in
     let l = turn d.before.before.before.before.before.before.before.before in
-    reads-from (readBlocks Dhcp4 ((start l).args.joined.now ∷ [])) l.loop.inv.1 d.discard-joined4.ensures
+    reads-from (read_blocks Dhcp4 ((start l).args.joined.now ∷ [])) l.loop.inv.1 d.discard-joined4.ensures
 
 slot-of-requires : tie.Need-slot-of-requires invariant-loop decreases-loop
 slot-of-requires c κs =
@@ -173,7 +173,7 @@ returns-5 c =
     let s = c.before.before in
     let t = s.before.before in
     let l = t.before in
-    reads-from (readBlocks Dhcp4 ((start l).args.joined.now ∷ [])) l.loop.invariant.1
+    reads-from (read_blocks Dhcp4 ((start l).args.joined.now ∷ [])) l.loop.invariant.1
     (reads_as (sym (answer-yields _ _ _ (passed-end _ l.loop.invariant.0 t.loop-test.false))) s.settle.ensures)
 
 pub read-instances-spec : {M : Type 1} → statement M

@@ -6,10 +6,10 @@ use lib.ListN.{length}
 use Rattle.carriers.specs.declared.Carrier.TheVariants.{Dhcp4}
 use Rattle.frames.specs.declared.Joined.{Joined}
 use Rattle.frames.specs.Frame.{Framed, frame}
-use Rattle.frames.specs.Told.{joinedLength}
+use Rattle.frames.specs.Told.{joined_length}
 use Rattle.frames.specs.Gather.{Joins}
 use Rattle.frames.specs.GatherLaws.{joins-broken}
-use Rattle.reading.specs.Reading.{readFramed}
+use Rattle.reading.specs.Reading.{read_framed}
 use Rattle.reading.specs.AnswerLaws.{reads_as, reads-refused, many-room, many-length, answer-many}
 use borrow.Author.Rules.{rules}
 use Rattle.reading.proofs.read_within.Statement.{statement}
@@ -27,7 +27,7 @@ whole : (k : tie.After-n)
 whole k = subst (λ (r : Joined). Joins (frame Dhcp4 (start k).args.area.now) (start k).args.buffer.now r (joining k).join.new.1.0) k.n.given.1 (joining k).join.ensures.0
 
 short : (k : tie.After-n) → k.n.given.0.0 ≤ length (start k).args.area.now
-short k = subst (λ (r : Joined). joinedLength r ≤ length (start k).args.area.now) k.n.given.1 (joining k).join.ensures.1
+short k = subst (λ (r : Joined). joined_length r ≤ length (start k).args.area.now) k.n.given.1 (joining k).join.ensures.1
 
 slice-reshare-prefix-read-instances : tie.Need-slice-reshare-prefix-read-instances
 slice-reshare-prefix-read-instances c = many-room _ _ _ _ (whole c.before)
@@ -45,7 +45,7 @@ returns c =
     let j = c.before.before.before.before.before in
     let a = j.before.before.before.before.before.args in
     let broken = joins-broken (frame Dhcp4 a.area.now) a.buffer.now j.join.new.1.0 (subst (λ (r : Joined). Joins (frame Dhcp4 a.area.now) a.buffer.now r j.join.new.1.0) c.before.enum_told.given.1 j.join.ensures.0) in
-    reads-refused _ (ap (λ (f : Framed). readFramed Dhcp4 f (length a.out.now)) broken) c.refused.ensures
+    reads-refused _ (ap (λ (f : Framed). read_framed Dhcp4 f (length a.out.now)) broken) c.refused.ensures
 
 returns-2 : tie.Need-returns-2
 returns-2 c =

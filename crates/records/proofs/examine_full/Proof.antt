@@ -1,15 +1,15 @@
 -- `records::examine_full` meets its contract: a fault, or none. Assumes nothing.
 use borrow.Author.Rules.{rules}
 use native.Mathlib.Omega.{arith}
-use borrow.Author.Tests.{eqb-true}
+use borrow.Author.Tests.{eq-true}
 use mathlib.Core.Path.{◌≡◌, refl}
 use Prim.Native.Nat.{ℕ, ◌+◌, ◌*◌, ◌≤◌}
 use lib.ListN.{length}
 use Rattle.numbers.specs.Limit as limit
 use Rattle.blocks.specs.Block.{whole}
 use Rattle.judge.specs.JudgeLaws.{carrier-width}
-use Rattle.records.specs.Records.{headSize, tailSize}
-use Rattle.records.specs.Parts.{nameIn}
+use Rattle.records.specs.Records.{head_size, tail_size}
+use Rattle.records.specs.Parts.{name_in}
 use Rattle.records.specs.Outcomes.{unclean, place_inside, examined-faulty, full-few, full-small, full-kept, full-clean}
 use Rattle.records.proofs.examine_full.Statement.{statement}
 use Rattle.records.proofs.examine_full.Tie as tie
@@ -41,8 +41,8 @@ kept-count-requires c κs =
 
 -- no sum wraps: the size is that of a record
 small : (c : tie.After-kept-count) {n : ℕ} → let args = c.before.before.before.before.before.before.before.args in
-    n ≡ length (nameIn args.c args.name.now)
-    → headSize + n + tailSize + c.kept-count.result * c.before.address-width.result + length args.parameters.now ≤ limit.recordSize
+    n ≡ length (name_in args.c args.name.now)
+    → head_size + n + tail_size + c.kept-count.result * c.before.address-width.result + length args.parameters.now ≤ limit.record_size
 small c e =
     let wide = c.before in
     let judged = wide.before.before in
@@ -70,7 +70,7 @@ returns-2 c =
     let judged = wide.before.before in
     let args = judged.before.before.before.before.args in (
       full-kept args.c args.priority args.at args.name.now args.addresses.now args.parameters.now judged.judge-fields.ensures wide.before.if1.false c.name-size.ensures wide.address-width.ensures c.before.kept-count.ensures.0 _,
-      λ z. full-clean args.c args.priority args.at args.name.now args.addresses.now args.parameters.now judged.judge-fields.ensures wide.before.if1.false c.name-size.ensures wide.address-width.ensures c.before.kept-count.ensures.0 (eqb-true _ _ z),
+      λ z. full-clean args.c args.priority args.at args.name.now args.addresses.now args.parameters.now judged.judge-fields.ensures wide.before.if1.false c.name-size.ensures wide.address-width.ensures c.before.kept-count.ensures.0 (eq-true _ _ z),
     )
 
 pub examine-full-spec : {M : Type 1} → statement M

@@ -1,7 +1,7 @@
 -- `records::examine_name_only` meets its contract: a fault, or none. Assumes nothing.
 use borrow.Author.Rules.{rules}
 use native.Mathlib.Omega.{arith}
-use Rattle.blocks.specs.Block.{nameOnly}
+use Rattle.blocks.specs.Block.{name_only}
 use Rattle.records.specs.Outcomes.{place_inside, examined-faulty, name-only-small, name-only-kept}
 use Rattle.records.proofs.examine_name_only.Statement.{statement}
 use Rattle.records.proofs.examine_name_only.Tie as tie
@@ -11,7 +11,7 @@ place-from-requires c κs =
     let judged = c.before in
     let start = judged.before.before.before in
     let args = start.args in
-    let fields = nameOnly args.priority 0 args.name.now in
+    let fields = name_only args.priority 0 args.name.now in
     omega (arith, start.requires, place_inside args.c args.at fields judged.judge-fields.ensures)
 
 returns : tie.Need-returns
@@ -19,7 +19,7 @@ returns c t =
     let placed = c.before in
     let judged = placed.before.before in
     let args = judged.before.before.before.args in
-    let fields = nameOnly args.priority t args.name.now in
+    let fields = name_only args.priority t args.name.now in
     examined-faulty args.c args.at fields judged.judge-fields.ensures placed.place-from.ensures c.faulty.ensures placed.before.if1.true
 
 add-size : tie.Need-overflow-add-size

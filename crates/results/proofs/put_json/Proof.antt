@@ -1,12 +1,12 @@
 -- `results::put_json` meets its contract: its parts one after another. Assumes nothing.
 use borrow.Author.Rules.{rules}
 use Rattle.chars.specs.PutsLaws.{puts_then}
-use Rattle.results.specs.Results.{jsonOf}
+use Rattle.results.specs.Results.{json_of}
 use Rattle.results.proofs.put_json.Statement.{statement}
 use Rattle.results.proofs.put_json.Tie as tie
 
 returns : tie.Need-returns
-unfolding jsonOf
+unfolding json_of
 returns c =
     let u = c.before.before in
     let s = u.before.before.before.before.before in

@@ -1,12 +1,12 @@
 -- `results::put_numbers` meets its contract: its parts one after another. Assumes nothing.
 use borrow.Author.Rules.{rules}
 use Rattle.chars.specs.PutsLaws.{puts_then}
-use Rattle.results.specs.Results.{numbersOf}
+use Rattle.results.specs.Results.{numbers_of}
 use Rattle.results.proofs.put_numbers.Statement.{statement}
 use Rattle.results.proofs.put_numbers.Tie as tie
 
 returns : tie.Need-returns
-unfolding numbersOf
+unfolding numbers_of
 returns c =
     let u = c.before.before in
     let s = u.before.before.before.before.before in

@@ -1,12 +1,12 @@
 -- `results::put_saved` meets its contract: its parts one after another. Assumes nothing.
 use borrow.Author.Rules.{rules}
 use Rattle.chars.specs.PutsLaws.{puts_then}
-use Rattle.results.specs.Results.{savedOf}
+use Rattle.results.specs.Results.{saved_of}
 use Rattle.results.proofs.put_saved.Statement.{statement}
 use Rattle.results.proofs.put_saved.Tie as tie
 
 returns : tie.Need-returns
-unfolding savedOf
+unfolding saved_of
 returns c =
     let s = c.before.before in
     let q = s.before.before.before.before.before in

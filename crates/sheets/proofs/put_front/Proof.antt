@@ -1,12 +1,12 @@
 -- `sheets::put_front` meets its contract: letters, version, carrier and count, one after the other. Assumes nothing.
 use borrow.Author.Rules.{rules}
 use Rattle.octets.specs.OverLaws.{then}
-use Rattle.sheets.specs.Sheets.{frontOf}
+use Rattle.sheets.specs.Sheets.{front_of}
 use Rattle.sheets.proofs.put_front.Statement.{statement}
 use Rattle.sheets.proofs.put_front.Tie as tie
 
 returns : tie.Need-returns
-unfolding frontOf
+unfolding front_of
 returns c =
     let c4 = c.before.before in
     let c3 = c4.before.before.before.before in

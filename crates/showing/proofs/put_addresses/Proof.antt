@@ -4,20 +4,20 @@ use mathlib.Core.Path.{◌≡◌, refl, ap}
 use mathlib.Core.List.{map}
 use Prim.Native.Nat.{ℕ, ◌+◌, ◌-◌, ◌≤◌, ◌<◌}
 use native.Mathlib.Omega.{arith}
-use lib.Dec.{eqb}
+use lib.Dec.{eq}
 use lib.ListN.{length, drop}
 use Rattle.addresses.specs.Addresses.{list_of}
 use Rattle.chars.specs.PutsLaws.{puts-as}
-use Rattle.values.specs.Values.{beforeOf}
+use Rattle.values.specs.Values.{before_of}
 use Rattle.values.specs.Values as values
 use Rattle.values.specs.ListLaws.{Listed, listed_start, listed-past, listed-end}
-use Rattle.showing.specs.Showing.{addressItem, addressesOf}
+use Rattle.showing.specs.Showing.{address_item, addresses_of}
 use Rattle.showing.specs.PartLaws.{width_some, address-next, address-end}
 use Rattle.showing.proofs.put_addresses.Statement.{statement}
 use Rattle.showing.proofs.put_addresses.Tie as tie
 
 abbrev invariant-loop : tie.invariant-loop
-invariant-loop out₀ at json list w o₀ i₀ out o i = (0 < w) × (i ≤ length list) × (length out ≡ length out₀) × Listed json (addressItem json) (list_of w list) (list_of w (drop i list)) (beforeOf json (eqb i 0)) at out₀ o out
+invariant-loop out₀ at json list w o₀ i₀ out o i = (0 < w) × (i ≤ length list) × (length out ≡ length out₀) × Listed json (address_item json) (list_of w list) (list_of w (drop i list)) (before_of json (eq i 0)) at out₀ o out
 
 abbrev decreases-loop : tie.decreases-loop
 decreases-loop out₀ at json list w o₀ i₀ out o i = length list - i
@@ -39,12 +39,12 @@ loop-again c =
     )
 
 returns : tie.Need-returns invariant-loop decreases-loop
-unfolding addressesOf
+unfolding addresses_of
 returns c =
     let l = c.before in
     let a = l.before.before.before.before.before.args in
     puts-as
-    (ap (λ (w : ℕ). values.list_of a.json (map (addressItem a.json) (list_of w a.list.now))) l.before.before.address-width.ensures)
+    (ap (λ (w : ℕ). values.list_of a.json (map (address_item a.json) (list_of w a.list.now))) l.before.before.address-width.ensures)
     (listed-end _ _ l.loop.invariant.3 (address-end _ _ l.loop.i c.loop-test.false))
 
 pub put-addresses-spec : {M : Type 1} → statement M

@@ -1,12 +1,12 @@
 -- `showing::put_common` meets its contract: the parts one after another. Assumes nothing.
 use borrow.Author.Rules.{rules}
 use Rattle.chars.specs.PutsLaws.{puts_then}
-use Rattle.showing.specs.Showing.{commonOf}
+use Rattle.showing.specs.Showing.{common_of}
 use Rattle.showing.proofs.put_common.Statement.{statement}
 use Rattle.showing.proofs.put_common.Tie as tie
 
 returns : tie.Need-returns
-unfolding commonOf
+unfolding common_of
 returns c =
     let end = c.before.before in
     let next = end.before.before.before.before in

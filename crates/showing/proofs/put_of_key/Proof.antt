@@ -3,21 +3,21 @@ use borrow.Author.Rules.{rules}
 use mathlib.Core.Logic.{⊎_elim}
 use borrow.Author.Tests.{ne_eqb}
 use Rattle.chars.specs.PutsLaws.{puts-as}
-use Rattle.showing.specs.Showing.{valueBy}
+use Rattle.showing.specs.Showing.{value_by}
 use Rattle.showing.specs.ParameterLaws.{value-port, value-string}
 use Rattle.showing.proofs.put_of_key.Statement.{statement}
 use Rattle.showing.proofs.put_of_key.Tie as tie
 
 returns : tie.Need-returns
-unfolding valueBy
+unfolding value_by
 returns c = let w = c.before.before in rw w.before.before.if1.true w.put-keys.ensures
 
 returns-2 : tie.Need-returns-2
-unfolding valueBy
+unfolding value_by
 returns-2 c = let w = c.before.before in rw w.before.before.if2.true w.put-protocols.ensures
 
 returns-3 : tie.Need-returns-3
-unfolding valueBy
+unfolding value_by
 returns-3 c =
     let w = c.before.before in
     let t = w.before.before.before in

@@ -3,18 +3,18 @@ use borrow.Author.Rules.{rules}
 use mathlib.Core.Path.{◌≡◌, refl}
 use Prim.Native.Nat.{◌+◌, ◌-◌, ◌≤◌}
 use native.Mathlib.Omega.{arith}
-use lib.Dec.{eqb}
+use lib.Dec.{eq}
 use lib.ListN.{length, drop}
 use Rattle.svcparams.specs.Entries.{entries}
-use Rattle.values.specs.Values.{beforeOf}
+use Rattle.values.specs.Values.{before_of}
 use Rattle.values.specs.ListLaws.{Listed, listed_start, listed-past, listed-end}
-use Rattle.showing.specs.Showing.{parameterOf, parametersOf}
+use Rattle.showing.specs.Showing.{parameter_of, parameters_of}
 use Rattle.showing.specs.ParameterLaws.{params-short, params-cut, params-next}
 use Rattle.showing.proofs.put_parameters.Statement.{statement}
 use Rattle.showing.proofs.put_parameters.Tie as tie
 
 abbrev invariant-loop : tie.invariant-loop
-invariant-loop out₀ at json p o₀ i₀ out o i = (i ≤ length p) × (length out ≡ length out₀) × Listed json (parameterOf json) (entries p) (entries (drop i p)) (beforeOf json (eqb i 0)) at out₀ o out
+invariant-loop out₀ at json p o₀ i₀ out o i = (i ≤ length p) × (length out ≡ length out₀) × Listed json (parameter_of json) (entries p) (entries (drop i p)) (before_of json (eq i 0)) at out₀ o out
 
 abbrev decreases-loop : tie.decreases-loop
 decreases-loop out₀ at json p o₀ i₀ out o i = length p - i
@@ -23,7 +23,7 @@ loop-holds : tie.Need-loop-init invariant-loop decreases-loop
 loop-holds c = (omega arith, refl, listed_start _ _ _ c.lesser.ensures)
 
 returns : tie.Need-returns invariant-loop decreases-loop
-unfolding parametersOf
+unfolding parameters_of
 returns c =
     let v = c.before in
     let l = v.before.before.before in
@@ -43,7 +43,7 @@ loop-again c =
     )
 
 returns-2 : tie.Need-returns-2 invariant-loop decreases-loop
-unfolding parametersOf
+unfolding parameters_of
 returns-2 c =
     let l = c.before in
     listed-end _ _ l.loop.invariant.2 (params-short _ l.loop.i c.loop-test.false)

@@ -8,14 +8,14 @@ use native.Mathlib.Omega.{arith}
 use borrow.Author.Tests.{not-false}
 use lib.ListN.{length}
 use Rattle.blocks.specs.Block.{Fields}
-use Rattle.sheets.specs.Sheets.{frontSize}
+use Rattle.sheets.specs.Sheets.{front_size}
 use Rattle.taking.specs.Standing.{Standing}
 use Rattle.showing.specs.SheetLaws.{Lined, lined-start, lined-good, lined-next, lined-end}
 use Rattle.showing.proofs.put_records.Statement.{statement}
 use Rattle.showing.proofs.put_records.Tie as tie
 
 abbrev invariant-loop : tie.invariant-loop
-invariant-loop out₀ at json c s o₀ i₀ out o i = (frontSize ≤ i) × (length out ≡ length out₀) × ((rs : List Fields) → Standing c s frontSize rs → Lined json c s i rs at out₀ o out)
+invariant-loop out₀ at json c s o₀ i₀ out o i = (front_size ≤ i) × (length out ≡ length out₀) × ((rs : List Fields) → Standing c s front_size rs → Lined json c s i rs at out₀ o out)
 
 abbrev decreases-loop : tie.decreases-loop
 decreases-loop out₀ at json c s o₀ i₀ out o i = length s - i

@@ -4,7 +4,7 @@ use native.Mathlib.Omega.{arith}
 use borrow.Author.Rules.{rules}
 use borrow.Author.Tests.{not-true, not-false}
 use lib.Seq.{length-take-le}
-use Rattle.sheets.specs.Sheets.{versionAt}
+use Rattle.sheets.specs.Sheets.{version_at}
 use Rattle.taking.specs.TookLaws.{head-1, head-2, head-3, head-4, head-5}
 use Rattle.taking.proofs.head.Statement.{statement}
 use Rattle.taking.proofs.head.Tie as tie
@@ -16,7 +16,7 @@ returns-2 : tie.Need-returns-2
 returns-2 c = search (rules, head-2)
 
 slice-aggregate-same : tie.Need-slice-aggregate-same
-slice-aggregate-same c = sym (length-take-le versionAt c.before.before.before.before.args.s.now (omega arith))
+slice-aggregate-same c = sym (length-take-le version_at c.before.before.before.before.args.s.now (omega arith))
 
 returns-3 : tie.Need-returns-3
 returns-3 c =

@@ -5,8 +5,8 @@ use native.Mathlib.Omega.{arith}
 use borrow.Author.Rules.{rules}
 use borrow.Author.Tests.{not-true, not-false}
 use lib.ListN.{length, drop}
-use Rattle.sheets.specs.Sheets.{frontSize}
-use Rattle.taking.specs.Taking.{recordsFrom}
+use Rattle.sheets.specs.Sheets.{front_size}
+use Rattle.taking.specs.Taking.{records_from}
 use Rattle.taking.specs.Took.{some}
 use Rattle.taking.specs.WalkLaws.{stand-1, stand-2, stand-3, stand-4, stand-5}
 use Rattle.taking.proofs.stand.Statement.{statement}
@@ -14,7 +14,7 @@ use Rattle.taking.proofs.stand.Tie as tie
 
 abbrev invariant-loop : tie.invariant-loop
 invariant-loop c s count at₀ least₀ left₀ at least left =
-    (at ≤ length s) × (some (recordsFrom c left least (drop at s)) ≡ some (recordsFrom c count 0 (drop frontSize s)))
+    (at ≤ length s) × (some (records_from c left least (drop at s)) ≡ some (records_from c count 0 (drop front_size s)))
 
 abbrev decreases-loop : tie.decreases-loop
 decreases-loop c s count at₀ least₀ left₀ at least left = left

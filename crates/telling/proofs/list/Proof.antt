@@ -3,13 +3,13 @@ use mathlib.Core.Path.{◌≡◌, sym, ap, ◌∙◌}
 use native.Mathlib.Omega.{arith}
 use borrow.Author.Rules.{rules}
 use Rattle.carriers.specs.declared.Facts.{Facts}
-use Rattle.carriers.specs.Carriers.{isJoined}
+use Rattle.carriers.specs.Carriers.{is_joined}
 use Rattle.telling.specs.DiscardedLaws.{counted-joined}
 use Rattle.telling.proofs.list.Statement.{statement}
 use Rattle.telling.proofs.list.Tie as tie
 
 -- what was tested is the carrier's own
-joined : (c : tie.After-facts) → c.facts.result.joined ≡ isJoined c.before.before.before.before.args.c
+joined : (c : tie.After-facts) → c.facts.result.joined ≡ is_joined c.before.before.before.before.args.c
 joined c = ap (λ (f : Facts). f.joined) c.facts.ensures
 
 returns : tie.Need-returns

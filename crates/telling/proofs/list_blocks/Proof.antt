@@ -6,7 +6,7 @@ use Prim.Native.Nat.{◌-◌, ◌≤◌}
 use borrow.Author.Rules.{rules}
 use lib.ListN.{length}
 use Rattle.frames.specs.declared.Step.{Step}
-use Rattle.frames.specs.Step.{stepAt}
+use Rattle.frames.specs.Step.{step_at}
 use Rattle.frames.specs.Laws.{step_block, step-skipped}
 use Rattle.frames.specs.GatherLaws.{part_length}
 use Rattle.telling.specs.DiscardedLaws.{Counting, counting-start, counting-block, counting-skipped, counting-end, counting-fault}
@@ -23,13 +23,13 @@ decreases-loop json name c area at₀ k₀ n₀ at k n = length area - at
 block : (c : tie.After-start invariant-loop decreases-loop)
     → let l = c.before.before.before in
     let a = l.before.before.before.args in
-    stepAt a.c a.area.now l.loop.at ≡ Step.Block c.start.given.0.0 c.start.given.0.1.0
+    step_at a.c a.area.now l.loop.at ≡ Step.Block c.start.given.0.0 c.start.given.0.1.0
 block c = sym c.before.before.next-block.ensures.0 ∙ c.start.given.1
 
 skipped : (c : tie.After-end invariant-loop decreases-loop)
     → let l = c.before.before.before in
     let a = l.before.before.before.args in
-    stepAt a.c a.area.now l.loop.at ≡ Step.Skipped c.end.given.0.0
+    step_at a.c a.area.now l.loop.at ≡ Step.Skipped c.end.given.0.0
 skipped c = sym c.before.before.next-block.ensures.0 ∙ c.end.given.1
 
 add-k : tie.Need-overflow-add-k invariant-loop decreases-loop

@@ -11,7 +11,7 @@ use Rattle.octets.specs.OverLaws.{over-length}
 use Rattle.carriers.specs.declared.Carrier.TheVariants.{Dhcp4}
 use Rattle.frames.specs.declared.Joined.{Joined}
 use Rattle.frames.specs.Frame.{frame}
-use Rattle.frames.specs.Told.{joinedLength}
+use Rattle.frames.specs.Told.{joined_length}
 use Rattle.frames.specs.Gather.{Joins}
 use Rattle.frames.specs.GatherLaws.{joins-whole}
 use Rattle.telling.specs.DiscardedLaws.{counted-broken, counted-whole}
@@ -39,7 +39,7 @@ room k =
     omega (arith, w.room, w.next, ap length w.laid, over-length 0 (flat found.0) out w.room)
 
 short : (k : tie.After-n) → k.n.given.0.0 ≤ length (start k).args.area.now
-short k = subst (λ (r : Joined). joinedLength r ≤ length (start k).args.area.now) k.n.given.1 (joining k).join.ensures.1
+short k = subst (λ (r : Joined). joined_length r ≤ length (start k).args.area.now) k.n.given.1 (joining k).join.ensures.1
 
 slice-reshare-prefix-tell-joined : tie.Need-slice-reshare-prefix-tell-joined
 slice-reshare-prefix-tell-joined c = room c.before

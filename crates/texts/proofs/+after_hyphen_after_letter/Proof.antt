@@ -4,7 +4,7 @@ use Prim.Native.Nat.{ℕ, ◌<◌}
 use borrow.Author.Rules.{rules}
 use Rattle.names.specs.AnsweredLaws.{two-fewer, still-within, told}
 use Rattle.texts.specs.Outcomes.{letter-end, letter-letter, letter-long, letter-hyphen, letter-last, letter-other, letter-far}
-use Rattle.texts.specs.Outcomes.{hyphen-end, hyphen-letter, hyphen-hyphen, hyphen-last, hyphen-other}
+use Rattle.texts.specs.Outcomes.{hyphen-end, hyphen-letter, hyphen-hyphen, hyphen_last, hyphen-other}
 use Rattle.texts.specs.Outcomes.{label-missing, label-opens, label-other}
 use borrow.Fn.Kinds.{In}
 use borrow.Fn.PlainCycle.{Measures, is, falls, and}
@@ -66,7 +66,7 @@ pub +after-hyphen-after-letter-spec : {M : Type 1} → statement M
     (λ c κs. search rules)
     (λ c. search (rules, hyphen-letter, told))
     (λ c. search (rules, hyphen-other, told))
-    (λ c. search (rules, hyphen-last, told))
+    (λ c. search (rules, hyphen_last, told))
     (λ c. search rules)
     (λ c κs. search rules)
     (λ c. search (rules, hyphen-hyphen, told)))

@@ -5,17 +5,17 @@ use mathlib.Core.Bool.{true}
 use mathlib.Core.List.{◌∷◌}
 use Prim.Native.Nat.{ℕ, ◌+◌, ◌-◌, ◌≤◌}
 use native.Mathlib.Omega.{arith}
-use lib.Dec.{eqb}
+use lib.Dec.{eq}
 use lib.ListN.{length, drop}
 use Rattle.octets.specs.Numbers.{words}
 use Rattle.octets.specs.NumbersLaws.{words-cons, words-end}
-use Rattle.values.specs.Values.{beforeOf, quoted, key_of, keys_of}
+use Rattle.values.specs.Values.{before_of, quoted, key_of, keys_of}
 use Rattle.values.specs.ListLaws.{Listed, listed_start, listed-past, listed-end}
 use Rattle.values.proofs.put_key_items.Statement.{statement}
 use Rattle.values.proofs.put_key_items.Tie as tie
 
 abbrev invariant-loop : tie.invariant-loop
-invariant-loop out₀ at json s o₀ i₀ out o i = (i ≤ length s) × (length out ≡ length out₀) × Listed true (λ (k : ℕ). quoted json (key_of k)) (words s) (words (drop i s)) (beforeOf true (eqb i 0)) at out₀ o out
+invariant-loop out₀ at json s o₀ i₀ out o i = (i ≤ length s) × (length out ≡ length out₀) × Listed true (λ (k : ℕ). quoted json (key_of k)) (words s) (words (drop i s)) (before_of true (eq i 0)) at out₀ o out
 
 abbrev decreases-loop : tie.decreases-loop
 decreases-loop out₀ at json s o₀ i₀ out o i = length s - i

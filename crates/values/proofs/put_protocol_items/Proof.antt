@@ -5,16 +5,16 @@ use mathlib.Core.Bool.{true}
 use mathlib.Core.List.{List}
 use Prim.Native.Nat.{ℕ, ◌+◌, ◌-◌, ◌≤◌}
 use native.Mathlib.Omega.{arith}
-use lib.Dec.{eqb}
+use lib.Dec.{eq}
 use lib.ListN.{length, drop}
-use Rattle.values.specs.Values.{beforeOf, quoted, value_of, stringsFrom, protocolsOf}
+use Rattle.values.specs.Values.{before_of, quoted, value_of, strings_from, protocols_of}
 use Rattle.values.specs.ListLaws.{Listed, listed_start, listed-past, listed-end}
 use Rattle.values.specs.StringLaws.{strings-end, strings-short, strings-next}
 use Rattle.values.proofs.put_protocol_items.Statement.{statement}
 use Rattle.values.proofs.put_protocol_items.Tie as tie
 
 abbrev invariant-loop : tie.invariant-loop
-invariant-loop out₀ at json s o₀ i₀ out o i = (i ≤ length s) × (length out ≡ length out₀) × Listed true (λ (id : List ℕ). quoted json (value_of json id)) (stringsFrom 0 s) (stringsFrom 0 (drop i s)) (beforeOf true (eqb i 0)) at out₀ o out
+invariant-loop out₀ at json s o₀ i₀ out o i = (i ≤ length s) × (length out ≡ length out₀) × Listed true (λ (id : List ℕ). quoted json (value_of json id)) (strings_from 0 s) (strings_from 0 (drop i s)) (before_of true (eq i 0)) at out₀ o out
 
 abbrev decreases-loop : tie.decreases-loop
 decreases-loop out₀ at json s o₀ i₀ out o i = length s - i
@@ -23,7 +23,7 @@ loop-holds : tie.Need-loop-init invariant-loop decreases-loop
 loop-holds c = (omega arith, refl, listed_start _ _ _ c.lesser.ensures)
 
 returns : tie.Need-returns invariant-loop decreases-loop
-unfolding protocolsOf
+unfolding protocols_of
 returns c =
     let v = c.before in
     let l = v.before.before.before in
@@ -43,7 +43,7 @@ loop-again c =
     )
 
 returns-2 : tie.Need-returns-2 invariant-loop decreases-loop
-unfolding protocolsOf
+unfolding protocols_of
 returns-2 c =
     let l = c.before in
     listed-end _ _ l.loop.invariant.2 (strings-end _ l.loop.i l.loop.invariant.0 c.loop-test.false)

@@ -8,13 +8,13 @@ use native.Mathlib.Numerals.{add-one}
 use native.Mathlib.Omega.{arith}
 use lib.ListN.{length, drop, drop_of_length-le}
 use lib.Seq.{drop-cons}
-use Rattle.values.specs.Values.{escapedOf, value_of}
+use Rattle.values.specs.Values.{escaped_of, value_of}
 use Rattle.values.specs.ListLaws.{Listed, listed_start, listed_next, listed-end}
 use Rattle.values.proofs.put_value.Statement.{statement}
 use Rattle.values.proofs.put_value.Tie as tie
 
 abbrev invariant-loop : tie.invariant-loop
-invariant-loop out₀ at json s o₀ i₀ out o i = (i ≤ length s) × (length out ≡ length out₀) × Listed false (escapedOf json) s (drop i s) [] at out₀ o out
+invariant-loop out₀ at json s o₀ i₀ out o i = (i ≤ length s) × (length out ≡ length out₀) × Listed false (escaped_of json) s (drop i s) [] at out₀ o out
 
 abbrev decreases-loop : tie.decreases-loop
 decreases-loop out₀ at json s o₀ i₀ out o i = length s - i

@@ -1,49 +1,49 @@
 -- `vectors::answer` meets its contract: the letters in order; 4 and 16 are the widths of addresses. Assumes nothing.
 use mathlib.Core.Path.{ap}
 use borrow.Author.Rules.{rules}
-use borrow.Author.Tests.{eq-eqb, ne_eqb}
+use borrow.Author.Tests.{eq-eq, ne_eqb}
 use Rattle.addresses.specs.AddressesLaws.{four, sixteen}
 use Rattle.chars.specs.PutsLaws.{puts-as}
-use Rattle.vectors.specs.Answers.{numberText, answerText}
+use Rattle.vectors.specs.Answers.{number_text, answer_text}
 use Rattle.vectors.proofs.answer.Statement.{statement}
 use Rattle.vectors.proofs.answer.Tie as tie
 
 returns : tie.Need-returns
-unfolding answerText
+unfolding answer_text
 returns c =
     let p = c.before.before in
     let t1 = p.before.before in
-    simp (eq-eqb _ _ t1.if1.true) p.answer-wire.ensures
+    simp (eq-eq _ _ t1.if1.true) p.answer-wire.ensures
 
 returns-2 : tie.Need-returns-2
-unfolding answerText
+unfolding answer_text
 returns-2 c =
     let p = c.before.before in
     let t2 = p.before.before in
     let t1 = t2.before in
-    simp (ne_eqb _ _ t1.if1.false, eq-eqb _ _ t2.if2.true) p.answer-text.ensures
+    simp (ne_eqb _ _ t1.if1.false, eq-eq _ _ t2.if2.true) p.answer-text.ensures
 
 returns-3 : tie.Need-returns-3
-unfolding answerText
+unfolding answer_text
 returns-3 c =
     let p = c.before.before in
     let t3 = p.before.before in
     let t2 = t3.before in
     let t1 = t2.before in
-    simp (ne_eqb _ _ t1.if1.false, ne_eqb _ _ t2.if2.false, eq-eqb _ _ t3.if3.true) p.answer-addresses.ensures
+    simp (ne_eqb _ _ t1.if1.false, ne_eqb _ _ t2.if2.false, eq-eq _ _ t3.if3.true) p.answer-addresses.ensures
 
 returns-4 : tie.Need-returns-4
-unfolding answerText
+unfolding answer_text
 returns-4 c =
     let p = c.before.before in
     let t4 = p.before.before in
     let t3 = t4.before in
     let t2 = t3.before in
     let t1 = t2.before in
-    simp (ne_eqb _ _ t1.if1.false, ne_eqb _ _ t2.if2.false, ne_eqb _ _ t3.if3.false, eq-eqb _ _ t4.if4.true) p.answer-addresses2.ensures
+    simp (ne_eqb _ _ t1.if1.false, ne_eqb _ _ t2.if2.false, ne_eqb _ _ t3.if3.false, eq-eq _ _ t4.if4.true) p.answer-addresses2.ensures
 
 returns-5 : tie.Need-returns-5
-unfolding answerText
+unfolding answer_text
 returns-5 c =
     let p = c.before.before in
     let t5 = p.before.before.before in
@@ -54,11 +54,11 @@ returns-5 c =
     let e1 = ne_eqb _ _ t1.if1.false in
     let e2 = ne_eqb _ _ t2.if2.false in
     let e3 = ne_eqb _ _ t3.if3.false in
-    simp (e1, e2, e3, ne_eqb _ _ t4.if4.false, eq-eqb _ _ t5.if5.true)
-    (puts-as (ap numberText p.before.params-fault.ensures) p.put-decimal.ensures)
+    simp (e1, e2, e3, ne_eqb _ _ t4.if4.false, eq-eq _ _ t5.if5.true)
+    (puts-as (ap number_text p.before.params-fault.ensures) p.put-decimal.ensures)
 
 returns-6 : tie.Need-returns-6
-unfolding answerText
+unfolding answer_text
 returns-6 c =
     let p = c.before.before in
     let t5 = p.before.before.before in

@@ -2,7 +2,7 @@
 use borrow.Author.Rules.{rules}
 use mathlib.Core.Path.{sym, ◌∙◌}
 use Rattle.texts.specs.Exact.{good}
-use Rattle.texts.specs.Texts.{wireOf}
+use Rattle.texts.specs.Texts.{wire_of}
 use Rattle.chars.specs.PutsLaws.{puts-as}
 use Rattle.vectors.specs.AnswersLaws.{name-good, name-bad}
 use Rattle.vectors.proofs.answer_text.Statement.{statement}
@@ -18,14 +18,14 @@ returns c =
     let p = c.before.before in
     let t = p.before.before in
     let k = t.before.before in
-    puts-as (name-good (wireOf k.before.before.before.args.text.now) k.check-text.ensures.0 t.enum_told.given.1) p.put-wire.ensures
+    puts-as (name-good (wire_of k.before.before.before.args.text.now) k.check-text.ensures.0 t.enum_told.given.1) p.put-wire.ensures
 
 returns-2 : tie.Need-returns-2
 returns-2 c =
     let p = c.before.before in
     let t = p.before.before.before in
     let k = t.before.before in
-    puts-as (name-bad (wireOf k.before.before.before.args.text.now) k.check-text.ensures.0 t.place.given.1) p.put-bad.ensures
+    puts-as (name-bad (wire_of k.before.before.before.args.text.now) k.check-text.ensures.0 t.place.given.1) p.put-bad.ensures
 
 pub answer-text-spec : {M : Type 1} → statement M
 answer-text-spec =

@@ -7,18 +7,18 @@ use lib.ListN.{length, length-take}
 use mathlib.Core.List.{List}
 use native.Mathlib.Nat.{mul-le-mul_right, div-mul-le_self}
 use Rattle.octets.specs.Lists.{flat}
-use Rattle.addresses.specs.Addresses.{keptOf, list_of}
+use Rattle.addresses.specs.Addresses.{kept_of, list_of}
 use Rattle.addresses.specs.AddressesLaws.{flat-length, kept-wide, list-wide, kept-few, list_length}
 use Rattle.octets.specs.OverLaws.{wrote-front}
 use Rattle.chars.specs.PutsLaws.{puts-as}
-use Rattle.vectors.specs.Answers.{hexText}
+use Rattle.vectors.specs.Answers.{hex_text}
 use Rattle.vectors.proofs.put_kept.Statement.{statement}
 use Rattle.vectors.proofs.put_kept.Tie as tie
 
 -- what is kept of a list of addresses is no longer than the list
-kept-short : (w : ℕ) (s : List ℕ) → length (flat (keptOf w (list_of w s))) ≤ length s
+kept-short : (w : ℕ) (s : List ℕ) → length (flat (kept_of w (list_of w s))) ≤ length s
 kept-short w s =
-    let n = flat-length w (keptOf w (list_of w s)) (kept-wide w (list_of w s) (list-wide w s)) in
+    let n = flat-length w (kept_of w (list_of w s)) (kept-wide w (list_of w s) (list-wide w s)) in
     let k = mul-le-mul_right w (kept-few w (list_of w s)) in
     let l = ap (λ (x : ℕ). x * w) (list_length w s) in
     omega (arith, div-mul-le_self (length s) w)
@@ -34,7 +34,7 @@ slice-aggregate-put-hex c = simp length-take (omega arith)
 returns : tie.Need-returns
 returns c =
     let p = c.before.before in
-    puts-as (ap hexText (wrote-front p.before.before.before.before.put-kept.ensures)) p.put-hex.ensures
+    puts-as (ap hex_text (wrote-front p.before.before.before.before.put-kept.ensures)) p.put-hex.ensures
 
 pub put-kept-spec : {M : Type 1} → statement M
 put-kept-spec =

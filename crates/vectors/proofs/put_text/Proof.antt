@@ -6,7 +6,7 @@ use lib.ListN.{length-take}
 use Rattle.names.specs.Right.{three}
 use Rattle.octets.specs.OverLaws.{wrote-front}
 use Rattle.chars.specs.PutsLaws.{puts-as}
-use Rattle.vectors.specs.Answers.{goodText}
+use Rattle.vectors.specs.Answers.{good_text}
 use Rattle.vectors.proofs.put_text.Statement.{statement}
 use Rattle.vectors.proofs.put_text.Tie as tie
 
@@ -19,7 +19,7 @@ slice-aggregate-put-good c = simp length-take (omega arith)
 returns : tie.Need-returns
 returns c =
     let p = c.before.before in
-    puts-as (ap goodText (wrote-front p.before.before.before.before.to-text.ensures)) p.put-good.ensures
+    puts-as (ap good_text (wrote-front p.before.before.before.before.to-text.ensures)) p.put-good.ensures
 
 pub put-text-spec : {M : Type 1} → statement M
 put-text-spec =

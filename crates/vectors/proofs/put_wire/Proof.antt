@@ -5,7 +5,7 @@ use native.Mathlib.Omega.{arith}
 use lib.ListN.{length-take}
 use Rattle.octets.specs.OverLaws.{wrote-front}
 use Rattle.chars.specs.PutsLaws.{puts-as}
-use Rattle.vectors.specs.Answers.{goodText}
+use Rattle.vectors.specs.Answers.{good_text}
 use Rattle.vectors.proofs.put_wire.Statement.{statement}
 use Rattle.vectors.proofs.put_wire.Tie as tie
 
@@ -15,7 +15,7 @@ slice-aggregate-put-good c = simp length-take (omega arith)
 returns : tie.Need-returns
 returns c =
     let p = c.before.before in
-    puts-as (ap goodText (wrote-front p.before.before.before.before.to-wire.ensures)) p.put-good.ensures
+    puts-as (ap good_text (wrote-front p.before.before.before.before.to-wire.ensures)) p.put-good.ensures
 
 pub put-wire-spec : {M : Type 1} → statement M
 put-wire-spec =

@@ -7,13 +7,13 @@ use lib.ListN.{length}
 use borrow.Author.Rules.{rules}
 use Rattle.octets.specs.NumbersLaws.{bytes-at}
 use Rattle.taking.specs.StandingLaws.{standing-within}
-use Rattle.vetting.specs.Weighing.{recordsOf, Weighing}
+use Rattle.vetting.specs.Weighing.{records_of, Weighing}
 use Rattle.vetting.specs.WeighingLaws.{inside-any, weighing-start, weighing-fits, weighing-inside, weighing-further, weighing-faulty, weighing-next, weighing-end}
 use Rattle.vetting.proofs.weigh.Statement.{statement}
 use Rattle.vetting.proofs.weigh.Tie as tie
 
 abbrev invariant-loop : tie.invariant-loop
-invariant-loop c s at₀ large₀ size₀ at large size = Weighing c s (recordsOf s) at large size
+invariant-loop c s at₀ large₀ size₀ at large size = Weighing c s (records_of s) at large size
 
 abbrev decreases-loop : tie.decreases-loop
 decreases-loop c s at₀ large₀ size₀ at large size = length s - at

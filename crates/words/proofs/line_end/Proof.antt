@@ -3,13 +3,13 @@ use mathlib.Core.Path.{◌≡◌}
 use Prim.Native.Nat.{◌+◌, ◌-◌, ◌≤◌}
 use native.Mathlib.Omega.{arith}
 use lib.ListN.{length, drop}
-use Rattle.words.specs.Encoded.{breakAt}
+use Rattle.words.specs.Encoded.{break_at}
 use Rattle.words.specs.EncodedLaws.{break-here, break-later, break-none}
 use Rattle.words.proofs.line_end.Statement.{statement}
 use Rattle.words.proofs.line_end.Tie as tie
 
 abbrev invariant-loop : tie.invariant-loop
-invariant-loop s from i₀ i = (i ≤ length s) × (i + breakAt (drop i s) ≡ from + breakAt (drop from s))
+invariant-loop s from i₀ i = (i ≤ length s) × (i + break_at (drop i s) ≡ from + break_at (drop from s))
 
 abbrev decreases-loop : tie.decreases-loop
 decreases-loop s from i₀ i = length s - i

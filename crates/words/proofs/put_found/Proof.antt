@@ -5,13 +5,13 @@ use Prim.Native.Nat.{◌-◌}
 use native.Mathlib.Omega.{arith}
 use lib.ListN.{length, drop}
 use Rattle.chars.specs.PutsLaws.{puts-as}
-use Rattle.words.specs.Encoded.{wordsAt}
+use Rattle.words.specs.Encoded.{words_at}
 use Rattle.words.specs.EncodedLaws.{found, passed, missing}
 use Rattle.words.proofs.put_found.Statement.{statement}
 use Rattle.words.proofs.put_found.Tie as tie
 
 abbrev invariant-loop : tie.invariant-loop
-invariant-loop out₀ at number table i₀ t8 out i = (out ≡ out₀) × (length out ≡ length out₀) × (wordsAt number (drop i table) ≡ wordsAt number table)
+invariant-loop out₀ at number table i₀ t8 out i = (out ≡ out₀) × (length out ≡ length out₀) × (words_at number (drop i table) ≡ words_at number table)
 
 abbrev decreases-loop : tie.decreases-loop
 decreases-loop out₀ at number table i₀ t8 out i = length table - i

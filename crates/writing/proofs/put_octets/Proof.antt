@@ -1,5 +1,5 @@
 -- `writing::put_octets` meets its contract: in carrier 1 joined and cut, else one after another. Assumes nothing.
-use Rattle.writing.specs.Laying.{recordsOf}
+use Rattle.writing.specs.Laying.{records_of}
 use Rattle.writing.specs.LayingLaws.{row-joined, stream-room, stream-laid}
 use borrow.Author.Rules.{rules}
 use Rattle.writing.proofs.put_octets.Statement.{statement}
@@ -28,7 +28,7 @@ returns-2 c =
     let p = c.before.before in
     let k = p.before.before in
     let a = (start k.before).args in
-    stream-laid a.c (row-joined a.c k.before.facts.ensures k.if1.false) (recordsOf a.s.now) p.put-stream.ensures
+    stream-laid a.c (row-joined a.c k.before.facts.ensures k.if1.false) (records_of a.s.now) p.put-stream.ensures
 
 pub put-octets-spec : {M : Type 1} → statement M
 put-octets-spec =

@@ -5,13 +5,13 @@ use Prim.Native.Nat.{◌-◌}
 use lib.ListN.{length}
 use Rattle.taking.specs.StandingLaws.{standing-within}
 use Rattle.vetting.specs.WeighingLaws.{inside-any}
-use Rattle.writing.specs.Laying.{recordsOf, Laying}
+use Rattle.writing.specs.Laying.{records_of, Laying}
 use Rattle.writing.specs.LayingLaws.{laying-start, laying-length, laying-end, laying-inside, laying-further, laying-writable, laying-room, laying-next}
 use Rattle.writing.proofs.put_stream.Statement.{statement}
 use Rattle.writing.proofs.put_stream.Tie as tie
 
 abbrev invariant-loop : tie.invariant-loop
-invariant-loop out₀ from c s next₀ at₀ out next at = Laying c s (recordsOf s) from out₀ next at out
+invariant-loop out₀ from c s next₀ at₀ out next at = Laying c s (records_of s) from out₀ next at out
 
 abbrev decreases-loop : tie.decreases-loop
 decreases-loop out₀ from c s next₀ at₀ out next at = length s - next

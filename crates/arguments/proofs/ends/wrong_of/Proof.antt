@@ -1,23 +1,23 @@
 -- `arguments::ends::wrong_of` meets its contract: the tests in order. Assumes nothing.
 use mathlib.Core.Path.{sym, ◌∙◌}
 use borrow.Author.Rules.{rules}
-use borrow.Author.Tests.{eq-eqb, ne_eqb}
-use Rattle.arguments.specs.Line.{wrongOf}
+use borrow.Author.Tests.{eq-eq, ne_eqb}
+use Rattle.arguments.specs.Line.{wrong_of}
 use Rattle.arguments.proofs.ends.wrong_of.Statement.{statement}
 use Rattle.arguments.proofs.ends.wrong_of.Tie as tie
 
 returns : tie.Need-returns
-unfolding wrongOf
+unfolding wrong_of
 returns c = simp c.if1.true
 
 returns-2 : tie.Need-returns-2
-unfolding wrongOf
+unfolding wrong_of
 returns-2 c =
     let p1 = c.before.before in
-    simp (p1.if1.false, eq-eqb _ _ c.if2.true)
+    simp (p1.if1.false, eq-eq _ _ c.if2.true)
 
 returns-3 : tie.Need-returns-3
-unfolding wrongOf
+unfolding wrong_of
 returns-3 c =
     let p2 = c.before.before in
     let p1 = p2.before.before in
@@ -25,7 +25,7 @@ returns-3 c =
     simp (p1.if1.false, ne_eqb _ _ p2.if2.false, e3)
 
 returns-4 : tie.Need-returns-4
-unfolding wrongOf
+unfolding wrong_of
 returns-4 c =
     let p3 = c.before.before in
     let p2 = p3.before.before in
@@ -35,7 +35,7 @@ returns-4 c =
     simp (p1.if1.false, ne_eqb _ _ p2.if2.false, e3, e4)
 
 returns-5 : tie.Need-returns-5
-unfolding wrongOf
+unfolding wrong_of
 returns-5 c =
     let p4 = c.before.before in
     let p3 = p4.before.before in
@@ -47,7 +47,7 @@ returns-5 c =
     simp (p1.if1.false, ne_eqb _ _ p2.if2.false, e3, e4, e5)
 
 returns-6 : tie.Need-returns-6
-unfolding wrongOf
+unfolding wrong_of
 returns-6 c =
     let p4 = c.before.before in
     let p3 = p4.before.before in

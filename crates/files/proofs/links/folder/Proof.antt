@@ -4,13 +4,13 @@ use Prim.Native.Nat.{◌≤◌}
 use native.Mathlib.Omega.{arith}
 use lib.ListN.{length}
 use Rattle.io.proofs.Counting.{prefix_len_of_le}
-use Rattle.files.specs.Paths.{slashIn}
+use Rattle.files.specs.Paths.{slash_in}
 use Rattle.files.specs.PathsLaws.{slash-here, slash-before, slash-none}
 use Rattle.files.proofs.links.folder.Statement.{statement}
 use Rattle.files.proofs.links.folder.Tie as tie
 
 abbrev invariant-loop : tie.invariant-loop
-invariant-loop path i₀ i = (i ≤ length path) × (slashIn i path ≡ slashIn (length path) path)
+invariant-loop path i₀ i = (i ≤ length path) × (slash_in i path ≡ slash_in (length path) path)
 
 abbrev decreases-loop : tie.decreases-loop
 decreases-loop path i₀ i = i

@@ -5,13 +5,13 @@ use Prim.Native.Nat.{ℕ, ◌+◌, ◌-◌}
 use native.Mathlib.Omega.{arith}
 use borrow.Author.Rules.{rules}
 use lib.ListN.{length, drop}
-use Rattle.forms.specs.Arrays.{after, tailFrom, tailOf}
+use Rattle.forms.specs.Arrays.{after, tail_from, tail_of}
 use Rattle.forms.specs.ArraysLaws.{tail-start, tail-bad, tail-later, tail-end}
 use Rattle.forms.proofs.array.tail.Statement.{statement}
 use Rattle.forms.proofs.array.tail.Tie as tie
 
 abbrev invariant-loop : tie.invariant-loop
-invariant-loop text from n s₀ i₀ s i = tailFrom s n (length text) i (drop i (text ++ (10 ∷ []))) ≡ tailOf from n text
+invariant-loop text from n s₀ i₀ s i = tail_from s n (length text) i (drop i (text ++ (10 ∷ []))) ≡ tail_of from n text
 
 abbrev decreases-loop : tie.decreases-loop
 decreases-loop text from n s₀ i₀ s i = length text + 1 - i

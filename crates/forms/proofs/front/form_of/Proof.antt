@@ -5,13 +5,13 @@ use Prim.Native.Nat.{ℕ, ◌+◌, ◌-◌, ◌≤◌}
 use native.Mathlib.Omega.{arith}
 use borrow.Author.Rules.{rules}
 use lib.ListN.{length, drop}
-use Rattle.forms.specs.Fronts.{after, formFrom, form_of}
+use Rattle.forms.specs.Fronts.{after, form_from, form_of}
 use Rattle.forms.specs.FrontsLaws.{form-here, form-later, form-none, form-start}
 use Rattle.forms.proofs.front.form_of.Statement.{statement}
 use Rattle.forms.proofs.front.form_of.Tie as tie
 
 abbrev invariant-loop : tie.invariant-loop
-invariant-loop text s₀ i₀ s i = (i ≤ length text + 1) × (formFrom s (drop i (text ++ (10 ∷ []))) ≡ form_of text)
+invariant-loop text s₀ i₀ s i = (i ≤ length text + 1) × (form_from s (drop i (text ++ (10 ∷ []))) ≡ form_of text)
 
 abbrev decreases-loop : tie.decreases-loop
 decreases-loop text s₀ i₀ s i = length text + 1 - i

@@ -5,13 +5,13 @@ use native.Mathlib.Omega.{arith}
 use borrow.Author.Rules.{rules}
 use borrow.Author.Tests.{not-true, not-false}
 use lib.ListN.{length, drop}
-use Rattle.forms.specs.Places.{beginOf}
+use Rattle.forms.specs.Places.{begin_of}
 use Rattle.forms.specs.PlacesLaws.{begin-here, begin-later, begin-none}
 use Rattle.forms.proofs.places.begin.Statement.{statement}
 use Rattle.forms.proofs.places.begin.Tie as tie
 
 abbrev invariant-loop : tie.invariant-loop
-invariant-loop text i₀ i = (i ≤ length text) × (beginOf i (drop i text) ≡ beginOf 0 text)
+invariant-loop text i₀ i = (i ≤ length text) × (begin_of i (drop i text) ≡ begin_of 0 text)
 
 abbrev decreases-loop : tie.decreases-loop
 decreases-loop text i₀ i = length text - i

@@ -6,13 +6,13 @@ use native.Mathlib.Omega.{arith}
 use borrow.Author.Rules.{rules}
 use borrow.Author.Tests.{not-true, not-false}
 use lib.ListN.{length, drop}
-use Rattle.forms.specs.Places.{braceFrom, braceOf}
+use Rattle.forms.specs.Places.{brace_from, brace_of}
 use Rattle.forms.specs.PlacesLaws.{brace-array, brace-other, brace-later, brace-none}
 use Rattle.forms.proofs.places.brace.Statement.{statement}
 use Rattle.forms.proofs.places.brace.Tie as tie
 
 abbrev invariant-loop : tie.invariant-loop
-invariant-loop text last₀ i₀ last i = (i ≤ length text) × (braceFrom (length text) last i (drop i text) ≡ braceOf text)
+invariant-loop text last₀ i₀ last i = (i ≤ length text) × (brace_from (length text) last i (drop i text) ≡ brace_of text)
 
 abbrev decreases-loop : tie.decreases-loop
 decreases-loop text last₀ i₀ last i = length text - i

@@ -16,7 +16,7 @@ abbrev decreases-loop : tie.decreases-loop
 decreases-loop text i₀ i = length text - i
 
 returns : tie.Need-returns invariant-loop decreases-loop
-returns c = text-wide c.before.before.before.args.text.now (sym c.before.is_IsWide.ensures ∙ c.if1.true)
+returns c = text-wide c.before.before.before.args.text.now (sym c.before.is_is_wide.ensures ∙ c.if1.true)
 
 loop-holds : tie.Need-loop-init invariant-loop decreases-loop
 loop-holds c = (omega arith, refl)
@@ -27,7 +27,7 @@ returns-2 c =
     let w = l.before in
     let t = w.before.before.before.args.text.now in
     let here = controlled-here t l.loop.i (omega arith) (sym c.before.is_control.ensures ∙ c.if2.true) in
-    sym here ∙ l.loop.invariant.1 ∙ text-narrow t (sym w.before.is_IsWide.ensures ∙ w.if1.false)
+    sym here ∙ l.loop.invariant.1 ∙ text-narrow t (sym w.before.is_is_wide.ensures ∙ w.if1.false)
 
 loop-again : tie.Need-loop-preserved invariant-loop decreases-loop
 loop-again c =
@@ -41,7 +41,7 @@ returns-3 c =
     let l = c.before in
     let w = l.before in
     let t = w.before.before.before.args.text.now in
-    sym (controlled-none t l.loop.i (omega arith)) ∙ l.loop.invariant.1 ∙ text-narrow t (sym w.before.is_IsWide.ensures ∙ w.if1.false)
+    sym (controlled-none t l.loop.i (omega arith)) ∙ l.loop.invariant.1 ∙ text-narrow t (sym w.before.is_is_wide.ensures ∙ w.if1.false)
 
 pub is-text-spec : {M : Type 1} → statement M
 is-text-spec =

@@ -1,18 +1,18 @@
 -- `forms::places::is_wide` meets its contract: the tests in order. Assumes nothing.
 use borrow.Author.Rules.{rules}
-use borrow.Author.Tests.{eq-eqb, le-ltb, lt-ltb, ne_eqb}
-use Rattle.forms.specs.Places.{wideText}
+use borrow.Author.Tests.{eq-eq, le-ltb, lt-ltb, ne_eqb}
+use Rattle.forms.specs.Places.{wide_text}
 use Rattle.forms.specs.PlacesLaws.{wide-second}
 use Rattle.forms.proofs.places.is_wide.Statement.{statement}
 use Rattle.forms.proofs.places.is_wide.Tie as tie
 
 returns : tie.Need-returns
-unfolding wideText
+unfolding wide_text
 returns c = simp (lt-ltb _ _ c.if1.true)
 
 returns-2 : tie.Need-returns-2
-unfolding wideText
-returns-2 c = simp (le-ltb _ _ c.before.before.before.if1.false, eq-eqb _ _ c.before.if2.true)
+unfolding wide_text
+returns-2 c = simp (le-ltb _ _ c.before.before.before.if1.false, eq-eq _ _ c.before.if2.true)
 
 returns-3 : tie.Need-returns-3
 returns-3 c =
@@ -22,7 +22,7 @@ returns-3 c =
     wide-second p1.before.args.text.now p1.if1.false p2.if2.false p3.if3.true
 
 returns-4 : tie.Need-returns-4
-unfolding wideText
+unfolding wide_text
 returns-4 c =
     let p2 = c.before.before in
     let p1 = p2.before.before in

@@ -4,13 +4,13 @@ use Prim.Native.Nat.{◌-◌, ◌≤◌}
 use native.Mathlib.Omega.{arith}
 use borrow.Author.Rules.{rules}
 use lib.ListN.{length, drop}
-use Rattle.forms.specs.Places.{packetFrom, packetOf}
+use Rattle.forms.specs.Places.{packet_from, packet_of}
 use Rattle.forms.specs.PlacesLaws.{packet-here, packet-line, packet-later, packet-none}
 use Rattle.forms.proofs.places.packet.Statement.{statement}
 use Rattle.forms.proofs.places.packet.Tie as tie
 
 abbrev invariant-loop : tie.invariant-loop
-invariant-loop text line₀ so-far₀ i₀ line so_far i = (line ≤ i) × (i ≤ length text) × (packetFrom so_far line i (drop i text) ≡ packetOf text)
+invariant-loop text line₀ so-far₀ i₀ line so_far i = (line ≤ i) × (i ≤ length text) × (packet_from so_far line i (drop i text) ≡ packet_of text)
 
 abbrev decreases-loop : tie.decreases-loop
 decreases-loop text line₀ so-far₀ i₀ line so_far i = length text - i

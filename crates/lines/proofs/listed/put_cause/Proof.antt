@@ -1,12 +1,12 @@
 -- `lines::listed::put_cause` meets its contract: its parts one after another. Assumes nothing.
 use borrow.Author.Rules.{rules}
 use Rattle.chars.specs.PutsLaws.{puts_then}
-use Rattle.lines.specs.Listed.{causeOf}
+use Rattle.lines.specs.Listed.{cause_of}
 use Rattle.lines.proofs.listed.put_cause.Statement.{statement}
 use Rattle.lines.proofs.listed.put_cause.Tie as tie
 
 returns : tie.Need-returns
-unfolding causeOf
+unfolding cause_of
 returns c =
     let p4 = c.before.before in
     let p3 = p4.before.before.before.before.before in

@@ -1,12 +1,12 @@
 -- `lines::listed::put_discarded` meets its contract: its parts one after another. Assumes nothing.
 use borrow.Author.Rules.{rules}
 use Rattle.chars.specs.PutsLaws.{puts_then}
-use Rattle.lines.specs.Listed.{discardedOf}
+use Rattle.lines.specs.Listed.{discarded_of}
 use Rattle.lines.proofs.listed.put_discarded.Statement.{statement}
 use Rattle.lines.proofs.listed.put_discarded.Tie as tie
 
 returns : tie.Need-returns
-unfolding discardedOf
+unfolding discarded_of
 returns c =
     let p5 = c.before.before in
     let p4 = p5.before.before.before.before in

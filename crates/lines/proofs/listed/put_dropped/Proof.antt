@@ -1,12 +1,12 @@
 -- `lines::listed::put_dropped` meets its contract: its parts one after another. Assumes nothing.
 use borrow.Author.Rules.{rules}
 use Rattle.chars.specs.PutsLaws.{puts_then}
-use Rattle.lines.specs.Listed.{droppedOf}
+use Rattle.lines.specs.Listed.{dropped_of}
 use Rattle.lines.proofs.listed.put_dropped.Statement.{statement}
 use Rattle.lines.proofs.listed.put_dropped.Tie as tie
 
 returns : tie.Need-returns
-unfolding droppedOf
+unfolding dropped_of
 returns c =
     let p6 = c.before.before in
     let p5 = p6.before.before.before.before.before in

@@ -2,7 +2,7 @@
 use borrow.Author.Rules.{rules}
 use Rattle.chars.specs.PutsLaws.{puts-as}
 use mathlib.Core.Path.{ap}
-use Rattle.lines.specs.Objects.{stringOf}
+use Rattle.lines.specs.Objects.{string_of}
 use Rattle.lines.specs.ObjectsLaws.{inner-is}
 use Rattle.lines.proofs.objects.put_inner.Statement.{statement}
 use Rattle.lines.proofs.objects.put_inner.Tie as tie
@@ -11,7 +11,7 @@ returns : tie.Need-returns
 returns c =
     let w = c.before.before in
     let f = w.before.before.before in
-    puts-as (ap stringOf (inner-is _ f.before.last.ensures f.lesser.ensures)) w.put-string.ensures
+    puts-as (ap string_of (inner-is _ f.before.last.ensures f.lesser.ensures)) w.put-string.ensures
 
 pub put-inner-spec : {M : Type 1} → statement M
 put-inner-spec =

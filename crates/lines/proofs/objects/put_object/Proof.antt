@@ -1,12 +1,12 @@
 -- `lines::objects::put_object` meets its contract: its parts one after another. Assumes nothing.
 use borrow.Author.Rules.{rules}
 use Rattle.chars.specs.PutsLaws.{puts_then}
-use Rattle.lines.specs.Objects.{objectOf}
+use Rattle.lines.specs.Objects.{object_of}
 use Rattle.lines.proofs.objects.put_object.Statement.{statement}
 use Rattle.lines.proofs.objects.put_object.Tie as tie
 
 returns : tie.Need-returns
-unfolding objectOf
+unfolding object_of
 returns c =
     let p4 = c.before.before in
     let p3 = p4.before.before.before.before in

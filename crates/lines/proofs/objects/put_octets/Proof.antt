@@ -1,12 +1,12 @@
 -- `lines::objects::put_octets` meets its contract: its parts one after another. Assumes nothing.
 use borrow.Author.Rules.{rules}
 use Rattle.chars.specs.PutsLaws.{puts_then}
-use Rattle.lines.specs.Objects.{octetsOf}
+use Rattle.lines.specs.Objects.{octets_of}
 use Rattle.lines.proofs.objects.put_octets.Statement.{statement}
 use Rattle.lines.proofs.objects.put_octets.Tie as tie
 
 returns : tie.Need-returns
-unfolding octetsOf
+unfolding octets_of
 returns c =
     let p4 = c.before.before in
     let p3 = p4.before.before.before.before.before in

@@ -1,12 +1,12 @@
 -- `lines::objects::put_saved` meets its contract: its parts one after another. Assumes nothing.
 use borrow.Author.Rules.{rules}
 use Rattle.chars.specs.PutsLaws.{puts_then}
-use Rattle.lines.specs.Objects.{savedOf}
+use Rattle.lines.specs.Objects.{saved_of}
 use Rattle.lines.proofs.objects.put_saved.Statement.{statement}
 use Rattle.lines.proofs.objects.put_saved.Tie as tie
 
 returns : tie.Need-returns
-unfolding savedOf
+unfolding saved_of
 returns c =
     let p2 = c.before.before in
     let p1 = p2.before.before.before.before.before in

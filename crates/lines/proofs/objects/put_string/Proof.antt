@@ -8,13 +8,13 @@ use native.Mathlib.Numerals.{add-one}
 use native.Mathlib.Omega.{arith}
 use lib.ListN.{length, drop, drop_of_length-le}
 use lib.Seq.{drop-cons}
-use Rattle.lines.specs.Objects.{letterOf, stringOf}
+use Rattle.lines.specs.Objects.{letter_of, string_of}
 use Rattle.values.specs.ListLaws.{Listed, listed_start, listed_next, listed-end}
 use Rattle.lines.proofs.objects.put_string.Statement.{statement}
 use Rattle.lines.proofs.objects.put_string.Tie as tie
 
 abbrev invariant-loop : tie.invariant-loop
-invariant-loop out₀ at s o₀ i₀ out o i = (i ≤ length s) × (length out ≡ length out₀) × Listed false letterOf s (drop i s) [] at out₀ o out
+invariant-loop out₀ at s o₀ i₀ out o i = (i ≤ length s) × (length out ≡ length out₀) × Listed false letter_of s (drop i s) [] at out₀ o out
 
 abbrev decreases-loop : tie.decreases-loop
 decreases-loop out₀ at s o₀ i₀ out o i = length s - i
@@ -30,7 +30,7 @@ loop-again c =
     (omega arith, omega arith, listed_next _ _ l.loop.invariant.2 (rw add-one (drop-cons s l.loop.i 0 (omega arith))) refl w.put-letter.ensures)
 
 returns : tie.Need-returns invariant-loop decreases-loop
-unfolding stringOf
+unfolding string_of
 returns c =
     let l = c.before in
     listed-end _ _ l.loop.invariant.2 (drop_of_length-le _ c.loop-test.false)

@@ -1,12 +1,12 @@
 -- `lines::said::put_kept` meets its contract: its parts one after another. Assumes nothing.
 use borrow.Author.Rules.{rules}
 use Rattle.chars.specs.PutsLaws.{puts_then}
-use Rattle.lines.specs.Said.{keptOf}
+use Rattle.lines.specs.Said.{kept_of}
 use Rattle.lines.proofs.said.put_kept.Statement.{statement}
 use Rattle.lines.proofs.said.put_kept.Tie as tie
 
 returns : tie.Need-returns
-unfolding keptOf
+unfolding kept_of
 returns c =
     let p2 = c.before.before in
     let p1 = p2.before.before.before.before.before in

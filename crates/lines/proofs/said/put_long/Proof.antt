@@ -1,12 +1,12 @@
 -- `lines::said::put_long` meets its contract: its parts one after another. Assumes nothing.
 use borrow.Author.Rules.{rules}
 use Rattle.chars.specs.PutsLaws.{puts_then}
-use Rattle.lines.specs.Said.{longOf}
+use Rattle.lines.specs.Said.{long_of}
 use Rattle.lines.proofs.said.put_long.Statement.{statement}
 use Rattle.lines.proofs.said.put_long.Tie as tie
 
 returns : tie.Need-returns
-unfolding longOf
+unfolding long_of
 returns c =
     let p2 = c.before.before in
     let p1 = p2.before.before.before.before.before in

@@ -1,12 +1,12 @@
 -- `lines::said::put_nothing` meets its contract: its parts one after another. Assumes nothing.
 use borrow.Author.Rules.{rules}
 use Rattle.chars.specs.PutsLaws.{puts_then}
-use Rattle.lines.specs.Said.{nothingOf}
+use Rattle.lines.specs.Said.{nothing_of}
 use Rattle.lines.proofs.said.put_nothing.Statement.{statement}
 use Rattle.lines.proofs.said.put_nothing.Tie as tie
 
 returns : tie.Need-returns
-unfolding nothingOf
+unfolding nothing_of
 returns c =
     let p6 = c.before.before in
     let p5 = p6.before.before.before.before.before in

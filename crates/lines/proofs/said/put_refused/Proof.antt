@@ -1,12 +1,12 @@
 -- `lines::said::put_refused` meets its contract: its parts one after another. Assumes nothing.
 use borrow.Author.Rules.{rules}
 use Rattle.chars.specs.PutsLaws.{puts_then}
-use Rattle.lines.specs.Said.{refusedOf}
+use Rattle.lines.specs.Said.{refused_of}
 use Rattle.lines.proofs.said.put_refused.Statement.{statement}
 use Rattle.lines.proofs.said.put_refused.Tie as tie
 
 returns : tie.Need-returns
-unfolding refusedOf
+unfolding refused_of
 returns c =
     let p5 = c.before.before in
     let p4 = p5.before.before.before.before.before in

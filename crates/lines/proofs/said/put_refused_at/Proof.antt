@@ -1,12 +1,12 @@
 -- `lines::said::put_refused_at` meets its contract: its parts one after another. Assumes nothing.
 use borrow.Author.Rules.{rules}
 use Rattle.chars.specs.PutsLaws.{puts_then}
-use Rattle.lines.specs.Said.{refusedAtOf}
+use Rattle.lines.specs.Said.{refused_at_of}
 use Rattle.lines.proofs.said.put_refused_at.Statement.{statement}
 use Rattle.lines.proofs.said.put_refused_at.Tie as tie
 
 returns : tie.Need-returns
-unfolding refusedAtOf
+unfolding refused_at_of
 returns c =
     let p4 = c.before.before in
     let p3 = p4.before.before.before.before in

@@ -1,12 +1,12 @@
 -- `lines::said::put_unread` meets its contract: its parts one after another. Assumes nothing.
 use borrow.Author.Rules.{rules}
 use Rattle.chars.specs.PutsLaws.{puts_then}
-use Rattle.lines.specs.Said.{unreadOf}
+use Rattle.lines.specs.Said.{unread_of}
 use Rattle.lines.proofs.said.put_unread.Statement.{statement}
 use Rattle.lines.proofs.said.put_unread.Tie as tie
 
 returns : tie.Need-returns
-unfolding unreadOf
+unfolding unread_of
 returns c =
     let p5 = c.before.before in
     let p4 = p5.before.before.before.before.before in

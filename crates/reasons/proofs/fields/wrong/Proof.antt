@@ -3,14 +3,14 @@ use borrow.Author.Rules.{rules}
 use native.Mathlib.Omega.{arith}
 use Prim.Native.Nat.{◌-◌}
 use lib.ListN.{length}
-use Rattle.svcparams.specs.Entries.{keysIn}
+use Rattle.svcparams.specs.Entries.{keys_in}
 use Rattle.svcparams.specs.TilingLaws.{size-head}
 use Rattle.reasons.specs.ParamsLaws.{Seeking, seeking-start, seeking-end, seeking-found, seeking-next}
 use Rattle.reasons.proofs.fields.wrong.Statement.{statement}
 use Rattle.reasons.proofs.fields.wrong.Tie as tie
 
 abbrev invariant-loop : tie.invariant-loop
-invariant-loop hints p at₀ at = Seeking hints (keysIn p) p at
+invariant-loop hints p at₀ at = Seeking hints (keys_in p) p at
 
 abbrev decreases-loop : tie.decreases-loop
 decreases-loop hints p at₀ at = length p - at

@@ -2,13 +2,13 @@
 use borrow.Author.Rules.{rules}
 use Prim.Native.Nat.{◌-◌}
 use lib.ListN.{length}
-use Rattle.svcparams.specs.Entries.{keysIn}
+use Rattle.svcparams.specs.Entries.{keys_in}
 use Rattle.svcparams.specs.ValueLaws.{mandatory-none, mandatory-odd, Listing, list-start, list-end, list-low, list-absent, list-next}
 use Rattle.svcparams.proofs.anywhere.mandatory_anywhere.Statement.{statement}
 use Rattle.svcparams.proofs.anywhere.mandatory_anywhere.Tie as tie
 
 abbrev invariant-loop : tie.invariant-loop
-invariant-loop m p i₀ least₀ i least = Listing (keysIn p) m i least
+invariant-loop m p i₀ least₀ i least = Listing (keys_in p) m i least
 
 abbrev decreases-loop : tie.decreases-loop
 decreases-loop m p i₀ least₀ i least = length m - i

@@ -6,7 +6,7 @@ use Prim.Native.Nat.{◌-◌}
 use mathlib.Core.Path.{◌≡◌, refl}
 use mathlib.Core.Bool.{false}
 use lib.ListN.{length}
-use Rattle.svcparams.specs.Entries.{keysIn}
+use Rattle.svcparams.specs.Entries.{keys_in}
 use Rattle.svcparams.specs.MergeTurns.{Merging, merge-start, merge-all, merge-refused, merge-found, merge-passed}
 use Rattle.svcparams.proofs.walk.all_present.Statement.{statement}
 use Rattle.svcparams.proofs.walk.all_present.Tie as tie
@@ -15,7 +15,7 @@ abbrev invariant-params : tie.invariant-params
 invariant-params m p i at₀ steps₀ present₀ listed at steps present = Merging m p i at steps × (present ≡ false)
 
 abbrev decreases-params : tie.decreases-params
-decreases-params m p i at₀ steps₀ present₀ listed at steps present = length (keysIn p) - steps
+decreases-params m p i at₀ steps₀ present₀ listed at steps present = length (keys_in p) - steps
 
 abbrev invariant-listed : tie.invariant-listed
 invariant-listed m p i₀ at₀ steps₀ present₀ i at steps present = Merging m p i at steps × (present ≡ false)
@@ -36,10 +36,10 @@ params-less : tie.Need-params-smaller invariant-params decreases-params invarian
 params-less c = omega (arith, (params-again c).0.few)
 
 add-i : tie.Need-overflow-add-i invariant-params decreases-params invariant-listed decreases-listed
-add-i c = omega (arith, (listed-again c).0.inList)
+add-i c = omega (arith, (listed-again c).0.in_list)
 
 listed-less : tie.Need-listed-smaller invariant-params decreases-params invariant-listed decreases-listed
-listed-less c = omega (arith, (listed-again c).0.inList)
+listed-less c = omega (arith, (listed-again c).0.in_list)
 
 returns : tie.Need-returns invariant-params decreases-params invariant-listed decreases-listed
 returns c = search (rules, merge-all)

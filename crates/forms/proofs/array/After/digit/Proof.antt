@@ -3,13 +3,13 @@ use mathlib.Core.Path.{◌∙◌}
 use native.Mathlib.Omega.{arith}
 use borrow.Author.Rules.{rules}
 use borrow.Author.Tests.{lt-ltb}
-use Rattle.forms.specs.Arrays.{digitOn}
+use Rattle.forms.specs.Arrays.{digit_on}
 use Rattle.forms.specs.ArraysLaws.{decimal-from, digit-more}
 use Rattle.forms.proofs.array.After.digit.Statement.{statement}
 use Rattle.forms.proofs.array.After.digit.Tie as tie
 
 returns : tie.Need-returns
-unfolding digitOn
+unfolding digit_on
 returns c = c.but.ensures ∙ simp (lt-ltb _ _ c.before.if1.true)
 
 sub_wide : tie.Need-overflow-sub-wide
