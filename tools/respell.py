@@ -22,7 +22,7 @@ LEMMAS = {
     "crates/taking/specs/WalkLaws.antt": ["full_at"],
 }
 # lemmas' names after words of the library that have new names there
-WORDS = {"getD": "get_or", "eqb": "eq"}
+WORDS = {"getD": "get_or"}
 
 # constructors, fields and definitions whose dash joins two plain words
 UNDERSCORES = set(

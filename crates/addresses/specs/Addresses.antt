@@ -1,6 +1,6 @@
 -- Which addresses are dropped when read, and the kept ones in order (RULES A1, A2), over the width of an address.
 -- Assumes nothing: these are definitions.
-use Rattle.std.specs.Prelude.{◌≡◌, Bool, true, false, cond, List, [], ◌∷◌, ℕ, zero, suc, ◌+◌, ◌*◌, ◌/◌, ◌≤◌, ltb, eq, length, get_or, take, drop}
+use Rattle.std.specs.Prelude.{◌≡◌, Bool, true, false, cond, List, [], ◌∷◌, ℕ, zero, suc, ◌+◌, ◌*◌, ◌/◌, ◌≤◌, ltb, eqb, length, get_or, take, drop}
 use Rattle.std.specs.Bool.{beq}
 use Rattle.octets.specs.Numbers.{all_zero}
 
@@ -12,19 +12,19 @@ pub record Width (w : ℕ) : Type 0 where
 
 -- an IPv4 address by its first octet: host loopback 127.0.0.0/8, multicast 224.0.0.0/4 (RULES A1)
 unfoldable pub unusable4 : ℕ → Bool
-unusable4 x = cond (eq x 127) true (cond (ltb x 224) false (ltb x 240))
+unusable4 x = cond (eqb x 127) true (cond (ltb x 224) false (ltb x 240))
 
 -- an IPv6 address: multicast ff00::/8, host loopback ::1 (RULES A1)
 unfoldable pub unusable16 : List ℕ → Bool
-unusable16 a = cond (eq (get_or a 0 0) 255) true (cond (eq (get_or a 15 0) 1) (all_zero (take 15 a)) false)
+unusable16 a = cond (eqb (get_or a 0 0) 255) true (cond (eqb (get_or a 15 0) 1) (all_zero (take 15 a)) false)
 
 -- the first octet of an IPv6 address that is kept whatever follows: neither that of ff00::/8 nor that of ::1 (RULES A1)
 unfoldable pub plain16 : ℕ → Bool
-plain16 x = cond (eq x 0) false (cond (eq x 255) false true)
+plain16 x = cond (eqb x 0) false (cond (eqb x 255) false true)
 
 -- an address of w octets is dropped when read (RULES A1)
 unfoldable pub unusable : ℕ → List ℕ → Bool
-unusable w a = cond (eq w 4) (unusable4 (get_or a 0 0)) (unusable16 a)
+unusable w a = cond (eqb w 4) (unusable4 (get_or a 0 0)) (unusable16 a)
 
 -- the first n addresses of w octets that s holds (RULES C1)
 abbrev pub addresses_of : ℕ → ℕ → List ℕ → List (List ℕ)
@@ -51,4 +51,4 @@ any_of w more = has_of w true more
 
 -- none of them stays (RULES R25)
 abbrev pub none_of : ℕ → List (List ℕ) → Bool
-none_of w more = eq (length (kept_of w more)) 0
+none_of w more = eqb (length (kept_of w more)) 0

@@ -1,13 +1,13 @@
 -- The laws of address lists: how the tests of one address come out, the list is its addresses one after another, dropping nothing leaves
 -- the list, and what a loop over the list does in one turn. Assumes nothing.
-use Rattle.std.specs.Prelude.{◌≡◌, refl, Bool, false, not, List, [], ◌∷◌, ◌++◌, ℕ, zero, suc, ◌+◌, ◌-◌, ◌*◌, ◌/◌, ◌%◌, ◌≤◌, ◌<◌, ltb, eq, get_or, take, drop}
+use Rattle.std.specs.Prelude.{◌≡◌, refl, Bool, false, not, List, [], ◌∷◌, ◌++◌, ℕ, zero, suc, ◌+◌, ◌-◌, ◌*◌, ◌/◌, ◌%◌, ◌≤◌, ◌<◌, ltb, eqb, get_or, take, drop}
 use Rattle.std.proofs.Math.Path.{sym, ap}
 use Rattle.std.proofs.Common.{◌∙◌, div-mul-le_self, add-one, arith, length-append, take-append-drop, length-take-le, drop-drop, take_at, drop_at}
 use Rattle.std.proofs.Math.Bool.{true, cond}
 use Rattle.std.specs.Bool.{beq}
 use Rattle.std.proofs.lemmas.Bool.{false≢true}
 use Rattle.std.proofs.Math.Nat.{div-eq-sub-div, div-eq_of_lt, div-add-mod', add-sub_cancel_left}
-use Rattle.std.proofs.Math.Dec.{eq-suc-zero}
+use Rattle.std.proofs.Math.Dec.{eqb-suc-zero}
 use borrow.Author.Tests.{ne_eqb, lt-ltb, le-ltb, not-true, not-false}
 use Rattle.std.proofs.Math.ListN.{length, length-drop}
 use Rattle.octets.specs.Lists.{All, flat}
@@ -39,10 +39,10 @@ module _ (x : ℕ) where
   unusable4-above h = rw (ne_eqb x 127 (omega arith), le-ltb x 224 h)
 
 -- a first octet that is not 0 leaves multicast alone
-pub unusable16-first : (a : List ℕ) → (get_or a 0 0 ≡ 0 → ⊥) → eq (get_or a 0 0) 255 ≡ unusable16 a
+pub unusable16-first : (a : List ℕ) → (get_or a 0 0 ≡ 0 → ⊥) → eqb (get_or a 0 0) 255 ≡ unusable16 a
 unfolding unusable16 all_zero
 unusable16-first [] n = absurd (n refl)
-unusable16-first (x ∷ xs) n = simp (ne_eqb x 0 n) (go (eq x 255) (eq (get_or xs 14 0) 1))
+unusable16-first (x ∷ xs) n = simp (ne_eqb x 0 n) (go (eqb x 255) (eqb (get_or xs 14 0) 1))
   where
     go : (b c : Bool) → b ≡ cond b true (cond c false false)
     go true c = refl
@@ -194,9 +194,9 @@ unfolding has_of kept_of
 none_has w [] = refl
 none_has w (a ∷ more) = go (unusable w a) (none_has w more)
   where
-    go : (b : Bool) → not (has_of w false more) ≡ none_of w more → not (cond (beq b false) true (has_of w false more)) ≡ eq (length (cond b (kept_of w more) (a ∷ kept_of w more))) 0
+    go : (b : Bool) → not (has_of w false more) ≡ none_of w more → not (cond (beq b false) true (has_of w false more)) ≡ eqb (length (cond b (kept_of w more) (a ∷ kept_of w more))) 0
     go true ih = ih
-    go false ih = sym (eq-suc-zero (length (kept_of w more)))
+    go false ih = sym (eqb-suc-zero (length (kept_of w more)))
 
 -- ---- turns of a loop: the rest of the list from `at` on
 

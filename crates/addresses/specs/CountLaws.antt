@@ -4,10 +4,10 @@ use Rattle.std.specs.Prelude.{◌≡◌, Bool, ◌&&◌, ℕ, zero, suc, ◌+◌
 use Rattle.std.proofs.Math.Path.{refl, ap}
 use Rattle.std.proofs.Common.{sym, ◌∙◌, add-zero, arith, ne_eqb, length-append, length-drop, take-append-drop, length-take-le, drop-drop, take_all, get_or-take, get_or-drop}
 use Rattle.std.proofs.Math.Bool.{true, false, cond, not, and-eq-true_iff}
-use Rattle.std.proofs.lemmas.Bool.{false≢true, eq-false}
+use Rattle.std.proofs.lemmas.Bool.{false≢true, eqb-false}
 use mathlib.Core.List.{List, [], ◌∷◌, ◌++◌}
 use Rattle.std.proofs.Math.Nat.{add-sub_cancel_left}
-use Rattle.std.proofs.Math.Dec.{eq}
+use Rattle.std.proofs.Math.Dec.{eqb}
 use Rattle.std.proofs.lemmas.List.{take-append-le, drop-append-le}
 use Rattle.addresses.specs.Addresses.{unusable, plain16, list_of, kept_of}
 use Rattle.addresses.specs.AddressesLaws.{sixteen, unusable16-first, list-cons, list-nil, kept-keep}
@@ -15,27 +15,27 @@ use Rattle.addresses.specs.AddressesLaws.{sixteen, unusable16-first, list-cons, 
 -- ---- the first octet of an IPv6 address
 
 module _ (x : ℕ) where
-  pub plain16-zero : x ≡ 0 → not (eq x 0) ≡ plain16 x
+  pub plain16-zero : x ≡ 0 → not (eqb x 0) ≡ plain16 x
   unfolding plain16
   plain16-zero e = rw e
 
-  pub plain16-other : (x ≡ 0 → ⊥) → not (eq x 255) ≡ plain16 x
+  pub plain16-other : (x ≡ 0 → ⊥) → not (eqb x 255) ≡ plain16 x
   unfolding plain16
-  plain16-other n = simp (ne_eqb x 0 n) (go (eq x 255))
+  plain16-other n = simp (ne_eqb x 0 n) (go (eqb x 255))
     where
       go : (b : Bool) → not b ≡ cond b false true
       go true = refl
       go false = refl
 
   -- a plain octet begins neither ::1 nor ff00::/8
-  plain16-neither : plain16 x ≡ true → (x ≡ 0 → ⊥) × (eq x 255 ≡ false)
+  plain16-neither : plain16 x ≡ true → (x ≡ 0 → ⊥) × (eqb x 255 ≡ false)
   unfolding plain16
-  plain16-neither = go (eq x 0) refl (eq x 255) refl
+  plain16-neither = go (eqb x 0) refl (eqb x 255) refl
     where
-      go : (a : Bool) → eq x 0 ≡ a → (b : Bool) → eq x 255 ≡ b → cond a false (cond b false true) ≡ true → (x ≡ 0 → ⊥) × (eq x 255 ≡ false)
+      go : (a : Bool) → eqb x 0 ≡ a → (b : Bool) → eqb x 255 ≡ b → cond a false (cond b false true) ≡ true → (x ≡ 0 → ⊥) × (eqb x 255 ≡ false)
       go true s b t e = absurd (false≢true e)
       go false s true t e = absurd (false≢true e)
-      go false s false t e = (eq-false x 0 s, t)
+      go false s false t e = (eqb-false x 0 s, t)
 
 -- an address with a plain first octet is not dropped
 plain16-usable : (a : List ℕ) → plain16 (get_or a 0 0) ≡ true → unusable 16 a ≡ false

@@ -1,5 +1,5 @@
 -- What `--` does to a command line: no argument after it is an option. Assumes nothing.
-use Rattle.std.specs.Prelude.{◌≡◌, Bool, true, false, cond, List, [], ◌∷◌, ℕ, ◌+◌, eq}
+use Rattle.std.specs.Prelude.{◌≡◌, Bool, true, false, cond, List, [], ◌∷◌, ℕ, ◌+◌, eqb}
 use Rattle.std.proofs.Math.Path.{refl, ap}
 use Rattle.std.proofs.Common.{sym, ◌∙◌}
 use Rattle.octets.specs.Lists.{same}
@@ -21,15 +21,15 @@ module _ (a : Asked) where
 
   carrier-keeps : (i k : ℕ) → options_of (carried i k a) ≡ options_of a
   unfolding carried
-  carrier-keeps i k = either (eq k 0) (but wrong.carrier i a) (from k 1 a.input a) refl refl
+  carrier-keeps i k = either (eqb k 0) (but wrong.carrier i a) (from k 1 a.input a) refl refl
 
   input-keeps : (i : ℕ) (w : List ℕ) → options_of (with_input i w a) ≡ options_of a
   input-keeps i w =
       let file = either (is_dash w) (from a.carrier 2 a.input a) (from a.carrier 2 i a) refl refl in
-      either (eq a.words 2) (but wrong.file i a) _ refl file
+      either (eqb a.words 2) (but wrong.file i a) _ refl file
 
   plain-keeps : (i : ℕ) (w : List ℕ) → options_of (with_plain i w a) ≡ options_of a
-  plain-keeps i w = either (eq a.words 0) (with_carrier i w a) (with_input i w a) (carrier-keeps i (carrier_of w)) (input-keeps i w)
+  plain-keeps i w = either (eqb a.words 0) (with_carrier i w a) (with_input i w a) (carrier-keeps i (carrier_of w)) (input-keeps i w)
 
   module _ (e : a.ended ≡ true) where
     heard-keeps : (w : List ℕ) → options_of (heard w a) ≡ options_of a

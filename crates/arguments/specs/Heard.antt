@@ -1,6 +1,6 @@
 -- What `--json` does to a command line: it is heard wherever it stands as an option, also where something is wrong, and no argument takes it back.
 -- Assumes nothing.
-use Rattle.std.specs.Prelude.{◌≡◌, Bool, true, false, cond, List, [], ◌∷◌, ◌++◌, ℕ, ◌+◌, leb, eq, length}
+use Rattle.std.specs.Prelude.{◌≡◌, Bool, true, false, cond, List, [], ◌∷◌, ◌++◌, ℕ, ◌+◌, leb, eqb, length}
 use Rattle.std.proofs.Math.Path.{refl}
 use Rattle.std.proofs.Common.{ap, ◌∙◌}
 use Rattle.octets.specs.Lists.{same}
@@ -22,40 +22,40 @@ either false x y p q = q
 
 module _ (i : ℕ) (a : Asked) (j : a.json ≡ true) where
   form-keeps : (h : ℕ) → (with_form i h a).json ≡ true
-  form-keeps h = either (eq a.form h) _ _ j (either (eq a.form form.none) _ _ j j)
+  form-keeps h = either (eqb a.form h) _ _ j (either (eqb a.form form.none) _ _ j j)
 
   pending-keeps : (with_pending i a).json ≡ true
-  pending-keeps = either (eq a.output 0) _ _ j j
+  pending-keeps = either (eqb a.output 0) _ _ j j
 
   attached-keeps : (w : List ℕ) (f : ℕ) → (attached i w f a).json ≡ true
   unfolding attached
-  attached-keeps w f = either (eq f 0) _ _ j (either (eq a.output 0) _ _ (either (leb (length w) f) _ _ j j) j)
+  attached-keeps w f = either (eqb f 0) _ _ j (either (eqb a.output 0) _ _ (either (leb (length w) f) _ _ j j) j)
 
   chosen-keeps : (k : ℕ) → (chosen i k a).json ≡ true
   unfolding chosen
   chosen-keeps k =
       either (leb k form.base64) _ _ (form-keeps k)
-      (either (eq k option.output) _ _ pending-keeps
-      (either (eq k option.json) _ _ refl
-      (either (eq k option.value) _ _ j
-      (either (eq k option.strict) _ _ j
-      (either (eq k option.force) _ _ j
-      (either (eq k option.help) _ _ j
+      (either (eqb k option.output) _ _ pending-keeps
+      (either (eqb k option.json) _ _ refl
+      (either (eqb k option.value) _ _ j
+      (either (eqb k option.strict) _ _ j
+      (either (eqb k option.force) _ _ j
+      (either (eqb k option.help) _ _ j
       j))))))
 
   plain-keeps : (w : List ℕ) → (with_plain i w a).json ≡ true
   unfolding carried
   plain-keeps w =
-      either (eq a.words 0) _ _ (either (eq (carrier_of w) 0) _ _ j j) (either (eq a.words 2) _ _ j (either (is_dash w) _ _ j j))
+      either (eqb a.words 0) _ _ (either (eqb (carrier_of w) 0) _ _ j j) (either (eqb a.words 2) _ _ j (either (is_dash w) _ _ j j))
 
   word_keeps : (w : List ℕ) → (with_word i w a).json ≡ true
   word_keeps w =
-      let option = either (eq (option_of w) 0) _ _ (attached-keeps w (front_of w)) (chosen-keeps (option_of w)) in
+      let option = either (eqb (option_of w) 0) _ _ (attached-keeps w (front_of w)) (chosen-keeps (option_of w)) in
       either a.ended _ _ (plain-keeps w) (either (is_option w) _ _ option (plain-keeps w))
 
   argument-keeps : (x : Argument) → (with_argument i x a).json ≡ true
   argument-keeps (word w) =
-      let listened = either a.ended _ _ j (either (eq (option_of w) option.json) _ _ refl (either (eq (option_of w) option.end) _ _ j j)) in
+      let listened = either a.ended _ _ j (either (eqb (option_of w) option.json) _ _ refl (either (eqb (option_of w) option.end) _ _ j j)) in
       either (decided a) _ _ listened (either a.pending _ _ j (word_keeps w))
   argument-keeps long = either (decided a) _ _ j j
 

@@ -1,6 +1,6 @@
 -- What a command line asks for (docs/COMMAND.md): the state of the line, word after word, and what is settled at its end. An argument is
 -- kept by its index; 0, the program's own name, stands for none. Assumes nothing: these are definitions.
-use Rattle.std.specs.Prelude.{◌≡◌, Bool, true, false, cond, not, ◌&&◌, ◌||◌, List, [], ◌∷◌, ℕ, ◌+◌, leb, eq, length, drop}
+use Rattle.std.specs.Prelude.{◌≡◌, Bool, true, false, cond, not, ◌&&◌, ◌||◌, List, [], ◌∷◌, ℕ, ◌+◌, leb, eqb, length, drop}
 use Rattle.chars.specs.Ascii.{ascii}
 use Rattle.arguments.specs.declared.Asked.{Asked}
 use Rattle.arguments.specs.Command as command
@@ -73,19 +73,19 @@ with_end a = with true a.json a.form a.value a.strict a.force a
 
 -- no further word matters after an error, and after a command that has no more words: `--json` alone is still heard
 abbrev pub decided : Asked → Bool
-decided a = cond (eq a.wrong 0) (leb command.help a.command) true
+decided a = cond (eqb a.wrong 0) (leb command.help a.command) true
 
 -- ---- an option
 
 -- a form of the input: the same one may be asked for twice
 abbrev pub with_form : ℕ → ℕ → Asked → Asked
 with_form i h a =
-    cond (eq a.form h) a
-    (cond (eq a.form form.none) (with a.ended a.json h a.value a.strict a.force a) (but wrong.form i a))
+    cond (eqb a.form h) a
+    (cond (eqb a.form form.none) (with a.ended a.json h a.value a.strict a.force a) (but wrong.form i a))
 
 -- `-o`: the next word names the file that is written
 abbrev pub with_pending : ℕ → Asked → Asked
-with_pending i a = cond (eq a.output 0) (into a.output a.front a.dashed true a) (but wrong.output i a)
+with_pending i a = cond (eqb a.output 0) (into a.output a.front a.dashed true a) (but wrong.output i a)
 
 -- its name, in an argument of its own
 abbrev pub with_output : ℕ → List ℕ → Asked → Asked
@@ -94,8 +94,8 @@ with_output i w a = into i 0 (is_dash w) false a
 -- `-oFILE`, `--output=FILE`: f octets before the name
 unfoldable pub attached : ℕ → List ℕ → ℕ → Asked → Asked
 attached i w f a =
-    cond (eq f 0) (but wrong.option i a)
-    (cond (eq a.output 0)
+    cond (eqb f 0) (but wrong.option i a)
+    (cond (eqb a.output 0)
     (cond (leb (length w) f) (but wrong.no_name i a) (into i f (is_dash (drop f w)) a.pending a))
     (but wrong.output i a))
 
@@ -103,23 +103,23 @@ attached i w f a =
 unfoldable pub chosen : ℕ → ℕ → Asked → Asked
 chosen i k a =
     cond (leb k form.base64) (with_form i k a)
-    (cond (eq k option.output) (with_pending i a)
-    (cond (eq k option.json) (with_json a)
-    (cond (eq k option.value) (with a.ended a.json a.form true a.strict a.force a)
-    (cond (eq k option.strict) (with a.ended a.json a.form a.value true a.force a)
-    (cond (eq k option.force) (with a.ended a.json a.form a.value a.strict true a)
-    (cond (eq k option.help) (asking command.help a)
+    (cond (eqb k option.output) (with_pending i a)
+    (cond (eqb k option.json) (with_json a)
+    (cond (eqb k option.value) (with a.ended a.json a.form true a.strict a.force a)
+    (cond (eqb k option.strict) (with a.ended a.json a.form a.value true a.force a)
+    (cond (eqb k option.force) (with a.ended a.json a.form a.value a.strict true a)
+    (cond (eqb k option.help) (asking command.help a)
     (with_end a)))))))
 
 -- a word that no table has may hold the name of the file that is written
 abbrev pub with_option : ℕ → List ℕ → Asked → Asked
-with_option i w a = cond (eq (option_of w) 0) (attached i w (front_of w) a) (chosen i (option_of w) a)
+with_option i w a = cond (eqb (option_of w) 0) (attached i w (front_of w) a) (chosen i (option_of w) a)
 
 -- ---- a word that is no option
 
 -- the carrier k, or 0
 unfoldable pub carried : ℕ → ℕ → Asked → Asked
-carried i k a = cond (eq k 0) (but wrong.carrier i a) (from k 1 a.input a)
+carried i k a = cond (eqb k 0) (but wrong.carrier i a) (from k 1 a.input a)
 
 abbrev pub with_carrier : ℕ → List ℕ → Asked → Asked
 with_carrier i w a = carried i (carrier_of w) a
@@ -127,12 +127,12 @@ with_carrier i w a = carried i (carrier_of w) a
 -- the file that is read; `-` is standard input, as no file is
 abbrev pub with_input : ℕ → List ℕ → Asked → Asked
 with_input i w a =
-    cond (eq a.words 2) (but wrong.file i a)
+    cond (eqb a.words 2) (but wrong.file i a)
     (cond (is_dash w) (from a.carrier 2 a.input a) (from a.carrier 2 i a))
 
 -- `read` has the carrier first
 abbrev pub with_plain : ℕ → List ℕ → Asked → Asked
-with_plain i w a = cond (eq a.words 0) (with_carrier i w a) (with_input i w a)
+with_plain i w a = cond (eqb a.words 0) (with_carrier i w a) (with_input i w a)
 
 -- one word more: after `--` none is an option
 abbrev pub with_word : ℕ → List ℕ → Asked → Asked
@@ -147,7 +147,7 @@ pub data Argument : Type 0 where
 
 -- a word where no further one matters: `--json` is still heard, unless `--` stood before
 abbrev pub heard : List ℕ → Asked → Asked
-heard w a = cond a.ended a (cond (eq (option_of w) option.json) (with_json a) (cond (eq (option_of w) option.end) (with_end a) a))
+heard w a = cond a.ended a (cond (eqb (option_of w) option.json) (with_json a) (cond (eqb (option_of w) option.end) (with_end a) a))
 
 -- the word at an index; after `-o` it is a name, whatever it looks like
 abbrev pub with_next : ℕ → List ℕ → Asked → Asked
@@ -180,7 +180,7 @@ options_of a = but 0 0 (from 0 0 0 a)
 
 -- the first word is the command k, or none (0)
 unfoldable pub begun : ℕ → Asked
-begun k = cond (eq k 0) (but wrong.command 1 (only 0 0)) (cond (eq k command.read) (only k 0) (only k 1))
+begun k = cond (eqb k 0) (but wrong.command 1 (only 0 0)) (cond (eqb k command.read) (only k 0) (only k 1))
 
 -- `--json` may stand there too, though no command does then
 abbrev pub first_of : Argument → Asked
@@ -191,11 +191,11 @@ first_of long = but wrong.long 1 (only 0 0)
 
 -- `--value`, `--strict` or `--force`, without `read`
 abbrev pub readless : Asked → Bool
-readless a = not (eq a.command command.read) && (a.value || (a.strict || a.force))
+readless a = not (eqb a.command command.read) && (a.value || (a.strict || a.force))
 
 -- `-o` with `show`
 abbrev pub shown_into : Asked → Bool
-shown_into a = eq a.command command.show && not (eq a.output 0)
+shown_into a = eqb a.command command.show && not (eqb a.output 0)
 
 -- `--json` with `-o -`: both would write to standard output
 abbrev pub json_into : Asked → Bool
@@ -205,7 +205,7 @@ json_into a = a.json && a.dashed
 unfoldable pub wrong_of : Asked → ℕ
 wrong_of a =
     cond a.pending wrong.no_name
-    (cond (eq a.words 0) wrong.no_carrier
+    (cond (eqb a.words 0) wrong.no_carrier
     (cond (readless a) wrong.only_read
     (cond (shown_into a) wrong.show_output
     (cond (json_into a) wrong.json_output

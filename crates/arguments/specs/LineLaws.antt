@@ -1,6 +1,6 @@
 -- The laws of a command line: an argument more, and a line that is taken argument by argument. Assumes nothing.
 use Rattle.std.specs.Prelude.{◌≡◌, refl, true, false, List, [], ◌∷◌, ◌++◌, ℕ, suc, ◌+◌, length}
-use Rattle.std.proofs.Common.{sym, ap, ◌∙◌, add-zero, arith, eq-eq, ne_eqb, length-append}
+use Rattle.std.proofs.Common.{sym, ap, ◌∙◌, add-zero, arith, eq-eqb, ne_eqb, length-append}
 use Rattle.arguments.specs.declared.Asked.{Asked}
 use Rattle.arguments.specs.Tables.{option_of, is_option, front_of}
 use Rattle.arguments.specs.Line.{but, from, decided, with_output, attached, chosen, with_option, carried, with_plain, with_word, heard, with_next}
@@ -13,7 +13,7 @@ use Rattle.arguments.specs.Wrong as wrong
 module _ (i k : ℕ) (a : Asked) where
   pub carried_none : k ≡ 0 → but wrong.carrier i a ≡ carried i k a
   unfolding carried
-  carried_none e = rw (eq-eq k 0 e)
+  carried_none e = rw (eq-eqb k 0 e)
 
   pub carried_some : (k ≡ 0 → ⊥) → from k 1 a.input a ≡ carried i k a
   unfolding carried
@@ -23,7 +23,7 @@ module _ (i : ℕ) (w : List ℕ) (a : Asked) where
   -- an option that no table has, and one that has the number k
   module _ {k : ℕ} (e : k ≡ option_of w) where
     pub option-none : k ≡ 0 → attached i w (front_of w) a ≡ with_option i w a
-    option-none z = rw (eq-eq (option_of w) 0 (sym e ∙ z))
+    option-none z = rw (eq-eqb (option_of w) 0 (sym e ∙ z))
 
     pub option-some : (k ≡ 0 → ⊥) → chosen i k a ≡ with_option i w a
     option-some n = rw (ne_eqb (option_of w) 0 (λ z. n (e ∙ z))) (ap (λ (j : ℕ). chosen i j a) e)

@@ -1,5 +1,5 @@
 -- The words of a command line that have a number (docs/COMMAND.md); several words may have the same. Assumes nothing: these are definitions.
-use Rattle.std.specs.Prelude.{ℕ, Bool, false, cond, List, [], ◌∷◌, ltb, eq, length, get_or, take}
+use Rattle.std.specs.Prelude.{ℕ, Bool, false, cond, List, [], ◌∷◌, ltb, eqb, length, get_or, take}
 use Rattle.octets.specs.Lists.{same}
 use Rattle.chars.specs.Ascii.{ascii}
 use Rattle.words.specs.Words.{Worded, worded, number_in}
@@ -83,7 +83,7 @@ carrier_of w = number_in carriers w
 
 -- an option: a hyphen and more
 abbrev pub is_option : List ℕ → Bool
-is_option w = cond (ltb (length w) 2) false (eq (get_or w 0 0) 45)
+is_option w = cond (ltb (length w) 2) false (eqb (get_or w 0 0) 45)
 
 -- the name `-`: standard input, standard output
 abbrev pub is_dash : List ℕ → Bool

@@ -1,7 +1,7 @@
 -- An encoding is decoded as the octets that it is of, and blanks change nothing of that. Assumes nothing.
-use Rattle.std.specs.Prelude.{◌≡◌, refl, Bool, true, false, cond, List, [], ◌∷◌, ℕ, zero, suc, ◌+◌, ◌*◌, ◌/◌, ◌%◌, ◌<◌, eq}
+use Rattle.std.specs.Prelude.{◌≡◌, refl, Bool, true, false, cond, List, [], ◌∷◌, ℕ, zero, suc, ◌+◌, ◌*◌, ◌/◌, ◌%◌, ◌<◌, eqb}
 use Rattle.std.proofs.Common.{ap, ap₂, ◌∙◌, arith}
-use borrow.Author.Tests.{lt-leb, eq-eq, ne_eqb, eq-false}
+use borrow.Author.Tests.{lt-leb, eq-eqb, ne_eqb, eqb-false}
 use Rattle.octets.specs.Lists.{All}
 use Rattle.octets.specs.ListsLaws.{all_append}
 use Rattle.octets.specs.Numbers.{Bytes}
@@ -41,11 +41,11 @@ module _ (l o : ℕ) (c : Bool) (i v : ℕ) (t : List ℕ) (h : v < 64) where
 module _ (l o : ℕ) (c : Bool) (i : ℕ) where
   padded-two : l % 16 ≡ 0 → decode_from (quantum 2 l o c) i (61 ∷ 61 ∷ []) ≡ none good
   unfolding decode_from moved padded
-  padded-two e = rw (eq-eq (l % 16) 0 e)
+  padded-two e = rw (eq-eqb (l % 16) 0 e)
 
   padded-one : l % 4 ≡ 0 → decode_from (quantum 3 l o c) i (61 ∷ []) ≡ none good
   unfolding decode_from moved padded
-  padded-one e = rw (eq-eq (l % 4) 0 e)
+  padded-one e = rw (eq-eqb (l % 4) 0 e)
 
 -- ---- an encoding
 
@@ -115,7 +115,7 @@ blank-moved s x b = rw b
 blank-on : (s : Quantum) (i x : ℕ) (t : List ℕ) → (s.place ≡ 6 → ⊥) → blank x ≡ true → decode_from s i (x ∷ t) ≡ decode_from s (i + 1) t
 unfolding decode_from
 blank-on s i x t n b =
-    let e : eq s.place 6 ≡ false = ne_eqb s.place 6 n in
+    let e : eqb s.place 6 ≡ false = ne_eqb s.place 6 n in
     ap (λ (m : Quantum). arrive m i (decode_from m (i + 1) t)) (blank-moved s x b)
     ∙ ap (λ (a : Bool). cond a (none (fault i)) (decode_from (to s.place s) (i + 1) t)) e
     ∙ to-decode s (i + 1) t
@@ -129,13 +129,13 @@ ends-alike s i j = go (whole s)
     go false = record { octets = refl; end = refl }
 
 arrive-alike : (m : Quantum) (i j : ℕ) (d e : Decoded) → ((m.place ≡ 6 → ⊥) → Alike d e) → Alike (arrive m i d) (arrive m j e)
-arrive-alike m i j d e f = go (eq m.place 6) refl m.complete
+arrive-alike m i j d e f = go (eqb m.place 6) refl m.complete
   where
-    go : (b : Bool) → eq m.place 6 ≡ b → (c : Bool)
+    go : (b : Bool) → eqb m.place 6 ≡ b → (c : Bool)
         → Alike (cond b (none (fault i)) (cond c (onto m.octet d) d)) (cond b (none (fault j)) (cond c (onto m.octet e) e))
     go true p c = record { octets = refl; end = refl }
-    go false p true = let a = f (eq-false m.place 6 p) in record { octets = ap (λ (l : List ℕ). m.octet ∷ l) a.octets; end = a.end }
-    go false p false = f (eq-false m.place 6 p)
+    go false p true = let a = f (eqb-false m.place 6 p) in record { octets = ap (λ (l : List ℕ). m.octet ∷ l) a.octets; end = a.end }
+    go false p false = f (eqb-false m.place 6 p)
 
 pub unblanked-alike : (s : Quantum) (i j : ℕ) (t : List ℕ) → (s.place ≡ 6 → ⊥) → Alike (decode_from s i t) (decode_from s j (unblanked t))
 unfolding unblanked decode_from

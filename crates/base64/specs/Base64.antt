@@ -1,6 +1,6 @@
 -- What a text is read as that is to be base64 (RFC 4648 §4), in the code's order of tests. Characters are given by their ASCII numbers. Assumes
 -- nothing: these are definitions.
-use Rattle.std.specs.Prelude.{◌≡◌, Bool, true, false, cond, List, [], ◌∷◌, ℕ, ◌+◌, ◌-◌, ◌*◌, ◌/◌, ◌%◌, leb, ltb, eq, length, take}
+use Rattle.std.specs.Prelude.{◌≡◌, Bool, true, false, cond, List, [], ◌∷◌, ℕ, ◌+◌, ◌-◌, ◌*◌, ◌/◌, ◌%◌, leb, ltb, eqb, length, take}
 use Rattle.octets.specs.Numbers.{range}
 use Rattle.octets.specs.Over.{over}
 use Rattle.inputs.specs.Why as why
@@ -12,7 +12,7 @@ use Rattle.base64.specs.declared.Quantum.{Quantum}
 
 -- x is a space, tab, carriage return or line feed
 abbrev pub blank : ℕ → Bool
-blank x = cond (eq x 32) true (cond (eq x 9) true (cond (eq x 13) true (eq x 10)))
+blank x = cond (eqb x 32) true (cond (eqb x 9) true (cond (eqb x 13) true (eqb x 10)))
 
 -- the value of a character of the alphabet, A to Z, a to z, 0 to 9, + and / (RFC 4648 §4, table 1); 64 of any other
 unfoldable pub value : ℕ → ℕ
@@ -20,7 +20,7 @@ value x =
     cond (range 65 90 x) (x - 65)
     (cond (range 97 122 x) (x - 97 + 26)
     (cond (range 48 57 x) (x - 48 + 52)
-    (cond (eq x 43) 62 (cond (eq x 47) 63 64))))
+    (cond (eqb x 43) 62 (cond (eqb x 47) 63 64))))
 
 -- ---- a quantum
 
@@ -37,14 +37,14 @@ to p s = quantum p s.last s.octet false
 
 -- the octet that a character of value v completes, after one of value l: the last bits of l and the first of v
 unfoldable pub octet_of : ℕ → ℕ → ℕ → ℕ
-octet_of p l v = cond (eq p 1) (l % 64 * 4 + v / 16) (cond (eq p 2) (l % 16 * 16 + v / 4) (l % 4 * 64 + v))
+octet_of p l v = cond (eqb p 1) (l % 64 * 4 + v / 16) (cond (eqb p 2) (l % 16 * 16 + v / 4) (l % 4 * 64 + v))
 
 -- a padding character stands after two or three characters, and the bits under it are zero (RFC 4648 §3.5); after two it stands twice
 unfoldable pub padded : Quantum → Quantum
 padded s =
-    cond (eq s.place 2) (cond (eq (s.last % 16) 0) (to 4 s) (to 6 s))
-    (cond (eq s.place 3) (cond (eq (s.last % 4) 0) (to 5 s) (to 6 s))
-    (cond (eq s.place 4) (to 5 s) (to 6 s)))
+    cond (eqb s.place 2) (cond (eqb (s.last % 16) 0) (to 4 s) (to 6 s))
+    (cond (eqb s.place 3) (cond (eqb (s.last % 4) 0) (to 5 s) (to 6 s))
+    (cond (eqb s.place 4) (to 5 s) (to 6 s)))
 
 -- a character of value v; the first of a quantum completes no octet
 unfoldable pub filled : ℕ → Quantum → Quantum
@@ -55,11 +55,11 @@ filled v s =
 
 -- a character x
 unfoldable pub moved : ℕ → Quantum → Quantum
-moved x s = cond (blank x) (to s.place s) (cond (eq x 61) (padded s) (filled (value x) s))
+moved x s = cond (blank x) (to s.place s) (cond (eqb x 61) (padded s) (filled (value x) s))
 
 -- a text may end here
 abbrev pub whole : Quantum → Bool
-whole s = cond (eq s.place 0) true (eq s.place 5)
+whole s = cond (eqb s.place 0) true (eqb s.place 5)
 
 -- ---- a text
 
@@ -85,7 +85,7 @@ onto b d = record { octets = b ∷ d.octets; end = d.end }
 
 -- after the i-th character: at fault there, or on
 abbrev pub arrive : Quantum → ℕ → Decoded → Decoded
-arrive s i rest = cond (eq s.place 6) (none (fault i)) (cond s.complete (onto s.octet rest) rest)
+arrive s i rest = cond (eqb s.place 6) (none (fault i)) (cond s.complete (onto s.octet rest) rest)
 
 -- the characters from the i-th on
 unfoldable pub decode_from : Quantum → ℕ → List ℕ → Decoded

@@ -1,5 +1,5 @@
 -- What a caller may rely on: the octets are within the buffer, whose length stays, and a fault is within the text or at its end. Assumes nothing.
-use Rattle.std.specs.Prelude.{◌≡◌, refl, Bool, true, false, cond, List, [], ◌∷◌, ℕ, ◌+◌, ◌≤◌, ltb, eq, length, take}
+use Rattle.std.specs.Prelude.{◌≡◌, refl, Bool, true, false, cond, List, [], ◌∷◌, ℕ, ◌+◌, ◌≤◌, ltb, eqb, length, take}
 use Rattle.std.proofs.Common.{ap, ◌∙◌, arith, length-take}
 use Rattle.std.proofs.Math.Path.{subst}
 use Rattle.octets.specs.OverLaws.{over-length}
@@ -25,7 +25,7 @@ end-within s i [] n h = go (whole s)
 end-within s i (x ∷ t) n h = go (moved x s) (end-within (moved x s) (i + 1) t n (omega arith))
   where
     go : (m : Quantum) → Within n (decode_from m (i + 1) t).end → Within n (arrive m i (decode_from m (i + 1) t)).end
-    go m f = test (eq m.place 6) m.complete
+    go m f = test (eqb m.place 6) m.complete
       where
         test : (a b : Bool) → Within n (cond a (none (fault i)) (cond b (onto m.octet (decode_from m (i + 1) t)) (decode_from m (i + 1) t))).end
         test true b = omega arith

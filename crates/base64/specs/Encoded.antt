@@ -1,12 +1,12 @@
 -- Octets as base64 (RFC 4648 §4), said without a reader. Assumes nothing: these are definitions.
-use Rattle.std.specs.Prelude.{◌≡◌, cond, List, [], ◌∷◌, ◌++◌, ℕ, zero, suc, ◌+◌, ◌-◌, ◌*◌, ◌/◌, ◌%◌, ◌≤◌, ltb, eq, length}
+use Rattle.std.specs.Prelude.{◌≡◌, cond, List, [], ◌∷◌, ◌++◌, ℕ, zero, suc, ◌+◌, ◌-◌, ◌*◌, ◌/◌, ◌%◌, ◌≤◌, ltb, eqb, length}
 use Rattle.octets.specs.Numbers.{Bytes}
 use Rattle.octets.specs.Over.{over}
 use Rattle.base64.specs.Base64.{blank}
 
 -- the character of a value below 64: A to Z, a to z, 0 to 9, + and / (RFC 4648 §4, table 1)
 unfoldable pub character : ℕ → ℕ
-character v = cond (ltb v 26) (65 + v) (cond (ltb v 52) (97 + (v - 26)) (cond (ltb v 62) (48 + (v - 52)) (cond (eq v 62) 43 47)))
+character v = cond (ltb v 26) (65 + v) (cond (ltb v 52) (97 + (v - 26)) (cond (ltb v 62) (48 + (v - 52)) (cond (eqb v 62) 43 47)))
 
 -- a number in n characters, the most significant first
 abbrev pub characters : ℕ → ℕ → List ℕ

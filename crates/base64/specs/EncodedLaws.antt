@@ -1,8 +1,8 @@
 -- The laws of the alphabet, and of one, two and three octets in characters. Assumes nothing.
-use Rattle.std.specs.Prelude.{◌≡◌, refl, Bool, true, false, not, ◌&&◌, List, [], ◌∷◌, ℕ, zero, suc, ◌+◌, ◌-◌, ◌*◌, ◌/◌, ◌%◌, ◌≤◌, ◌<◌, eq}
-use Rattle.std.proofs.Common.{ap, ap₂, ◌∙◌, arith, lt-ltb, le-ltb, eq-true}
+use Rattle.std.specs.Prelude.{◌≡◌, refl, Bool, true, false, not, ◌&&◌, List, [], ◌∷◌, ℕ, zero, suc, ◌+◌, ◌-◌, ◌*◌, ◌/◌, ◌%◌, ◌≤◌, ◌<◌, eqb}
+use Rattle.std.proofs.Common.{ap, ap₂, ◌∙◌, arith, lt-ltb, le-ltb, eqb-true}
 use Rattle.std.proofs.Math.Bool.{and-eq-true_iff}
-use Rattle.std.proofs.lemmas.Bool.{not-true, eq-false}
+use Rattle.std.proofs.lemmas.Bool.{not-true, eqb-false}
 use Rattle.octets.specs.Cases.{by-test}
 use Rattle.octets.specs.Numbers.{range}
 use Rattle.base64.specs.Base64.{blank, value}
@@ -20,11 +20,11 @@ every_one : (f : ℕ → Bool) (n v : ℕ) → every n f ≡ true → v < n → 
 every_one f zero v e h = absurd (omega arith)
 every_one f (suc n) v e h =
     let q = (and-eq-true_iff (f n) (every n f)).0 e in
-    by-test (eq v n) (λ b. f v ≡ true) (λ p. ap f (eq-true v n p) ∙ q.0)
-    (λ p. let z = eq-false v n p in every_one f n v q.1 (omega arith))
+    by-test (eqb v n) (λ b. f v ≡ true) (λ p. ap f (eqb-true v n p) ∙ q.0)
+    (λ p. let z = eqb-false v n p in every_one f n v q.1 (omega arith))
 
 -- a character of the alphabet has its value, and is no blank and no padding
-valued : every 64 (λ v. eq (value (character v)) v) ≡ true
+valued : every 64 (λ v. eqb (value (character v)) v) ≡ true
 unfolding value character
 valued = refl
 
@@ -32,19 +32,19 @@ no_blank : every 64 (λ v. not (blank (character v))) ≡ true
 unfolding character
 no_blank = refl
 
-no-padding : every 64 (λ v. not (eq (character v) 61)) ≡ true
+no-padding : every 64 (λ v. not (eqb (character v) 61)) ≡ true
 unfolding character
 no-padding = refl
 
 module _ (v : ℕ) (h : v < 64) where
   pub character-value : value (character v) ≡ v
-  character-value = eq-true (value (character v)) v (every_one (λ v. eq (value (character v)) v) 64 v valued h)
+  character-value = eqb-true (value (character v)) v (every_one (λ v. eqb (value (character v)) v) 64 v valued h)
 
   pub character-blank : blank (character v) ≡ false
   character-blank = not-true (blank (character v)) (every_one (λ v. not (blank (character v))) 64 v no_blank h)
 
-  pub character-padding : eq (character v) 61 ≡ false
-  character-padding = not-true (eq (character v) 61) (every_one (λ v. not (eq (character v) 61)) 64 v no-padding h)
+  pub character-padding : eqb (character v) 61 ≡ false
+  character-padding = not-true (eqb (character v) 61) (every_one (λ v. not (eqb (character v) 61)) 64 v no-padding h)
 
 -- what has a value is its character
 value-upper : (x : ℕ) → range 65 90 x ≡ true → character (value x) ≡ x
@@ -73,11 +73,11 @@ value-digit x c d e =
 
 value-other : (x : ℕ) → range 65 90 x ≡ false → range 97 122 x ≡ false → range 48 57 x ≡ false → value x < 64 → character (value x) ≡ x
 unfolding value character
-value-other x c d e h = go (eq x 43) refl (eq x 47) refl
+value-other x c d e h = go (eqb x 43) refl (eqb x 47) refl
   where
-    go : (a : Bool) → eq x 43 ≡ a → (b : Bool) → eq x 47 ≡ b → character (value x) ≡ x
-    go true p b q = let z : x ≡ 43 = eq-true x 43 p in rw z refl
-    go false p true q = let z : x ≡ 47 = eq-true x 47 q in rw z refl
+    go : (a : Bool) → eqb x 43 ≡ a → (b : Bool) → eqb x 47 ≡ b → character (value x) ≡ x
+    go true p b q = let z : x ≡ 43 = eqb-true x 43 p in rw z refl
+    go false p true q = let z : x ≡ 47 = eqb-true x 47 q in rw z refl
     go false p false q = let z : value x ≡ 64 = rw (c, d, e, p, q) in absurd (omega (arith, z, h))
 
 pub value-character : (x : ℕ) → value x < 64 → character (value x) ≡ x

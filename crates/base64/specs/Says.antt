@@ -1,6 +1,6 @@
 -- What is decoded whole is, its blanks left out, the encoding of its octets, and these are below 256. Assumes nothing.
-use Rattle.std.specs.Prelude.{◌≡◌, refl, Bool, false, leb, eq}
-use Rattle.std.proofs.Common.{sym, subst, ◌∙◌, arith, leb-false, eq-true}
+use Rattle.std.specs.Prelude.{◌≡◌, refl, Bool, false, leb, eqb}
+use Rattle.std.proofs.Common.{sym, subst, ◌∙◌, arith, leb-false, eqb-true}
 use Rattle.std.proofs.Math.Path.{ap}
 use Rattle.std.proofs.Math.Bool.{true, cond}
 use Rattle.std.proofs.lemmas.Bool.{false≢true, lt-leb}
@@ -93,7 +93,7 @@ module _ (l o : ℕ) (c : Bool) (i : ℕ) (u : List ℕ) (D : Quantum → Decode
     (f : (m : Quantum) → m.last < 64 → When (λ bs. Left m.place m.last bs u) (D m)) where
   at_blank : (p : ℕ) → When (λ bs. Left p l bs u) (arrive (quantum p l o false) i (D (quantum p l o false)))
   at_blank p =
-      by-test (eq p 6) (λ b. When (λ bs. Left p l bs u) (cond b (none (fault i)) (D (quantum p l o false)))) (λ e. tt) (λ e. f (quantum p l o false) h)
+      by-test (eqb p 6) (λ b. When (λ bs. Left p l bs u) (cond b (none (fault i)) (D (quantum p l o false)))) (λ e. tt) (λ e. f (quantum p l o false) h)
 
   past : (p : ℕ) (m : Quantum) (t : List ℕ) → When (λ bs. Left (suc (suc (suc (suc (suc (suc p)))))) l bs t) (arrive m i (D m))
   past p m t = when-any (arrive m i (D m))
@@ -103,14 +103,14 @@ module _ (l o : ℕ) (c : Bool) (i : ℕ) (u : List ℕ) (D : Quantum → Decode
   at-padding zero = tt
   at-padding (suc zero) = tt
   at-padding (suc (suc zero)) =
-      by-test (eq (l % 16) 0)
+      by-test (eqb (l % 16) 0)
       (λ b. let m : Quantum = cond b (quantum 4 l o false) (quantum 6 l o false) in When (λ bs. Left 2 l bs (61 ∷ u)) (arrive m i (D m)))
-      (λ e. when-map (D (quantum 4 l o false)) (λ bs w. left-two l bs u h (eq-true (l % 16) 0 e) w) (f (quantum 4 l o false) h))
+      (λ e. when-map (D (quantum 4 l o false)) (λ bs w. left-two l bs u h (eqb-true (l % 16) 0 e) w) (f (quantum 4 l o false) h))
       (λ e. tt)
   at-padding (suc (suc (suc zero))) =
-      by-test (eq (l % 4) 0)
+      by-test (eqb (l % 4) 0)
       (λ b. let m : Quantum = cond b (quantum 5 l o false) (quantum 6 l o false) in When (λ bs. Left 3 l bs (61 ∷ u)) (arrive m i (D m)))
-      (λ e. when-map (D (quantum 5 l o false)) (λ bs w. left_one l bs u h (eq-true (l % 4) 0 e) w) (f (quantum 5 l o false) h))
+      (λ e. when-map (D (quantum 5 l o false)) (λ bs w. left_one l bs u h (eqb-true (l % 4) 0 e) w) (f (quantum 5 l o false) h))
       (λ e. tt)
   at-padding (suc (suc (suc (suc zero)))) =
       when-map {P = λ bs. Left 5 l bs u} {Q = λ bs. Left 4 l bs (61 ∷ u)} (D (quantum 5 l o false)) (λ bs w. (w.0, ap (λ (t : List ℕ). 61 ∷ t) w.1))
@@ -137,11 +137,11 @@ module _ (l o : ℕ) (c : Bool) (i : ℕ) (u : List ℕ) (D : Quantum → Decode
   at-letter (suc (suc (suc (suc (suc zero))))) v g = rw (filled-letter v (quantum 5 l o c) g) tt
   at-letter (suc (suc (suc (suc (suc (suc p)))))) v g = past p (filled v (quantum (suc (suc (suc (suc (suc (suc p)))))) l o c)) (character v ∷ u)
 
-padding-moved : (s : Quantum) (x : ℕ) → blank x ≡ false → eq x 61 ≡ true → moved x s ≡ padded s
+padding-moved : (s : Quantum) (x : ℕ) → blank x ≡ false → eqb x 61 ≡ true → moved x s ≡ padded s
 unfolding moved
 padding-moved s x b p = rw (b, p)
 
-letter-moved : (s : Quantum) (x : ℕ) → blank x ≡ false → eq x 61 ≡ false → moved x s ≡ filled (value x) s
+letter-moved : (s : Quantum) (x : ℕ) → blank x ≡ false → eqb x 61 ≡ false → moved x s ≡ filled (value x) s
 unfolding moved
 letter-moved s x b p = rw (b, p)
 
@@ -164,15 +164,15 @@ at_end (suc (suc (suc (suc (suc (suc p)))))) l o c i = when-any (decode_from (qu
 pub left-says : (s : Quantum) (i : ℕ) (t : List ℕ) → s.last < 64 → When (λ bs. Left s.place s.last bs (unblanked t)) (decode_from s i t)
 unfolding decode_from unblanked
 left-says s i [] h = at_end s.place s.last s.octet s.complete i
-left-says s i (x ∷ t) h = go (blank x) refl (eq x 61) refl (leb 64 (value x)) refl (λ m k. left-says m (i + 1) t k)
+left-says s i (x ∷ t) h = go (blank x) refl (eqb x 61) refl (leb 64 (value x)) refl (λ m k. left-says m (i + 1) t k)
   where
-    go : (a : Bool) → blank x ≡ a → (b : Bool) → eq x 61 ≡ b → (d : Bool) → leb 64 (value x) ≡ d
+    go : (a : Bool) → blank x ≡ a → (b : Bool) → eqb x 61 ≡ b → (d : Bool) → leb 64 (value x) ≡ d
         → ((m : Quantum) → m.last < 64 → When (λ bs. Left m.place m.last bs (unblanked t)) (decode_from m (i + 1) t))
         → When (λ bs. Left s.place s.last bs (cond a (unblanked t) (x ∷ unblanked t))) (arrive (moved x s) i (decode_from (moved x s) (i + 1) t))
     go true p b q d r f =
         rw (blank-moved s x p) (at_blank s.last s.octet s.complete i (unblanked t) (λ m. decode_from m (i + 1) t) h f s.place)
     go false p true q d r f =
-        rw (padding-moved s x p q, eq-true x 61 q) (at-padding s.last s.octet s.complete i (unblanked t) (λ m. decode_from m (i + 1) t) h f s.place)
+        rw (padding-moved s x p q, eqb-true x 61 q) (at-padding s.last s.octet s.complete i (unblanked t) (λ m. decode_from m (i + 1) t) h f s.place)
     go false p false q true r f = rw (letter-moved s x p q, other-filled s (value x) r) tt
     go false p false q false r f =
         let k : value x < 64 = leb-false 64 (value x) r in
@@ -187,8 +187,8 @@ left-says s i (x ∷ t) h = go (blank x) refl (eq x 61) refl (leb 64 (value x)) 
 octet-small : (p l v : ℕ) → v < 64 → octet_of p l v < 256
 unfolding octet_of
 octet-small p l v h =
-    by-test (eq p 1) (λ b. cond b (l % 64 * 4 + v / 16) (cond (eq p 2) (l % 16 * 16 + v / 4) (l % 4 * 64 + v)) < 256) (λ e. omega arith)
-    (λ e. by-test (eq p 2) (λ b. cond b (l % 16 * 16 + v / 4) (l % 4 * 64 + v) < 256) (λ e. omega arith) (λ e. omega arith))
+    by-test (eqb p 1) (λ b. cond b (l % 64 * 4 + v / 16) (cond (eqb p 2) (l % 16 * 16 + v / 4) (l % 4 * 64 + v)) < 256) (λ e. omega arith)
+    (λ e. by-test (eqb p 2) (λ b. cond b (l % 16 * 16 + v / 4) (l % 4 * 64 + v) < 256) (λ e. omega arith) (λ e. omega arith))
 
 -- an octet that is complete is below 256
 abbrev Small : Quantum → Type 0
@@ -196,7 +196,7 @@ Small s = s.complete ≡ true → s.octet < 256
 
 padded-none : (s : Quantum) → (padded s).complete ≡ false
 unfolding padded
-padded-none s = go (eq s.place 2) (eq (s.last % 16) 0) (eq s.place 3) (eq (s.last % 4) 0) (eq s.place 4)
+padded-none s = go (eqb s.place 2) (eqb (s.last % 16) 0) (eqb s.place 3) (eqb (s.last % 4) 0) (eqb s.place 4)
   where
     go : (a b c d e : Bool) → (cond a (cond b (to 4 s) (to 6 s)) (cond c (cond d (to 5 s) (to 6 s)) (cond e (to 5 s) (to 6 s)))).complete ≡ false
     go true true c d e = refl
@@ -218,7 +218,7 @@ filled-small v s = go (leb 64 v) refl (leb 4 s.place)
 
 moved-small : (x : ℕ) (s : Quantum) → Small (moved x s)
 unfolding moved
-moved-small x s = go (blank x) (eq x 61)
+moved-small x s = go (blank x) (eqb x 61)
   where
     go : (a b : Bool) → Small (cond a (to s.place s) (cond b (padded s) (filled (value x) s)))
     go true b e = absurd (false≢true e)
@@ -235,7 +235,7 @@ octets-small s i [] = go (whole s)
 octets-small s i (x ∷ t) = go (moved x s) (moved-small x s) (octets-small (moved x s) (i + 1) t)
   where
     go : (m : Quantum) → Small m → Bytes (decode_from m (i + 1) t).octets → Bytes (arrive m i (decode_from m (i + 1) t)).octets
-    go m f h = test (eq m.place 6) m.complete refl
+    go m f h = test (eqb m.place 6) m.complete refl
       where
         test : (a b : Bool) → m.complete ≡ b
             → Bytes (cond a (none (fault i)) (cond b (onto m.octet (decode_from m (i + 1) t)) (decode_from m (i + 1) t))).octets

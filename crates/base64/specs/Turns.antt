@@ -1,6 +1,6 @@
 -- The turns of `read`: what holds before each, and what follows at each way out. Assumes nothing.
 use Rattle.std.specs.Prelude.{◌≡◌, refl, true, false, cond, List, [], ◌∷◌, ◌++◌, ℕ, ◌+◌, ◌≤◌, ◌<◌, length, get_or, take, drop, set}
-use Rattle.std.proofs.Common.{sym, ap, ◌∙◌, append-nil, zero-add, arith, lt-ltb, le-ltb, eq-eq, ne_eqb, length-append, drop_of_length-le, drop-cons, take_all}
+use Rattle.std.proofs.Common.{sym, ap, ◌∙◌, append-nil, zero-add, arith, lt-ltb, le-ltb, eq-eqb, ne_eqb, length-append, drop_of_length-le, drop-cons, take_all}
 use Rattle.std.proofs.Math.Numerals.{add-one}
 use Rattle.std.proofs.Math.Seq.{append_snoc}
 use Rattle.std.proofs.lemmas.List.{take-append-le}
@@ -66,7 +66,7 @@ module _ {t before out : List ℕ} {s m : Quantum} {n i : ℕ} (l : Laying t bef
   arrives = rw (drop-cons t i 0 h, add-one i, e)
 
   pub lay-fault : m.place ≡ 6 → Answered t before (Bad i why.base64) out
-  lay-fault p = ended l (fault i) (arrives ∙ rw (eq-eq m.place 6 p))
+  lay-fault p = ended l (fault i) (arrives ∙ rw (eq-eqb m.place 6 p))
 
   pub lay-on : (m.place ≡ 6 → ⊥) → m.complete ≡ false → Laying t before out m n (i + 1)
   lay-on p c = record {

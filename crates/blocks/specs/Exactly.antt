@@ -1,5 +1,5 @@
 -- `parse` and `layout` are inverse to each other, on the fields that fit and on the bodies that a carrier can bring. Assumes nothing.
-use Rattle.std.specs.Prelude.{◌≡◌, refl, Bool, true, false, cond, ◌&&◌, ◌↔◌, List, [], ◌∷◌, ◌++◌, ℕ, ◌+◌, ◌*◌, ◌/◌, ◌^◌, ◌≤◌, ◌<◌, ltb, eq, length}
+use Rattle.std.specs.Prelude.{◌≡◌, refl, Bool, true, false, cond, ◌&&◌, ◌↔◌, List, [], ◌∷◌, ◌++◌, ℕ, ◌+◌, ◌*◌, ◌/◌, ◌^◌, ◌≤◌, ◌<◌, ltb, eqb, length}
 use Rattle.std.proofs.Common.{sym, ap, ◌∙◌, mul-div_cancel, div-add-mod', arith, le-ltb, lt-ltb, ltb-true, ne_eqb, length-append}
 use Rattle.std.proofs.Math.Nat.{mul-mod_left}
 use Rattle.std.proofs.lemmas.List.{length-replicate}
@@ -91,7 +91,7 @@ given-says : {C : Type 0} (P : Fields → Type 0) (x : Parsed) → C → Says (�
 given-says P (bad k) c h = tt
 given-says P (fields f) c h = h c
 
-empty-says : (P : Fields → Type 0) (l : List ℕ) (x y : Parsed) → (l ≡ [] → Says P x) → Says P y → Says P (cond (eq (length l) 0) x y)
+empty-says : (P : Fields → Type 0) (l : List ℕ) (x y : Parsed) → (l ≡ [] → Says P x) → Says P y → Says P (cond (eqb (length l) 0) x y)
 empty-says P [] x y h k = h refl
 empty-says P (z ∷ l) x y h k = rw (ne_eqb (length (z ∷ l)) 0 (λ e. omega arith)) k
 

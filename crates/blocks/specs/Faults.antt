@@ -1,5 +1,5 @@
 -- The faults of a layout: a field past the end, and in carrier 3 also what is no padding. Assumes nothing.
-use Rattle.std.specs.Prelude.{◌≡◌, refl, Bool, true, false, cond, ◌⊎◌, List, ℕ, ◌*◌, ltb, leb, eq, length, take, drop}
+use Rattle.std.specs.Prelude.{◌≡◌, refl, Bool, true, false, cond, ◌⊎◌, List, ℕ, ◌*◌, ltb, leb, eqb, length, take, drop}
 use Rattle.std.proofs.Common.{inl, inr, arith}
 use Rattle.octets.specs.Numbers.{val}
 use Rattle.octets.specs.Fields.{part, number, counted}
@@ -35,7 +35,7 @@ module _ (Q : Parsed → Type 0) (stop : Q short) (good : (f : Fields) → Q (fi
   opening-all c l next k = number-all 2 l _ (λ p l. number-all (lifetime_width c) l _ (λ t l. counted-all (length_width c) l _ (λ n l. k p t n l)))
 
   named-all : (c : Carrier) (l : List ℕ) → Q (opening c l (after_name c))
-  named-all c l = opening-all c l (after_name c) (λ p t n l. either-all (eq (length l) 0) _ _ (good _) (counted-all (length_width c) l _ (λ a q. good _)))
+  named-all c l = opening-all c l (after_name c) (λ p t n l. either-all (eqb (length l) 0) _ _ (good _) (counted-all (length_width c) l _ (λ a q. good _)))
 
   padded-all : Q (bad fault.padding) → (l : List ℕ) (f : Fields) → Q (padded l f)
   padded-all h l f = either-all (is_padding l) _ _ (good f) h

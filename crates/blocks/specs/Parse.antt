@@ -1,5 +1,5 @@
 -- A body split into its fields, computed (RULES B1 to B7): 20 goes before 29. Assumes nothing: these are definitions.
-use Rattle.std.specs.Prelude.{Bool, cond, ◌&&◌, List, ℕ, ◌-◌, ◌*◌, ltb, eq, length}
+use Rattle.std.specs.Prelude.{Bool, cond, ◌&&◌, List, ℕ, ◌-◌, ◌*◌, ltb, eqb, length}
 use Rattle.octets.specs.Numbers.{all_zero}
 use Rattle.octets.specs.Fields.{part, number, counted}
 use Rattle.numbers.specs.Fault as fault
@@ -30,7 +30,7 @@ opening c l next =
 -- carriers 1 and 2, after the name: nothing, or address length, addresses, parameters (RULES B1, B5; RFC 9463 §3.1.6, §5.1, §4.1)
 abbrev pub after_name : Carrier → ℕ → ℕ → List ℕ → List ℕ → Parsed
 after_name c priority lifetime name l =
-    cond (eq (length l) 0) (fields (name_only priority lifetime name))
+    cond (eqb (length l) 0) (fields (name_only priority lifetime name))
     (counted short (length_width c) l (λ addresses parameters.
     fields (whole priority lifetime name addresses parameters)))
 

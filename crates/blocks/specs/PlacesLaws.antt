@@ -6,7 +6,7 @@ use Rattle.std.proofs.Common.{ap, ◌∙◌, add_assoc}
 use Rattle.std.proofs.lemmas.Bool.{false≢true}
 use Rattle.std.proofs.Math.Nat.{sub-add-eq, mul-mod_left}
 use native.Mathlib.Omega.{arith}
-use borrow.Author.Tests.{le-ltb, lt-ltb, eq-eq, ne_eqb}
+use borrow.Author.Tests.{le-ltb, lt-ltb, eq-eqb, ne_eqb}
 use Rattle.std.proofs.Math.ListN.{length, length-drop}
 use Rattle.std.proofs.Math.Seq.{drop-drop}
 use Rattle.octets.specs.Numbers.{val, at16, at32, number_at, all_zero}
@@ -71,7 +71,7 @@ module _ (c : Carrier) (b : List ℕ) (z : Named c) {w : ℕ} (e : w ≡ length_
     named-there = name-there c b (after_name c) (named-opens c b z) (sym z.0) e (omega arith) h en i ep (number-none 2 b)
 
     pub named-alone : length b - (2 + w + n) ≡ 0 → told b (NameOnly p 0 (2 + w) n) ≡ parse c b
-    named-alone j = simp (named-there, length-drop, eq-eq _ _ j)
+    named-alone j = simp (named-there, length-drop, eq-eqb _ _ j)
 
     pub named-followed : (r : Places) → told b r ≡ past_name (2 + length_width c) n b (after_name c p 0) → told b r ≡ parse c b
     named-followed r j = j ∙ sym (rw e at named-there)

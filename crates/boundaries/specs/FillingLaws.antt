@@ -1,5 +1,5 @@
 -- The laws of a filled buffer, by which loops make it and test it. Assumes nothing.
-use Rattle.std.specs.Prelude.{◌≡◌, refl, Bool, true, false, ◌&&◌, List, [], ◌∷◌, ◌++◌, ℕ, ◌+◌, ◌≤◌, ◌<◌, eq, length, take, drop, get_or, set}
+use Rattle.std.specs.Prelude.{◌≡◌, refl, Bool, true, false, ◌&&◌, List, [], ◌∷◌, ◌++◌, ℕ, ◌+◌, ◌≤◌, ◌<◌, eqb, length, take, drop, get_or, set}
 use Rattle.std.proofs.Common.{add-one, arith, drop_of_length-le, drop-cons, take-suc-set, take_all, ne_eqb}
 use Rattle.boundaries.specs.Filling.{all_filled}
 
@@ -12,10 +12,10 @@ filled_none = refl
 filled-snoc : (l : List ℕ) → all_filled l ≡ true → all_filled (l ++ (165 ∷ [])) ≡ true
 unfolding all_filled
 filled-snoc [] h = refl
-filled-snoc (x ∷ xs) h = go (eq x 165) refl h (λ e. filled-snoc xs e)
+filled-snoc (x ∷ xs) h = go (eqb x 165) refl h (λ e. filled-snoc xs e)
   where
-    go : (b : Bool) → eq x 165 ≡ b → (b && all_filled xs) ≡ true → (all_filled xs ≡ true → all_filled (xs ++ (165 ∷ [])) ≡ true)
-        → (eq x 165 && all_filled (xs ++ (165 ∷ []))) ≡ true
+    go : (b : Bool) → eqb x 165 ≡ b → (b && all_filled xs) ≡ true → (all_filled xs ≡ true → all_filled (xs ++ (165 ∷ [])) ≡ true)
+        → (eqb x 165 && all_filled (xs ++ (165 ∷ []))) ≡ true
     go true e t f = rw (e, f t)
     go false e t f = let z : ◌≡◌ {A = ℕ} 0 1 = cc in absurd (omega arith)
 

@@ -1,5 +1,5 @@
 -- The statement of an entry as a test that is computed. Assumes nothing: these are definitions.
-use Rattle.std.specs.Prelude.{Bool, true, false, cond, not, ◌&&◌, List, [], ◌∷◌, map, ℕ, eq, length, take, drop}
+use Rattle.std.specs.Prelude.{Bool, true, false, cond, not, ◌&&◌, List, [], ◌∷◌, map, ℕ, eqb, length, take, drop}
 use Rattle.octets.specs.Numbers.{number_at}
 use Rattle.octets.specs.Lists.{flat, same}
 use Rattle.octets.specs.Over.{over}
@@ -28,8 +28,8 @@ same_bit a b = cond a b (not b)
 
 abbrev pub same_record : Fields → Fields → Bool
 same_record a b =
-    eq a.priority b.priority
-    && (eq a.lifetime b.lifetime
+    eqb a.priority b.priority
+    && (eqb a.lifetime b.lifetime
     && (same_bit a.full b.full
     && (same a.name b.name
     && (same a.addresses b.addresses
@@ -42,19 +42,19 @@ same_records (x ∷ xs) [] = false
 same_records (x ∷ xs) (y ∷ ys) = same_record x y && same_records xs ys
 
 abbrev pub same_taken : Taken → Taken → Bool
-same_taken (taking.refuse k) (taking.refuse j) = eq k j
+same_taken (taking.refuse k) (taking.refuse j) = eqb k j
 same_taken (taking.refuse k) (taking.sheet d qs) = false
 same_taken (taking.sheet c rs) (taking.refuse j) = false
-same_taken (taking.sheet c rs) (taking.sheet d qs) = eq (number_of c) (number_of d) && same_records rs qs
+same_taken (taking.sheet c rs) (taking.sheet d qs) = eqb (number_of c) (number_of d) && same_records rs qs
 
 abbrev pub is_done : Done → reading.Answer → Bool
 is_done d (reading.refuse k) = false
 is_done d (done e) =
     same e.sheet d.sheet
-    && (eq e.found d.found && (eq e.discarded d.discarded && (eq e.fault d.fault && eq e.place d.place)))
+    && (eqb e.found d.found && (eqb e.discarded d.discarded && (eqb e.fault d.fault && eqb e.place d.place)))
 
 abbrev pub is_refused : ℕ → reading.Answer → Bool
-is_refused k (reading.refuse j) = eq j k
+is_refused k (reading.refuse j) = eqb j k
 is_refused k (done e) = false
 
 abbrev pub is_written : List ℕ → writing.Answer → Bool
@@ -65,12 +65,12 @@ is_written bs (written cs) = same cs bs
 
 module _ (p : Piece) where
   abbrev pub passes : Claim → Bool
-  passes (octets n) = eq (length p.area) n
-  passes (sheet_octets n) = eq (length p.gives.sheet) n
-  passes (part_octets l n) = eq (length l) n
-  passes (number w i n) = eq (number_at w i p.area) n
+  passes (octets n) = eqb (length p.area) n
+  passes (sheet_octets n) = eqb (length p.gives.sheet) n
+  passes (part_octets l n) = eqb (length l) n
+  passes (number w i n) = eqb (number_at w i p.area) n
   passes (ends l) = same (last_of (length l) p.area) l
-  passes (joined n) = eq (length (flat (data_of p))) n
+  passes (joined n) = eqb (length (flat (data_of p))) n
   passes (options ns) = same (map length (data_of p)) ns
   passes (replaced l i old new) = same (take (length old) (drop i l)) old && same p.area (over i new l)
   passes (short room) = is_refused refusal.room (read_of p.carrier p.area room)

@@ -1,6 +1,6 @@
 -- An entry that passes the test is as it says: one law for each test, and `good-holds` for all of them. Assumes nothing.
 use Rattle.std.specs.Prelude.{◌≡◌, refl, Bool, true, false, cond, not, ◌&&◌, List, [], ◌∷◌, ℕ, ltb, length, take, drop}
-use Rattle.std.proofs.Common.{sym, ap, ◌∙◌, true≢false, arith, eq-true, lt-ltb, le-ltb}
+use Rattle.std.proofs.Common.{sym, ap, ◌∙◌, true≢false, arith, eqb-true, lt-ltb, le-ltb}
 use Rattle.std.proofs.lemmas.Bool.{false≢true, not-true}
 use Rattle.std.proofs.Math.Bool.{and-eq-true_iff}
 use Rattle.octets.specs.Lists.{All, same}
@@ -49,8 +49,8 @@ record-true a b e =
     let h = both _ _ g.1 in
     let i = both _ _ h.1 in
     let j = both _ _ i.1 in
-    let p : a.priority ≡ b.priority = eq-true _ _ f.0 in
-    let t : a.lifetime ≡ b.lifetime = eq-true _ _ g.0 in
+    let p : a.priority ≡ b.priority = eqb-true _ _ f.0 in
+    let t : a.lifetime ≡ b.lifetime = eqb-true _ _ g.0 in
     let u : a.full ≡ b.full = bit-true _ _ h.0 in
     let n : a.name ≡ b.name = same_true _ _ i.0 in
     let s : a.addresses ≡ b.addresses = same_true _ _ j.0 in
@@ -73,12 +73,12 @@ number_same : (c d : Carrier) → number_of c ≡ number_of d → c ≡ d
 number_same c d e = let k : Known c ≡ Known d = sym (chosen-number c) ∙ ap chosen_of e ∙ chosen-number d in cc
 
 taken_true : (a b : Taken) → same_taken a b ≡ true → a ≡ b
-taken_true (taking.refuse k) (taking.refuse j) e = ap taking.refuse (eq-true k j e)
+taken_true (taking.refuse k) (taking.refuse j) e = ap taking.refuse (eqb-true k j e)
 taken_true (taking.refuse k) (taking.sheet d qs) e = absurd (false≢true e)
 taken_true (taking.sheet c rs) (taking.refuse j) e = absurd (false≢true e)
 taken_true (taking.sheet c rs) (taking.sheet d qs) e =
     let f = both _ _ e in
-    let p : c ≡ d = number_same c d (eq-true _ _ f.0) in
+    let p : c ≡ d = number_same c d (eqb-true _ _ f.0) in
     let q : rs ≡ qs = records-true rs qs f.1 in
     cc
 
@@ -89,18 +89,18 @@ done-true d (done x) e =
     let g = both _ _ f.1 in
     let h = both _ _ g.1 in
     let s : x.sheet ≡ d.sheet = same_true _ _ f.0 in
-    let n : x.found ≡ d.found = eq-true _ _ g.0 in
-    let m : x.discarded ≡ d.discarded = eq-true _ _ h.0 in
+    let n : x.found ≡ d.found = eqb-true _ _ g.0 in
+    let m : x.discarded ≡ d.discarded = eqb-true _ _ h.0 in
     let i = both _ _ h.1 in
-    let k : x.fault ≡ d.fault = eq-true _ _ i.0 in
-    let p : x.place ≡ d.place = eq-true _ _ i.1 in
+    let k : x.fault ≡ d.fault = eqb-true _ _ i.0 in
+    let p : x.place ≡ d.place = eqb-true _ _ i.1 in
     let all : ◌≡◌ {A = Done}
     (record { sheet = x.sheet; found = x.found; discarded = x.discarded; fault = x.fault; place = x.place })
     (record { sheet = d.sheet; found = d.found; discarded = d.discarded; fault = d.fault; place = d.place }) = rw (s, n, m, k, p) refl in
     ap done all
 
 refused-true : (k : ℕ) (a : reading.Answer) → is_refused k a ≡ true → a ≡ reading.refuse k
-refused-true k (reading.refuse j) e = ap reading.refuse (eq-true j k e)
+refused-true k (reading.refuse j) e = ap reading.refuse (eqb-true j k e)
 refused-true k (done x) e = absurd (false≢true e)
 
 written-true : (bs : List ℕ) (a : writing.Answer) → is_written bs a ≡ true → a ≡ written bs
@@ -111,12 +111,12 @@ written-true bs (written cs) e = ap written (same_true cs bs e)
 
 module _ (p : Piece) where
   means : (c : Claim) → passes p c ≡ true → Means p c
-  means (octets n) e = eq-true _ _ e
-  means (sheet_octets n) e = eq-true _ _ e
-  means (part_octets l n) e = eq-true _ _ e
-  means (number w i n) e = eq-true _ _ e
+  means (octets n) e = eqb-true _ _ e
+  means (sheet_octets n) e = eqb-true _ _ e
+  means (part_octets l n) e = eqb-true _ _ e
+  means (number w i n) e = eqb-true _ _ e
   means (ends l) e = same_true _ _ e
-  means (joined n) e = eq-true _ _ e
+  means (joined n) e = eqb-true _ _ e
   means (options ns) e = same_true _ _ e
   means (replaced l i old new) e =
       let f = both (same (take (length old) (drop i l)) old) (same p.area (over i new l)) e in

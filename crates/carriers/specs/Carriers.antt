@@ -1,5 +1,5 @@
 -- What is said of each carrier (RULES C1, W1 to W7, B1): one table. Assumes nothing: these are definitions.
-use Rattle.std.specs.Prelude.{Bool, true, false, cond, ℕ, ◌+◌, ◌*◌, ◌/◌, ◌%◌, eq}
+use Rattle.std.specs.Prelude.{Bool, true, false, cond, ℕ, ◌+◌, ◌*◌, ◌/◌, ◌%◌, eqb}
 use Rattle.carriers.specs.declared.Carrier.{Carrier}
 use Rattle.carriers.specs.declared.Carrier.TheVariants.{Dhcp4, Dhcp6, Router, Ike4, Ike6}
 use Rattle.carriers.specs.declared.Chosen.{Chosen}
@@ -13,11 +13,11 @@ use Rattle.carriers.specs.declared.Eights.{Eights}
 -- the carrier of a number (RULES C1)
 unfoldable pub chosen_of : ℕ → Chosen
 chosen_of n =
-    cond (eq n 1) (Known Dhcp4)
-    (cond (eq n 2) (Known Dhcp6)
-    (cond (eq n 3) (Known Router)
-    (cond (eq n 4) (Known Ike4)
-    (cond (eq n 5) (Known Ike6) Unknown))))
+    cond (eqb n 1) (Known Dhcp4)
+    (cond (eqb n 2) (Known Dhcp6)
+    (cond (eqb n 3) (Known Router)
+    (cond (eqb n 4) (Known Ike4)
+    (cond (eqb n 5) (Known Ike6) Unknown))))
 
 -- ---- the table
 

@@ -1,7 +1,7 @@
 -- What holds of every row of the table, that each carrier has a number of its own, and that the two conversions of lengths are inverse.
 -- Assumes nothing.
-use Rattle.std.specs.Prelude.{◌≡◌, refl, Bool, true, false, cond, ℕ, ◌*◌, ◌/◌, ◌%◌, ◌^◌, ◌≤◌, ◌<◌, eq, get_or}
-use Rattle.std.proofs.Common.{sym, ap, ◌∙◌, true≢false, inl, inr, mul-le-mul, div-add-mod', arith, eq-true}
+use Rattle.std.specs.Prelude.{◌≡◌, refl, Bool, true, false, cond, ℕ, ◌*◌, ◌/◌, ◌%◌, ◌^◌, ◌≤◌, ◌<◌, eqb, get_or}
+use Rattle.std.proofs.Common.{sym, ap, ◌∙◌, true≢false, inl, inr, mul-le-mul, div-add-mod', arith, eqb-true}
 use Rattle.std.proofs.lemmas.Bool.{false≢true}
 use Rattle.octets.specs.Numbers.{be}
 use Rattle.carriers.specs.declared.Carrier.{Carrier}
@@ -48,11 +48,11 @@ number-chosen n c =
     is 1 Dhcp4 refl (is 2 Dhcp6 refl (is 3 Router refl (is 4 Ike4 refl (is 5 Ike6 refl (λ e. absurd (unknown-known e))))))
   where
     is : (k : ℕ) (d : Carrier) → number_of d ≡ k → {o : Chosen} → (o ≡ Known c → n ≡ number_of c)
-        → cond (eq n k) (Known d) o ≡ Known c → n ≡ number_of c
-    is k d i {o} h = go (eq n k) refl
+        → cond (eqb n k) (Known d) o ≡ Known c → n ≡ number_of c
+    is k d i {o} h = go (eqb n k) refl
       where
-        go : (b : Bool) → eq n k ≡ b → cond b (Known d) o ≡ Known c → n ≡ number_of c
-        go true t e = let j : d ≡ c = cc in eq-true n k t ∙ sym i ∙ ap number_of j
+        go : (b : Bool) → eqb n k ≡ b → cond b (Known d) o ≡ Known c → n ≡ number_of c
+        go true t e = let j : d ≡ c = cc in eqb-true n k t ∙ sym i ∙ ap number_of j
         go false t e = h e
 
 -- a number that no carrier has chooses none

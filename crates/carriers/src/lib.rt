@@ -1,6 +1,6 @@
 // The five carriers (RULES C1) and what differs between them as data: one table, with a row for each carrier. Lengths in octets and in
 // units of eight are two types that are never mixed (RULES B3); they are converted here alone, each way in one function.
-ghost use Rattle.std.specs.Prelude.{◌≡◌, ◌<◌, eq};
+ghost use Rattle.std.specs.Prelude.{◌≡◌, ◌<◌, eqb};
 ghost use Rattle.numbers.specs.Refusal as refusal;
 ghost use Rattle.carriers.specs.Told.{Chooses};
 ghost use Rattle.carriers.specs.Carriers.{octets_of, eights_of, chosen_of, facts_of, number_of, code_of, header_of, address_width, length_width, form_of, lifetime_width, as_text};
@@ -65,7 +65,7 @@ pub struct Octets(pub usize);
 impl Octets {
     // Whether it is 0.
     pub fn none(self) -> bool
-        ensures { result ≡ eq self.0 0 }
+        ensures { result ≡ eqb self.0 0 }
     {
         let n = self.0;
         n == 0

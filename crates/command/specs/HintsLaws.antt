@@ -1,6 +1,6 @@
 -- The laws of looking for another carrier, one for each turn of the code. Assumes nothing.
 use Rattle.std.specs.Prelude.{◌≡◌, true, false, List, ℕ, suc, ◌+◌, ◌-◌, ◌≤◌, ◌<◌, ltb}
-use Rattle.std.proofs.Common.{ap, arith, eq-eq, ne_eqb}
+use Rattle.std.proofs.Common.{ap, arith, eq-eqb, ne_eqb}
 use Rattle.reading.specs.declared.Reading.{Reading}
 use Rattle.command.specs.Hints.{finds, finds_in, suits_in, hint_from}
 
@@ -9,11 +9,11 @@ module _ {r s : Reading} (e : r ≡ s) where
   finds-refused z = rw (ne_eqb r.number 0 z) at (ap finds e)
 
   pub finds-told : r.number ≡ 0 → ltb r.discarded r.found ≡ finds s
-  finds-told z = rw (eq-eq r.number 0 z) at (ap finds e)
+  finds-told z = rw (eq-eqb r.number 0 z) at (ap finds e)
 
 module _ (carrier : ℕ) (area : List ℕ) (k : ℕ) where
   pub suits-own : k ≡ carrier → false ≡ suits_in k carrier area
-  suits-own e = rw (eq-eq k carrier e)
+  suits-own e = rw (eq-eqb k carrier e)
 
   pub suits-other : (k ≡ carrier → ⊥) → finds_in k area ≡ suits_in k carrier area
   suits-other n = rw (ne_eqb k carrier n)

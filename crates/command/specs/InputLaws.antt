@@ -1,6 +1,6 @@
 -- What each test of the command says of what is done, and that each status is one of the four. Assumes nothing.
-use Rattle.std.specs.Prelude.{◌≡◌, Bool, true, false, List, ℕ, min, eq, length, take, ℤ, pos}
-use Rattle.std.proofs.Common.{sym, subst, eq-eq, ne_eqb}
+use Rattle.std.specs.Prelude.{◌≡◌, Bool, true, false, List, ℕ, min, eqb, length, take, ℤ, pos}
+use Rattle.std.proofs.Common.{sym, subst, eq-eqb, ne_eqb}
 use Rattle.carriers.specs.declared.Carrier.{Carrier}
 use Rattle.carriers.specs.declared.Chosen.TheVariants.{Known, Unknown}
 use Rattle.carriers.specs.Carriers.{chosen_of}
@@ -22,15 +22,15 @@ use Rattle.command.specs.NumbersLaws.{read-exited, shows-exited}
 
 module _ (a : Asked) (s : List ℕ) where
   pub performs-read : a.command ≡ command.read → (x : ℤ) → ReadAs a.strict (reading_of a.carrier s) x → Performs a s x
-  performs-read e x h = rw (eq-eq a.command command.read e) h
+  performs-read e x h = rw (eq-eqb a.command command.read e) h
 
   module _ (n : a.command ≡ command.read → ⊥) where
     pub performs-write : a.command ≡ command.write → (x : ℤ) → Answers (write_number s) x → Performs a s x
-    performs-write e x h = rw (ne_eqb a.command command.read n, eq-eq a.command command.write e) h
+    performs-write e x h = rw (ne_eqb a.command command.read n, eq-eqb a.command command.write e) h
 
     module _ (m : a.command ≡ command.write → ⊥) where
       pub performs-show : a.command ≡ command.show → (x : ℤ) → Shows (vetting.told (vet_of s)) x → Performs a s x
-      performs-show e x h = rw (ne_eqb a.command command.read n, ne_eqb a.command command.write m, eq-eq a.command command.show e) h
+      performs-show e x h = rw (ne_eqb a.command command.read n, ne_eqb a.command command.write m, eq-eqb a.command command.show e) h
 
       pub performs-octets : (a.command ≡ command.show → ⊥) → (x : ℤ) → Delivered x → Performs a s x
       performs-octets k x h = rw (ne_eqb a.command command.read n, ne_eqb a.command command.write m, ne_eqb a.command command.show k) h
@@ -79,7 +79,7 @@ module _ (a : Asked) {i : Answer} {r : Read} {out' : List ℕ} (h : Answered i r
 
 takes-read : (a : Asked) (k : Read) (out : List ℕ) (x : ℤ) → takes a k out x → Exited x
 takes-read a (Octets n) out x h =
-    performing-exited (eq a.command command.read) (eq a.command command.write) (eq a.command command.show) a (take n out) x h
+    performing-exited (eqb a.command command.read) (eqb a.command command.write) (eqb a.command command.show) a (take n out) x h
 takes-read a (Bad at w) out x h = failed-exited x h
 takes-read a Long out x h = refused-exited x h
 

@@ -1,6 +1,6 @@
 -- By which number the command refuses octets, what it takes its input for (docs/COMMAND.md, "Input"), and the exit status of each. Assumes nothing:
 -- these are definitions.
-use Rattle.std.specs.Prelude.{◌≡◌, Bool, true, false, cond, ◌&&◌, List, ℕ, eq, ℤ, pos, take}
+use Rattle.std.specs.Prelude.{◌≡◌, Bool, true, false, cond, ◌&&◌, List, ℕ, eqb, ℤ, pos, take}
 use Rattle.numbers.specs.Limit as limit
 use Rattle.carriers.specs.declared.Chosen.{Chosen}
 use Rattle.carriers.specs.declared.Chosen.TheVariants.{Known, Unknown}
@@ -30,7 +30,7 @@ reading_of carrier area = reading.told (read_of carrier area limit.sheet_size)
 
 -- nothing was found, or something was discarded
 abbrev pub less : Reading → Bool
-less r = cond (eq r.found 0) true (cond (eq r.discarded 0) false true)
+less r = cond (eqb r.found 0) true (cond (eqb r.discarded 0) false true)
 
 -- what was asked for was given, or with the answer no
 abbrev pub Gives : Bool → ℤ → Type 0
@@ -67,7 +67,7 @@ performing false false true a s r = Shows (vetting.told (vet_of s)) r
 performing false false false a s r = Delivered r
 
 abbrev pub Performs : Asked → List ℕ → ℤ → Type 0
-Performs a s r = performing (eq a.command command.read) (eq a.command command.write) (eq a.command command.show) a s r
+Performs a s r = performing (eqb a.command command.read) (eqb a.command command.write) (eqb a.command command.show) a s r
 
 -- ---- the input
 

@@ -1,7 +1,7 @@
 -- What a call's number, and what vetting a sheet, say of the exit status. Assumes nothing.
-use Rattle.std.specs.Prelude.{◌≡◌, refl, Bool, true, false, ◌&&◌, List, [], ◌∷◌, ℕ, eq, length, ℤ, pos}
-use Rattle.std.proofs.Common.{ap, subst, ◌∙◌, sym, eq-eq, ne_eqb, eq-true}
-use Rattle.std.proofs.lemmas.Bool.{eq-false}
+use Rattle.std.specs.Prelude.{◌≡◌, refl, Bool, true, false, ◌&&◌, List, [], ◌∷◌, ℕ, eqb, length, ℤ, pos}
+use Rattle.std.proofs.Common.{ap, subst, ◌∙◌, sym, eq-eqb, ne_eqb, eqb-true}
+use Rattle.std.proofs.lemmas.Bool.{eqb-false}
 use Rattle.numbers.specs.Limit as limit
 use Rattle.carriers.specs.declared.Carrier.{Carrier}
 use Rattle.reading.specs.declared.Reading.{Reading}
@@ -48,25 +48,25 @@ module _ (r : Reading) where
   gives-plain x e = ap (one_of (done ∷ failed ∷ [])) e
 
   pub gives_nothing : r.found ≡ 0 → (x : ℤ) → x ≡ pos no → Gives (true && less r) x
-  gives_nothing f x e = rw (eq-eq r.found 0 f) (ap (one_of (failed ∷ no ∷ [])) e)
+  gives_nothing f x e = rw (eq-eqb r.found 0 f) (ap (one_of (failed ∷ no ∷ [])) e)
 
   module _ (f : r.found ≡ 0 → ⊥) where
     pub gives-fewer : (r.discarded ≡ 0 → ⊥) → (x : ℤ) → x ≡ pos no → Gives (true && less r) x
     gives-fewer d x e = rw (ne_eqb r.found 0 f, ne_eqb r.discarded 0 d) (ap (one_of (failed ∷ no ∷ [])) e)
 
     pub gives_all : r.discarded ≡ 0 → (x : ℤ) → x ≡ pos done → Gives (true && less r) x
-    gives_all d x e = rw (ne_eqb r.found 0 f, eq-eq r.discarded 0 d) (ap (one_of (done ∷ failed ∷ [])) e)
+    gives_all d x e = rw (ne_eqb r.found 0 f, eq-eqb r.discarded 0 d) (ap (one_of (done ∷ failed ∷ [])) e)
 
 gives-exited : (b : Bool) (x : ℤ) → Gives b x → Exited x
 gives-exited true x g = denied-exited x g
 gives-exited false x g = delivered-exited x g
 
 pub read-exited : (strict : Bool) (r : Reading) (x : ℤ) → ReadAs strict r x → Exited x
-read-exited strict r x a = go (eq r.number 0) refl
+read-exited strict r x a = go (eqb r.number 0) refl
   where
-    go : (b : Bool) → eq r.number 0 ≡ b → Exited x
-    go true t = gives-exited (strict && less r) x (a.done (eq-true r.number 0 t))
-    go false t = refused-exited x (a.refuses (eq-false r.number 0 t))
+    go : (b : Bool) → eqb r.number 0 ≡ b → Exited x
+    go true t = gives-exited (strict && less r) x (a.done (eqb-true r.number 0 t))
+    go false t = refused-exited x (a.refuses (eqb-false r.number 0 t))
 
 -- ---- writing
 

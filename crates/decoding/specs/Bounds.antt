@@ -1,6 +1,6 @@
 -- A text that is no list is refused within itself: at one of its characters, or at its end. Assumes nothing.
-use Rattle.std.specs.Prelude.{◌≡◌, refl, Bool, true, false, cond, List, [], ◌∷◌, ◌++◌, ℕ, ◌+◌, ◌≤◌, leb, ltb, eq, length, set}
-use Rattle.std.proofs.Common.{subst, arith, length-append, ltb-false, eq-eq}
+use Rattle.std.specs.Prelude.{◌≡◌, refl, Bool, true, false, cond, List, [], ◌∷◌, ◌++◌, ℕ, ◌+◌, ◌≤◌, leb, ltb, eqb, length, set}
+use Rattle.std.proofs.Common.{subst, arith, length-append, ltb-false, eq-eqb}
 use Rattle.inputs.specs.Why as why
 use Rattle.inputs.specs.declared.Read.{Read}
 use Rattle.inputs.specs.declared.Read.TheVariants.{Octets, Bad, Long}
@@ -21,7 +21,7 @@ escapes-from : (k at high n i : ℕ) (out l : List ℕ) → i + length l ≤ k +
 unfolding escapes.read_from
 escapes-from k at high n i out [] h = tt
 escapes-from k at high n i out (x ∷ xs) h =
-    go (eq (escapes.next at x) 5) (eq (escapes.next at x) 4) (leb (length out) n)
+    go (eqb (escapes.next at x) 5) (eqb (escapes.next at x) 4) (leb (length out) n)
     (λ m out'. escapes-from k (escapes.next at x) x m (i + 1) out' xs (omega arith))
   where
     rest : ℕ → List ℕ → escapes.Ended
@@ -58,7 +58,7 @@ list_inside t out = go (ltb 6 (form_of t)) refl (ltb (form_of t) 6) refl
     go false p true q = rw (p, q) (groups-within (form_of t) t out)
     go false p false q =
         let e : form_of t ≡ 6 = omega (arith, ltb-false 6 (form_of t) p, ltb-false (form_of t) 6 q) in
-        rw (p, q, eq-eq (form_of t) 6 e) (escapes-within t out)
+        rw (p, q, eq-eqb (form_of t) 6 e) (escapes-within t out)
 
 pub list-within : (t out : List ℕ) {at w : ℕ} → (list_of t out).read ≡ Bad at w → at ≤ length t
 list-within t out e = subst (Inside (length t)) e (list_inside t out)

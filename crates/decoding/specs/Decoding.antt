@@ -1,6 +1,6 @@
 -- What an input is taken for (docs/COMMAND.md, "Input"): octets as they are, or those that a text spells; with `--value`, the options of its values.
 -- Assumes nothing: these are definitions.
-use Rattle.std.specs.Prelude.{Bool, true, false, cond, List, [], ◌∷◌, ℕ, ◌+◌, max, ltb, eq, length, take}
+use Rattle.std.specs.Prelude.{Bool, true, false, cond, List, [], ◌∷◌, ℕ, ◌+◌, max, ltb, eqb, length, take}
 use Rattle.numbers.specs.Limit as limit
 use Rattle.octets.specs.Numbers.{zeros}
 use Rattle.octets.specs.Over.{over}
@@ -38,9 +38,9 @@ base64_of text out =
 -- in the form that is asked for; where none is, text in the form that it has, and anything else as it is
 unfoldable pub read_of : ℕ → List ℕ → List ℕ → Answer
 read_of f text out =
-    cond (eq f form.raw) (raw_of text out)
-    (cond (eq f form.base64) (base64_of text out)
-    (cond (eq f form.hex) (forms.read_of text out)
+    cond (eqb f form.raw) (raw_of text out)
+    (cond (eqb f form.base64) (base64_of text out)
+    (cond (eqb f form.hex) (forms.read_of text out)
     (cond (textual_of text) (forms.read_of text out) (raw_of text out))))
 
 -- ---- values
@@ -76,7 +76,7 @@ onto x (l ∷ ls) = (x ∷ l) ∷ ls
 
 unfoldable pub lines_in : List ℕ → List (List ℕ)
 lines_in [] = []
-lines_in (x ∷ xs) = cond (eq x 10) ([] ∷ lines_in xs) (onto x (lines_in xs))
+lines_in (x ∷ xs) = cond (eqb x 10) ([] ∷ lines_in xs) (onto x (lines_in xs))
 
 -- one line after the other, of which the next begins at the i-th character, with n octets of options so far: the first line that spells no value, or one
 -- that no option holds, is refused at its place in the text
@@ -94,7 +94,7 @@ lines_of c text out = lines_from c 0 0 out (lines_in text)
 
 -- lines are values where the input is text, but for base64
 abbrev pub is_lines : ℕ → List ℕ → Bool
-is_lines f text = cond (eq f form.hex) true (cond (eq f form.none) (textual_of text) false)
+is_lines f text = cond (eqb f form.hex) true (cond (eqb f form.none) (textual_of text) false)
 
 -- the options of the values: of each line, or of the whole input
 unfoldable pub values_of : ℕ → Carrier → List ℕ → List ℕ → Answer

@@ -1,8 +1,8 @@
 -- The laws of inputs: what each outcome answers and leaves, and the lines of a text one after another. Assumes nothing.
-use Rattle.std.specs.Prelude.{◌≡◌, refl, Bool, true, false, cond, List, [], ◌∷◌, ℕ, suc, ◌+◌, ◌-◌, ◌≤◌, ◌<◌, min, leb, eq, length, take, drop}
+use Rattle.std.specs.Prelude.{◌≡◌, refl, Bool, true, false, cond, List, [], ◌∷◌, ℕ, suc, ◌+◌, ◌-◌, ◌≤◌, ◌<◌, min, leb, eqb, length, take, drop}
 use Rattle.std.proofs.Common.{sym, ◌∙◌, subst, arith, length-take, length-drop, drop_of_length-le, take_all, drop-drop}
 use Rattle.std.proofs.Math.Path.{ap}
-use borrow.Author.Tests.{leb-true, leb-false, lt-ltb, le-ltb, eq-eq, ne_eqb}
+use borrow.Author.Tests.{leb-true, leb-false, lt-ltb, le-ltb, eq-eqb, ne_eqb}
 use Rattle.octets.specs.Over.{Wrote}
 use Rattle.arguments.specs.Form as form
 use Rattle.carriers.specs.declared.Carrier.{Carrier}
@@ -31,17 +31,17 @@ module _ (s out : List ℕ) where
 module _ (f : ℕ) (text out : List ℕ) where
   pub as-raw : f ≡ form.raw → read_of f text out ≡ raw_of text out
   unfolding read_of
-  as-raw e = rw (eq-eq f form.raw e)
+  as-raw e = rw (eq-eqb f form.raw e)
 
   module _ (a : f ≡ form.raw → ⊥) where
     pub as-base64 : {r : Read} {out' : List ℕ} → f ≡ form.base64 → base64.Answered text out r out' → Answered (read_of f text out) r out'
     unfolding read_of
-    as-base64 e w = rw (ne_eqb f form.raw a, eq-eq f form.base64 e) (record { answered = w.answered; leaves = w.leaves })
+    as-base64 e w = rw (ne_eqb f form.raw a, eq-eqb f form.base64 e) (record { answered = w.answered; leaves = w.leaves })
 
     module _ (b : f ≡ form.base64 → ⊥) where
       pub as-hex : f ≡ form.hex → read_of f text out ≡ forms.read_of text out
       unfolding read_of
-      as-hex e = rw (ne_eqb f form.raw a, ne_eqb f form.base64 b, eq-eq f form.hex e)
+      as-hex e = rw (ne_eqb f form.raw a, ne_eqb f form.base64 b, eq-eqb f form.hex e)
 
       module _ (d : f ≡ form.hex → ⊥) where
         pub as-text : textual_of text ≡ true → read_of f text out ≡ forms.read_of text out
@@ -131,26 +131,26 @@ module _ (c : Carrier) (line out : List ℕ) (n : ℕ) where
 place-from : (x i : ℕ) (l : List ℕ) → place_of x i l ≡ i + place_of x 0 l
 unfolding place_of
 place-from x i [] = omega arith
-place-from x i (y ∷ ys) = go (eq y x) (place-from x (i + 1) ys) (place-from x 1 ys)
+place-from x i (y ∷ ys) = go (eqb y x) (place-from x (i + 1) ys) (place-from x 1 ys)
   where
     go : (b : Bool) → place_of x (i + 1) ys ≡ i + 1 + place_of x 0 ys → place_of x 1 ys ≡ 1 + place_of x 0 ys
         → cond b i (place_of x (i + 1) ys) ≡ i + cond b 0 (place_of x 1 ys)
     go true p q = omega arith
     go false p q = omega arith
 
-place-break : (x : ℕ) (xs : List ℕ) → eq x 10 ≡ true → place_of 10 0 (x ∷ xs) ≡ 0
+place-break : (x : ℕ) (xs : List ℕ) → eqb x 10 ≡ true → place_of 10 0 (x ∷ xs) ≡ 0
 unfolding place_of
 place-break x xs e = rw e
 
-place_after : (x : ℕ) (xs : List ℕ) → eq x 10 ≡ false → place_of 10 0 (x ∷ xs) ≡ suc (place_of 10 0 xs)
+place_after : (x : ℕ) (xs : List ℕ) → eqb x 10 ≡ false → place_of 10 0 (x ∷ xs) ≡ suc (place_of 10 0 xs)
 unfolding place_of
 place_after x xs e = rw e (place-from 10 1 xs ∙ omega arith)
 
-lines-break : (x : ℕ) (xs : List ℕ) → eq x 10 ≡ true → lines_in (x ∷ xs) ≡ [] ∷ lines_in xs
+lines-break : (x : ℕ) (xs : List ℕ) → eqb x 10 ≡ true → lines_in (x ∷ xs) ≡ [] ∷ lines_in xs
 unfolding lines_in
 lines-break x xs e = rw e
 
-lines_after : (x : ℕ) (xs : List ℕ) → eq x 10 ≡ false → lines_in (x ∷ xs) ≡ onto x (lines_in xs)
+lines_after : (x : ℕ) (xs : List ℕ) → eqb x 10 ≡ false → lines_in (x ∷ xs) ≡ onto x (lines_in xs)
 unfolding lines_in
 lines_after x xs e = rw e
 
@@ -165,9 +165,9 @@ onto-cut x (y ∷ ys) h = ap (onto x) (h (omega arith))
 
 lines_cut : (l : List ℕ) → 0 < length l → lines_in l ≡ cut_at (place_of 10 0 l) l
 lines_cut [] h = absurd (omega arith)
-lines_cut (x ∷ xs) h = go (eq x 10) refl (lines_cut xs)
+lines_cut (x ∷ xs) h = go (eqb x 10) refl (lines_cut xs)
   where
-    go : (b : Bool) → eq x 10 ≡ b → (0 < length xs → lines_in xs ≡ cut_at (place_of 10 0 xs) xs) → lines_in (x ∷ xs) ≡ cut_at (place_of 10 0 (x ∷ xs)) (x ∷ xs)
+    go : (b : Bool) → eqb x 10 ≡ b → (0 < length xs → lines_in xs ≡ cut_at (place_of 10 0 xs) xs) → lines_in (x ∷ xs) ≡ cut_at (place_of 10 0 (x ∷ xs)) (x ∷ xs)
     go true e q = lines-break x xs e ∙ sym (ap (λ (k : ℕ). cut_at k (x ∷ xs)) (place-break x xs e))
     go false e q = lines_after x xs e ∙ onto-cut x xs q ∙ sym (ap (λ (k : ℕ). cut_at k (x ∷ xs)) (place_after x xs e))
 

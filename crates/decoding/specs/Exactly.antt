@@ -1,9 +1,9 @@
 -- Lines of values become an area that is framed as exactly those values: what `--value` reads is what the lines spell, value by value. Assumes nothing.
 use Rattle.std.proofs.Math.Path.{◌≡◌, refl}
 use Rattle.std.proofs.Common.{sym, ap, ◌∙◌, subst, append_assoc, append-nil, arith}
-use Rattle.std.specs.Prelude.{Bool, true, false, cond, List, [], ◌∷◌, ◌++◌, map, ℕ, ◌+◌, ◌≤◌, eq, take}
+use Rattle.std.specs.Prelude.{Bool, true, false, cond, List, [], ◌∷◌, ◌++◌, map, ℕ, ◌+◌, ◌≤◌, eqb, take}
 use Rattle.std.proofs.Math.ListN.{length}
-use Rattle.std.proofs.lemmas.Bool.{eq-false}
+use Rattle.std.proofs.lemmas.Bool.{eqb-false}
 use Rattle.octets.specs.Lists.{All}
 use Rattle.carriers.specs.declared.Carrier.{Carrier}
 use Rattle.inputs.specs.declared.Read.{Read}
@@ -47,9 +47,9 @@ module _ (c : Carrier) (line out : List ℕ) (n : ℕ) where
 
 adds-more : (c : Carrier) (v : List ℕ) (vs : List (List ℕ)) {a b d : List ℕ} → Lays c v a b → Adds c (some vs) b d → Adds c (some (v ∷ vs)) a d
 unfolding some
-adds-more c v vs {a} {b} {d} w u = go (eq (length v) 0) refl
+adds-more c v vs {a} {b} {d} w u = go (eqb (length v) 0) refl
   where
-    go : (x : Bool) → eq (length v) 0 ≡ x → Adds c (cond (eq (length v) 0) (some vs) (v ∷ some vs)) a d
+    go : (x : Bool) → eqb (length v) 0 ≡ x → Adds c (cond (eqb (length v) 0) (some vs) (v ∷ some vs)) a d
     go true e =
         let q : b ≡ a = w.are ∙ ap (λ (x : Bool). a ++ cond x [] (headed_of c v)) e ∙ append-nil a in
         rw e (record { are = u.are ∙ ap (λ (l : List ℕ). l ++ area_of c (some vs)) q; held = u.held })
@@ -58,7 +58,7 @@ adds-more c v vs {a} {b} {d} w u = go (eq (length v) 0) refl
         rw e
         (record {
           are = u.are ∙ ap (λ (l : List ℕ). l ++ area_of c (some vs)) q ∙ append_assoc a (headed_of c v) (area_of c (some vs));
-          held = (w.held (eq-false (length v) 0 e), u.held);
+          held = (w.held (eqb-false (length v) 0 e), u.held);
         })
 
 from-adds : (c : Carrier) (i n : ℕ) (out : List ℕ) (ls : List (List ℕ)) {m : ℕ} → n ≤ length out → (lines_from c i n out ls).read ≡ Octets m

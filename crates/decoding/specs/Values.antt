@@ -1,5 +1,5 @@
 -- The values of an input (docs/COMMAND.md, "Input"): one of each line that spells octets, in order. Assumes nothing: these are definitions.
-use Rattle.std.specs.Prelude.{cond, List, [], ◌∷◌, map, ℕ, eq, length, take}
+use Rattle.std.specs.Prelude.{cond, List, [], ◌∷◌, map, ℕ, eqb, length, take}
 use Rattle.inputs.specs.declared.Read.{Read}
 use Rattle.inputs.specs.declared.Read.TheVariants.{Octets, Bad, Long}
 use Rattle.forms.specs.Forms.{list_of}
@@ -18,7 +18,7 @@ value_in line = octets_in (list_of line room).read (list_of line room).out
 -- without those of no octets
 unfoldable pub some : List (List ℕ) → List (List ℕ)
 some [] = []
-some (v ∷ vs) = cond (eq (length v) 0) (some vs) (v ∷ some vs)
+some (v ∷ vs) = cond (eqb (length v) 0) (some vs) (v ∷ some vs)
 
 abbrev pub values_in : List ℕ → List (List ℕ)
 values_in text = some (map value_in (lines_in text))

@@ -1,6 +1,6 @@
 -- What a text is read as that is to be a dump: its characters one after the other, and a line break after the last. Assumes nothing: these are
 -- definitions.
-use Rattle.std.specs.Prelude.{◌≡◌, cond, List, [], ◌∷◌, ◌++◌, ℕ, zero, suc, ◌+◌, ◌-◌, ◌%◌, ltb, leb, eq, length, get_or, set}
+use Rattle.std.specs.Prelude.{◌≡◌, cond, List, [], ◌∷◌, ◌++◌, ℕ, zero, suc, ◌+◌, ◌-◌, ◌%◌, ltb, leb, eqb, length, get_or, set}
 use Rattle.inputs.specs.Why as why
 use Rattle.inputs.specs.declared.Read.{Read}
 use Rattle.inputs.specs.declared.Read.TheVariants.{Octets, Bad, Long}
@@ -31,7 +31,7 @@ after t out = record { turn = t; out = out }
 -- an octet that is complete is laid at n
 unfoldable pub lay_of : State → ℕ → List ℕ → After
 lay_of s n out =
-    cond (eq s.mode mode.low)
+    cond (eqb s.mode mode.low)
     (cond (leb (length out) n) (after turns.Long out) (after (turns.Go s (n + 1)) (set out n s.octet)))
     (after (turns.Go s n) out)
 
@@ -47,7 +47,7 @@ unfoldable pub fill_of : ℕ → ℕ → ℕ → List ℕ → FilledTo
 fill_of from n upto out =
     cond (leb upto n) (filled_to (reach.To n) out)
     (cond (leb n from) (filled_to reach.No out)
-    (cond (eq ((upto - n) % (n - from)) 0)
+    (cond (eqb ((upto - n) % (n - from)) 0)
     (cond (ltb (length out) upto) (filled_to reach.Long out) (filled_to (reach.To upto) (repeated_of (upto - n) from n out)))
     (filled_to reach.No out)))
 
@@ -64,7 +64,7 @@ lay_by reach.Long s out = after turns.Long out
 
 unfoldable pub settled : State → ℕ → List ℕ → After
 settled s n out =
-    cond (eq s.why 0)
+    cond (eqb s.why 0)
     (lay_by (fill_of s.before n s.upto out).fill s (fill_of s.before n s.upto out).out)
     (after (turns.Bad s.why) out)
 

@@ -1,8 +1,8 @@
 -- The laws of reading a dump: the octets that stars stand for, a character, and the text that is left. Assumes nothing.
-use Rattle.std.specs.Prelude.{◌≡◌, refl, Bool, true, false, List, [], ◌∷◌, ◌++◌, ℕ, zero, suc, ◌+◌, ◌-◌, ◌%◌, ◌≤◌, ◌<◌, ltb, leb, eq, length, get_or, set, drop}
+use Rattle.std.specs.Prelude.{◌≡◌, refl, Bool, true, false, List, [], ◌∷◌, ◌++◌, ℕ, zero, suc, ◌+◌, ◌-◌, ◌%◌, ◌≤◌, ◌<◌, ltb, leb, eqb, length, get_or, set, drop}
 use Rattle.std.proofs.Common.{sym, subst, ◌∙◌, arith, length-set}
 use Rattle.std.proofs.Math.Path.{ap}
-use borrow.Author.Tests.{lt-ltb, le-ltb, le-leb, lt-leb, eq-eq, ne_eqb, ltb-false, leb-false}
+use borrow.Author.Tests.{lt-ltb, le-ltb, le-leb, lt-leb, eq-eqb, ne_eqb, ltb-false, leb-false}
 use Rattle.inputs.specs.Why as why
 use Rattle.inputs.specs.TextLaws.{closed-cons, closed-end}
 use Rattle.inputs.specs.declared.Read.{Read}
@@ -85,7 +85,7 @@ module _ (from n upto : ℕ) (out : List ℕ) where
         fill-long m =
             let e = lt-leb upto n h in
             let g = lt-leb n from l in
-            let k = eq-eq ((upto - n) % (n - from)) 0 d in
+            let k = eq-eqb ((upto - n) % (n - from)) 0 d in
             let j = lt-ltb (length out) upto m in
             record { answered = rw (e, g, k, j); leaves = rw (e, g, k, j) }
 
@@ -94,7 +94,7 @@ module _ (from n upto : ℕ) (out : List ℕ) where
         fill-whole m p =
             let e = lt-leb upto n h in
             let g = lt-leb n from l in
-            let k = eq-eq ((upto - n) % (n - from)) 0 d in
+            let k = eq-eqb ((upto - n) % (n - from)) 0 d in
             let j = le-ltb (length out) upto m in
             record { answered = rw (e, g, k, j); leaves = rw (e, g, k, j) p }
 
@@ -108,11 +108,11 @@ module _ (s : State) (n : ℕ) (out : List ℕ) where
   module _ (h : s.mode ≡ mode.low) where
     pub lay-long : length out ≤ n → Turned (lay_of s n out) turns.Long out
     unfolding lay_of
-    lay-long l = let e = eq-eq s.mode mode.low h in let g = le-leb (length out) n l in record { answered = rw (e, g); leaves = rw (e, g) }
+    lay-long l = let e = eq-eqb s.mode mode.low h in let g = le-leb (length out) n l in record { answered = rw (e, g); leaves = rw (e, g) }
 
     pub lay-one : n < length out → Turned (lay_of s n out) (turns.Go s (n + 1)) (set out n s.octet)
     unfolding lay_of
-    lay-one l = let e = eq-eq s.mode mode.low h in let g = lt-leb (length out) n l in record { answered = rw (e, g); leaves = rw (e, g) }
+    lay-one l = let e = eq-eqb s.mode mode.low h in let g = lt-leb (length out) n l in record { answered = rw (e, g); leaves = rw (e, g) }
 
 -- ---- a character
 
@@ -127,7 +127,7 @@ settled-filled : (t : State) (n : ℕ) (out : List ℕ) {r : Reach} {out' : List
     → lay_by r t out' ≡ settled t n out
 unfolding settled
 settled-filled t n out {r} {out'} h p =
-    rw (eq-eq t.why 0 h) (ap (λ (q : Reach). lay_by q t out') p.answered ∙ ap (lay_by (fill_of t.before n t.upto out).fill t) p.leaves)
+    rw (eq-eqb t.why 0 h) (ap (λ (q : Reach). lay_by q t out') p.answered ∙ ap (lay_by (fill_of t.before n t.upto out).fill t) p.leaves)
 
 module _ (f : Style) (s : State) (x n : ℕ) (out : List ℕ) {t : State} {b : ℕ} (e : t ≡ moved f x n b s) (g : b ≡ get_or out s.beside 0) where
   take-is : settled t n out ≡ take_of f s x n out
@@ -167,9 +167,9 @@ pub record Kept (a : After) (k : ℕ) : Type 0 where
 
 lay-kept : (s : State) (n : ℕ) (out : List ℕ) → n ≤ length out → Kept (lay_of s n out) (length out)
 unfolding lay_of
-lay-kept s n out h = go (eq s.mode mode.low) refl (leb (length out) n) refl
+lay-kept s n out h = go (eqb s.mode mode.low) refl (leb (length out) n) refl
   where
-    go : (a : Bool) → eq s.mode mode.low ≡ a → (b : Bool) → leb (length out) n ≡ b → Kept (lay_of s n out) (length out)
+    go : (a : Bool) → eqb s.mode mode.low ≡ a → (b : Bool) → leb (length out) n ≡ b → Kept (lay_of s n out) (length out)
     go false p b q = rw p (record { size = refl; few = h })
     go true p true q = rw (p, q) (record { size = refl; few = tt })
     go true p false q =
@@ -180,9 +180,9 @@ lay-kept s n out h = go (eq s.mode mode.low) refl (leb (length out) n) refl
 fill-kept : (from n upto : ℕ) (out : List ℕ) → n ≤ length out
     → (length (fill_of from n upto out).out ≡ length out) × Reaches (fill_of from n upto out).fill (length out)
 unfolding fill_of
-fill-kept from n upto out h = go (leb upto n) refl (leb n from) refl (eq ((upto - n) % (n - from)) 0) refl (ltb (length out) upto) refl
+fill-kept from n upto out h = go (leb upto n) refl (leb n from) refl (eqb ((upto - n) % (n - from)) 0) refl (ltb (length out) upto) refl
   where
-    go : (a : Bool) → leb upto n ≡ a → (b : Bool) → leb n from ≡ b → (c : Bool) → eq ((upto - n) % (n - from)) 0 ≡ c
+    go : (a : Bool) → leb upto n ≡ a → (b : Bool) → leb n from ≡ b → (c : Bool) → eqb ((upto - n) % (n - from)) 0 ≡ c
         → (d : Bool) → ltb (length out) upto ≡ d
         → (length (fill_of from n upto out).out ≡ length out) × Reaches (fill_of from n upto out).fill (length out)
     go true p b q c r d u = rw p (refl, h)
@@ -198,9 +198,9 @@ by-kept reach.Long t out k e h = record { size = e; few = tt }
 
 settled-kept : (t : State) (n : ℕ) (out : List ℕ) → n ≤ length out → Kept (settled t n out) (length out)
 unfolding settled
-settled-kept t n out h = go (eq t.why 0) refl
+settled-kept t n out h = go (eqb t.why 0) refl
   where
-    go : (a : Bool) → eq t.why 0 ≡ a → Kept (settled t n out) (length out)
+    go : (a : Bool) → eqb t.why 0 ≡ a → Kept (settled t n out) (length out)
     go false p = rw p (record { size = refl; few = tt })
     go true p =
         let k = fill-kept t.before n t.upto out h in

@@ -1,10 +1,10 @@
 -- How a character moves a dump, by cases: to show something, show it of each outcome. Assumes nothing.
 use Rattle.std.specs.Prelude.{◌≡◌, Bool, ℕ, ◌+◌, ◌*◌, ◌%◌, ◌≤◌, ◌<◌}
 use Rattle.std.proofs.Math.Path.{refl, ap}
-use Rattle.std.proofs.Common.{sym, ◌∙◌, arith, leb-true, leb-false, ltb-true, ltb-false, eq-true}
+use Rattle.std.proofs.Common.{sym, ◌∙◌, arith, leb-true, leb-false, ltb-true, ltb-false, eqb-true}
 use Rattle.std.proofs.Math.Bool.{true, false}
-use Rattle.std.proofs.lemmas.Bool.{eq-false}
-use Rattle.std.proofs.Math.Dec.{ltb, leb, eq}
+use Rattle.std.proofs.lemmas.Bool.{eqb-false}
+use Rattle.std.proofs.Math.Dec.{ltb, leb, eqb}
 use Rattle.hexes.specs.Hexes.{digit}
 use Rattle.hexes.specs.Hexes as hexes
 use Rattle.hexes.specs.HexesLaws.{by-digit, value-decimal, value-upper, value-lower}
@@ -47,26 +47,26 @@ digit-says x e =
 pub by-class : (x : ℕ) {P : Type 0} → (class_of x ≡ class.Break → x ≡ 10 → P) → (class_of x ≡ class.Blank → Blank x → (x ≡ 10 → ⊥) → P)
     → (class_of x ≡ class.Digit → digit x ≡ true → (x ≡ 10 → ⊥) → P) → (class_of x ≡ class.Other → (x ≡ 10 → ⊥) → (x ≡ 32 → ⊥) → P) → P
 unfolding class_of
-by-class x {P} a b c d = go (digit x) refl (eq x 10) refl (eq x 32) refl (eq x 9) refl (eq x 13) refl
+by-class x {P} a b c d = go (digit x) refl (eqb x 10) refl (eqb x 32) refl (eqb x 9) refl (eqb x 13) refl
   where
-    go : (g : Bool) → digit x ≡ g → (h : Bool) → eq x 10 ≡ h → (i : Bool) → eq x 32 ≡ i → (j : Bool) → eq x 9 ≡ j → (k : Bool) → eq x 13 ≡ k → P
+    go : (g : Bool) → digit x ≡ g → (h : Bool) → eqb x 10 ≡ h → (i : Bool) → eqb x 32 ≡ i → (j : Bool) → eqb x 9 ≡ j → (k : Bool) → eqb x 13 ≡ k → P
     go true p h q i r j u k v = c (rw p) p (digit-no-break x p)
-    go false p true q i r j u k v = a (rw (p, q)) (eq-true x 10 q)
-    go false p false q true r j u k v = b (rw (p, q, r)) (space (eq-true x 32 r)) (eq-false x 10 q)
-    go false p false q false r true u k v = b (rw (p, q, r, u)) (tab (eq-true x 9 u)) (eq-false x 10 q)
-    go false p false q false r false u true v = b (rw (p, q, r, u, v)) (carriage_return (eq-true x 13 v)) (eq-false x 10 q)
-    go false p false q false r false u false v = d (rw (p, q, r, u, v)) (eq-false x 10 q) (eq-false x 32 r)
+    go false p true q i r j u k v = a (rw (p, q)) (eqb-true x 10 q)
+    go false p false q true r j u k v = b (rw (p, q, r)) (space (eqb-true x 32 r)) (eqb-false x 10 q)
+    go false p false q false r true u k v = b (rw (p, q, r, u)) (tab (eqb-true x 9 u)) (eqb-false x 10 q)
+    go false p false q false r false u true v = b (rw (p, q, r, u, v)) (carriage_return (eqb-true x 13 v)) (eqb-false x 10 q)
+    go false p false q false r false u false v = d (rw (p, q, r, u, v)) (eqb-false x 10 q) (eqb-false x 32 r)
 
 pub shown-says : (f : Style) (b x : ℕ) → x ≡ shown_of f.prefix b → Shown f b x
 unfolding shown_of
-shown-says f b x e = go (ltb b 32) refl (ltb 126 b) refl f.prefix refl (eq b 32) refl
+shown-says f b x e = go (ltb b 32) refl (ltb 126 b) refl f.prefix refl (eqb b 32) refl
   where
-    go : (g : Bool) → ltb b 32 ≡ g → (h : Bool) → ltb 126 b ≡ h → (i : Bool) → f.prefix ≡ i → (j : Bool) → eq b 32 ≡ j → Shown f b x
+    go : (g : Bool) → ltb b 32 ≡ g → (h : Bool) → ltb 126 b ≡ h → (i : Bool) → f.prefix ≡ i → (j : Bool) → eqb b 32 ≡ j → Shown f b x
     go true p h q i r j u = control (ltb-true b 32 p) (rw p at e)
     go false p true q i r j u = beyond (ltb-true 126 b q) (rw (p, q) at e)
-    go false p false q true r true u = dotted r (eq-true b 32 u) (rw (p, q, r, u) at e)
+    go false p false q true r true u = dotted r (eqb-true b 32 u) (rw (p, q, r, u) at e)
     go false p false q true r false u =
-        printed (ltb-false b 32 p) (ltb-false 126 b q) (λ _ z. eq-false b 32 u z) (rw (p, q, r, u) at e)
+        printed (ltb-false b 32 p) (ltb-false 126 b q) (λ _ z. eqb-false b 32 u z) (rw (p, q, r, u) at e)
     go false p false q false r j u =
         printed (ltb-false b 32 p) (ltb-false 126 b q) (λ t _. let z : true ≡ false = sym t ∙ r in let y : ◌≡◌ {A = ℕ} 0 1 = cc in absurd (omega arith))
         (rw (p, q, r) at e)
@@ -137,20 +137,20 @@ module _ (f : Style) (x n b : ℕ) (s : State) {P : Type 0} where
   pub by_first : ((w : ℕ) → (w ≡ 0 → ⊥) → but w s ≡ first f x s → P) → (f.prefix ≡ true → x ≡ 48 → to mode.prefix s ≡ first f x s → P)
       → (f.prefix ≡ false → to mode.offset (reading 1 (hexes.value x) s) ≡ first f x s → P) → P
   unfolding first
-  by_first bad c d = go s.ended refl f.prefix refl (eq x 48) refl
+  by_first bad c d = go s.ended refl f.prefix refl (eqb x 48) refl
     where
-      go : (g : Bool) → s.ended ≡ g → (h : Bool) → f.prefix ≡ h → (i : Bool) → eq x 48 ≡ i → P
+      go : (g : Bool) → s.ended ≡ g → (h : Bool) → f.prefix ≡ h → (i : Bool) → eqb x 48 ≡ i → P
       go true p h q i r = bad why.offset (λ z. absurd (omega arith)) (rw p)
-      go false p true q true r = c q (eq-true x 48 r) (rw (p, q, r))
+      go false p true q true r = c q (eqb-true x 48 r) (rw (p, q, r))
       go false p true q false r = bad why.form (λ z. absurd (omega arith)) (rw (p, q, r))
       go false p false q i r = d q (rw (p, q))
 
   pub by-prefixed : (but why.form s ≡ prefixed x s → P) → (x ≡ 120 → to mode.offset (reading 0 0 s) ≡ prefixed x s → P) → P
   unfolding prefixed
-  by-prefixed bad c = go (eq x 120) refl
+  by-prefixed bad c = go (eqb x 120) refl
     where
-      go : (g : Bool) → eq x 120 ≡ g → P
-      go true p = c (eq-true x 120 p) (rw p)
+      go : (g : Bool) → eqb x 120 ≡ g → P
+      go true p = c (eqb-true x 120 p) (rw p)
       go false p = bad (rw p)
 
   pub by-further : ((w : ℕ) → (w ≡ 0 → ⊥) → but w s ≡ further f x s → P)
@@ -166,22 +166,22 @@ module _ (f : Style) (x n b : ℕ) (s : State) {P : Type 0} where
   pub by-counted : ((w : ℕ) → (w ≡ 0 → ⊥) → but w s ≡ counted f n s → P)
       → (s.digits ≡ f.digits → s.star ≡ true → n < s.value → opened s.value (filled s.value s) ≡ counted f n s → P)
       → (s.digits ≡ f.digits → s.star ≡ false → s.value ≡ n → opened n s ≡ counted f n s → P) → P
-  by-counted bad c d = go (eq s.digits f.digits) refl s.star refl (leb s.value n) refl (eq s.value n) refl
+  by-counted bad c d = go (eqb s.digits f.digits) refl s.star refl (leb s.value n) refl (eqb s.value n) refl
     where
-      go : (g : Bool) → eq s.digits f.digits ≡ g → (h : Bool) → s.star ≡ h → (i : Bool) → leb s.value n ≡ i → (j : Bool) → eq s.value n ≡ j → P
-      go false p h q i r j u = bad why.form (λ z. absurd (omega arith)) (counted-short f n s (eq-false s.digits f.digits p))
+      go : (g : Bool) → eqb s.digits f.digits ≡ g → (h : Bool) → s.star ≡ h → (i : Bool) → leb s.value n ≡ i → (j : Bool) → eqb s.value n ≡ j → P
+      go false p h q i r j u = bad why.form (λ z. absurd (omega arith)) (counted-short f n s (eqb-false s.digits f.digits p))
       go true p true q true r j u =
-          bad why.offset (λ z. absurd (omega arith)) (counted-less f n s (eq-true s.digits f.digits p) q (leb-true s.value n r))
+          bad why.offset (λ z. absurd (omega arith)) (counted-less f n s (eqb-true s.digits f.digits p) q (leb-true s.value n r))
       go true p true q false r j u =
-          let e = eq-true s.digits f.digits p in
+          let e = eqb-true s.digits f.digits p in
           let l = leb-false s.value n r in
           c e q l (counted-star f n s e q l)
       go true p false q i r true u =
-          let e = eq-true s.digits f.digits p in
-          let l = eq-true s.value n u in
+          let e = eqb-true s.digits f.digits p in
+          let l = eqb-true s.value n u in
           d e q l (counted-here f n s e q l)
       go true p false q i r false u =
-          bad why.offset (λ z. absurd (omega arith)) (counted-other f n s (eq-true s.digits f.digits p) q (eq-false s.value n u))
+          bad why.offset (λ z. absurd (omega arith)) (counted-other f n s (eqb-true s.digits f.digits p) q (eqb-false s.value n u))
 
   pub by-alone : (but why.form s ≡ alone f s → P) → (f.ends ≡ true → finished s ≡ alone f s → P) → P
   unfolding alone
@@ -193,28 +193,28 @@ module _ (f : Style) (x n b : ℕ) (s : State) {P : Type 0} where
 
   pub by-star : (but why.form s ≡ star_at x s → P)
       → (x ≡ 42 → s.ended ≡ false → s.star ≡ false → s.before < s.line → to mode.star s ≡ star_at x s → P) → P
-  by-star bad c = go (eq x 42) refl s.ended refl s.star refl (leb s.line s.before) refl
+  by-star bad c = go (eqb x 42) refl s.ended refl s.star refl (leb s.line s.before) refl
     where
-      go : (g : Bool) → eq x 42 ≡ g → (e : Bool) → s.ended ≡ e → (h : Bool) → s.star ≡ h → (i : Bool) → leb s.line s.before ≡ i → P
-      go false p e d h q i r = bad (star-other x s (eq-false x 42 p))
-      go true p true d h q i r = bad (star-late x s (eq-true x 42 p) d)
-      go true p false d true q i r = bad (star-twice x s (eq-true x 42 p) d q)
-      go true p false d false q true r = bad (star-early x s (eq-true x 42 p) d q (leb-true s.line s.before r))
+      go : (g : Bool) → eqb x 42 ≡ g → (e : Bool) → s.ended ≡ e → (h : Bool) → s.star ≡ h → (i : Bool) → leb s.line s.before ≡ i → P
+      go false p e d h q i r = bad (star-other x s (eqb-false x 42 p))
+      go true p true d h q i r = bad (star-late x s (eqb-true x 42 p) d)
+      go true p false d true q i r = bad (star-twice x s (eqb-true x 42 p) d q)
+      go true p false d false q true r = bad (star-early x s (eqb-true x 42 p) d q (leb-true s.line s.before r))
       go true p false d false q false r =
           let l = leb-false s.line s.before r in
-          c (eq-true x 42 p) d q l (star-stands x s (eq-true x 42 p) d q l)
+          c (eqb-true x 42 p) d q l (star-stands x s (eqb-true x 42 p) d q l)
 
   pub by-low : (but why.form s ≡ low f x n s → P) → (digit x ≡ true → complete (whole x s) (showing n s) ≡ low f x n s → P)
       → (digit x ≡ true → shown_of f.prefix (whole x s) ≡ 32 → s.beside ≡ n → complete (whole x s) (column (n + 1) s) ≡ low f x n s → P)
       → (digit x ≡ true → shown_of f.prefix (whole x s) ≡ 32 → complete (whole x s) s ≡ low f x n s → P) → P
   unfolding low
-  by-low bad c d e = go (digit x) refl (eq (shown_of f.prefix (whole x s)) 32) refl (eq s.beside n) refl
+  by-low bad c d e = go (digit x) refl (eqb (shown_of f.prefix (whole x s)) 32) refl (eqb s.beside n) refl
     where
-      go : (g : Bool) → digit x ≡ g → (h : Bool) → eq (shown_of f.prefix (whole x s)) 32 ≡ h → (i : Bool) → eq s.beside n ≡ i → P
+      go : (g : Bool) → digit x ≡ g → (h : Bool) → eqb (shown_of f.prefix (whole x s)) 32 ≡ h → (i : Bool) → eqb s.beside n ≡ i → P
       go false p h q i r = bad (rw p)
       go true p false q i r = c p (rw (p, q))
-      go true p true q true r = d p (eq-true (shown_of f.prefix (whole x s)) 32 q) (eq-true s.beside n r) (rw (p, q, r))
-      go true p true q false r = e p (eq-true (shown_of f.prefix (whole x s)) 32 q) (rw (p, q, r))
+      go true p true q true r = d p (eqb-true (shown_of f.prefix (whole x s)) 32 q) (eqb-true s.beside n r) (rw (p, q, r))
+      go true p true q false r = e p (eqb-true (shown_of f.prefix (whole x s)) 32 q) (rw (p, q, r))
 
   pub by-octet : (but why.form s ≡ octet_by class.Digit f x n s → P)
       → (f.pairs ≡ true → s.second ≡ false → high true x s ≡ octet_by class.Digit f x n s → P) → P
@@ -228,38 +228,38 @@ module _ (f : Style) (x n b : ℕ) (s : State) {P : Type 0} where
   pub by-past : (but why.column s ≡ past f x s → P) → (f.closing ≡ 0 → x ≡ 32 → s ≡ past f x s → P)
       → ((f.closing ≡ 0 → ⊥) → x ≡ f.closing → to mode.closed s ≡ past f x s → P) → P
   unfolding past
-  by-past bad c d = go (eq f.closing 0) refl (eq x 32) refl (eq x f.closing) refl
+  by-past bad c d = go (eqb f.closing 0) refl (eqb x 32) refl (eqb x f.closing) refl
     where
-      go : (g : Bool) → eq f.closing 0 ≡ g → (h : Bool) → eq x 32 ≡ h → (i : Bool) → eq x f.closing ≡ i → P
-      go true p true q i r = c (eq-true f.closing 0 p) (eq-true x 32 q) (rw (p, q))
+      go : (g : Bool) → eqb f.closing 0 ≡ g → (h : Bool) → eqb x 32 ≡ h → (i : Bool) → eqb x f.closing ≡ i → P
+      go true p true q i r = c (eqb-true f.closing 0 p) (eqb-true x 32 q) (rw (p, q))
       go true p false q i r = bad (rw (p, q))
-      go false p h q true r = d (eq-false f.closing 0 p) (eq-true x f.closing r) (rw (p, r))
+      go false p h q true r = d (eqb-false f.closing 0 p) (eqb-true x f.closing r) (rw (p, r))
       go false p h q false r = bad (rw (p, r))
 
   pub by-beside : (n ≤ s.beside → past f x s ≡ beside f x n b s → P) → (but why.column s ≡ beside f x n b s → P)
       → (s.beside < n → x ≡ shown_of f.prefix b → to mode.text (column (s.beside + 1) s) ≡ beside f x n b s → P) → P
   unfolding beside
-  by-beside over bad c = go (leb n s.beside) refl (eq x (shown_of f.prefix b)) refl
+  by-beside over bad c = go (leb n s.beside) refl (eqb x (shown_of f.prefix b)) refl
     where
-      go : (g : Bool) → leb n s.beside ≡ g → (h : Bool) → eq x (shown_of f.prefix b) ≡ h → P
+      go : (g : Bool) → leb n s.beside ≡ g → (h : Bool) → eqb x (shown_of f.prefix b) ≡ h → P
       go true p h q = over (leb-true n s.beside p) (rw p)
-      go false p true q = c (leb-false n s.beside p) (eq-true x (shown_of f.prefix b) q) (rw (p, q))
+      go false p true q = c (leb-false n s.beside p) (eqb-true x (shown_of f.prefix b) q) (rw (p, q))
       go false p false q = bad (rw (p, q))
 
   pub by-fenced : (but why.form s ≡ fenced f x s → P) → (x ≡ f.opening → to mode.text (column s.line s) ≡ fenced f x s → P) → P
   unfolding fenced
-  by-fenced bad c = go (eq x f.opening) refl
+  by-fenced bad c = go (eqb x f.opening) refl
     where
-      go : (g : Bool) → eq x f.opening ≡ g → P
-      go true p = c (eq-true x f.opening p) (rw p)
+      go : (g : Bool) → eqb x f.opening ≡ g → P
+      go true p = c (eqb-true x f.opening p) (rw p)
       go false p = bad (rw p)
 
   pub by-broken : (but why.column s ≡ broken f n s → P) → (f.closing ≡ 0 → s.solid ≤ s.beside → columned n s ≡ broken f n s → P) → P
   unfolding broken
-  by-broken bad c = go (eq f.closing 0) refl (ltb s.beside s.solid) refl
+  by-broken bad c = go (eqb f.closing 0) refl (ltb s.beside s.solid) refl
     where
-      go : (g : Bool) → eq f.closing 0 ≡ g → (h : Bool) → ltb s.beside s.solid ≡ h → P
-      go true p false q = c (eq-true f.closing 0 p) (ltb-false s.beside s.solid q) (rw (p, q))
+      go : (g : Bool) → eqb f.closing 0 ≡ g → (h : Bool) → ltb s.beside s.solid ≡ h → P
+      go true p false q = c (eqb-true f.closing 0 p) (ltb-false s.beside s.solid q) (rw (p, q))
       go true p true q = bad (rw (p, q))
       go false p h q = bad (rw p)
 
@@ -276,12 +276,12 @@ module _ (f : Style) (x n b : ℕ) (s : State) {P : Type 0} where
   pub by-text : (x ≡ 13 → s ≡ text f x n b s → P) → (x ≡ 10 → broken f n s ≡ text f x n b s → P)
       → ((x ≡ 10 → ⊥) → beside f x n b s ≡ text f x n b s → P) → P
   unfolding text
-  by-text c d e = go (eq x 13) refl (eq x 10) refl
+  by-text c d e = go (eqb x 13) refl (eqb x 10) refl
     where
-      go : (g : Bool) → eq x 13 ≡ g → (h : Bool) → eq x 10 ≡ h → P
-      go true p h q = c (eq-true x 13 p) (rw p)
-      go false p true q = d (eq-true x 10 q) (rw (p, q))
-      go false p false q = e (eq-false x 10 q) (rw (p, q))
+      go : (g : Bool) → eqb x 13 ≡ g → (h : Bool) → eqb x 10 ≡ h → P
+      go true p h q = c (eqb-true x 13 p) (rw p)
+      go false p true q = d (eqb-true x 10 q) (rw (p, q))
+      go false p false q = e (eqb-false x 10 q) (rw (p, q))
 
   pub by-blank : (but why.form s ≡ offset_by class.Blank f x n s → P) → (f.colon ≡ false → counted f n s ≡ offset_by class.Blank f x n s → P) → P
   by-blank bad c = go f.colon refl
@@ -292,26 +292,26 @@ module _ (f : Style) (x n b : ℕ) (s : State) {P : Type 0} where
 
   pub by-colon : (but why.form s ≡ offset_by class.Other f x n s → P)
       → (f.colon ≡ true → x ≡ 58 → to mode.gap (counted f n s) ≡ offset_by class.Other f x n s → P) → P
-  by-colon bad c = go f.colon refl (eq x 58) refl
+  by-colon bad c = go f.colon refl (eqb x 58) refl
     where
-      go : (g : Bool) → f.colon ≡ g → (h : Bool) → eq x 58 ≡ h → P
+      go : (g : Bool) → f.colon ≡ g → (h : Bool) → eqb x 58 ≡ h → P
       go false p h q = bad (rw p)
-      go true p true q = c p (eq-true x 58 q) (rw (p, q))
+      go true p true q = c p (eqb-true x 58 q) (rw (p, q))
       go true p false q = bad (rw (p, q))
 
   -- the text column begins after two blanks where nothing stands before it
   pub by-opening : (f.opening ≡ 0 → beside f x n b s ≡ more_by class.Digit f x n b s → P)
       → ((f.opening ≡ 0 → ⊥) → high false x s ≡ more_by class.Digit f x n b s → P) → P
-  by-opening c d = go (eq f.opening 0) refl
+  by-opening c d = go (eqb f.opening 0) refl
     where
-      go : (g : Bool) → eq f.opening 0 ≡ g → P
-      go true p = c (eq-true f.opening 0 p) (rw p)
-      go false p = d (eq-false f.opening 0 p) (rw p)
+      go : (g : Bool) → eqb f.opening 0 ≡ g → P
+      go true p = c (eqb-true f.opening 0 p) (rw p)
+      go false p = d (eqb-false f.opening 0 p) (rw p)
 
   pub by-fence : (f.opening ≡ 0 → beside f x n b s ≡ more_by class.Other f x n b s → P)
       → ((f.opening ≡ 0 → ⊥) → fenced f x s ≡ more_by class.Other f x n b s → P) → P
-  by-fence c d = go (eq f.opening 0) refl
+  by-fence c d = go (eqb f.opening 0) refl
     where
-      go : (g : Bool) → eq f.opening 0 ≡ g → P
-      go true p = c (eq-true f.opening 0 p) (rw p)
-      go false p = d (eq-false f.opening 0 p) (rw p)
+      go : (g : Bool) → eqb f.opening 0 ≡ g → P
+      go true p = c (eqb-true f.opening 0 p) (rw p)
+      go false p = d (eqb-false f.opening 0 p) (rw p)

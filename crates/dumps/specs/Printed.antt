@@ -1,5 +1,5 @@
 -- What two tools write for octets, 16 in a line: `xxd`, and `hexdump -C -v`. Assumes nothing: these are definitions.
-use Rattle.std.specs.Prelude.{true, false, cond, List, [], ◌∷◌, ◌++◌, map, ℕ, zero, suc, ◌+◌, ◌-◌, ◌/◌, ◌%◌, eq, length, take, drop, replicate}
+use Rattle.std.specs.Prelude.{true, false, cond, List, [], ◌∷◌, ◌++◌, map, ℕ, zero, suc, ◌+◌, ◌-◌, ◌/◌, ◌%◌, eqb, length, take, drop, replicate}
 use Rattle.hexes.specs.Hexes.{digit_of, two}
 use Rattle.dumps.specs.declared.Style.{Style}
 use Rattle.dumps.specs.States.{shown_of}
@@ -20,7 +20,7 @@ xxd = record {
   style = record { digits = 8; prefix = false; colon = true; pairs = true; opening = 0; closing = 0; column = false; ends = false };
   mark = 58 ∷ [];
   then = 32 ∷ [];
-  gap = λ i. cond (eq (i % 2) 1) [] (32 ∷ []);
+  gap = λ i. cond (eqb (i % 2) 1) [] (32 ∷ []);
   wide = 39;
   fence = [];
 }
@@ -31,7 +31,7 @@ hexdump = record {
   style = record { digits = 8; prefix = false; colon = false; pairs = false; opening = 124; closing = 124; column = true; ends = true };
   mark = [];
   then = 32 ∷ 32 ∷ [];
-  gap = λ i. cond (eq i 8) (32 ∷ 32 ∷ []) (32 ∷ []);
+  gap = λ i. cond (eqb i 8) (32 ∷ 32 ∷ []) (32 ∷ []);
   wide = 48;
   fence = 124 ∷ [];
 }

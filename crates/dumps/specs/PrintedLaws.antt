@@ -1,6 +1,6 @@
 -- What the two tools write for octets is a dump of them, and is read as them. Assumes nothing.
-use Rattle.std.specs.Prelude.{◌≡◌, refl, Bool, cond, leb, eq, replicate}
-use Rattle.std.proofs.Common.{sym, ◌∙◌, pow-suc, arith, eq-true, leb-true, leb-false, le-ltb, lt-ltb, ne_eqb, take-append-drop}
+use Rattle.std.specs.Prelude.{◌≡◌, refl, Bool, cond, leb, eqb, replicate}
+use Rattle.std.proofs.Common.{sym, ◌∙◌, pow-suc, arith, eqb-true, leb-true, leb-false, le-ltb, lt-ltb, ne_eqb, take-append-drop}
 use Rattle.std.proofs.Math.Path.{ap, subst}
 use Rattle.std.proofs.Math.Bool.{true, false}
 use mathlib.Core.List.{List, [], ◌∷◌, ◌++◌, map, append-nil, append_assoc}
@@ -153,7 +153,7 @@ one-space : (f : Style) → Gap f (32 ∷ [])
 one-space f = record { blank = (shows.space refl, tt); some = omega arith; one = λ _. refl }
 
 xxd-flag : ℕ → Bool
-xxd-flag i = eq (i % 2) 1
+xxd-flag i = eqb (i % 2) 1
 
 xxd-proper : Proper xxd xxd-flag
 unfolding xxd-flag
@@ -168,15 +168,15 @@ xxd-proper = record {
   shown = λ cs. shows.free [] refl tt (shown-each xxd.style cs [] (shows.ends refl tt));
 }
   where
-    joins : (i : ℕ) {t cs : List ℕ} {x y b : ℕ} → shows.Octets xxd.style (eq (i % 2) 1) t cs → Pair x y b
-        → shows.Octets xxd.style (eq ((i + 1) % 2) 1) (t ++ (cond (eq ((i + 1) % 2) 1) [] (32 ∷ []) ++ (x ∷ y ∷ []))) (cs ++ (b ∷ []))
-    joins i {t} {cs} {x} {y} {b} o q = go (eq ((i + 1) % 2) 1) refl
+    joins : (i : ℕ) {t cs : List ℕ} {x y b : ℕ} → shows.Octets xxd.style (eqb (i % 2) 1) t cs → Pair x y b
+        → shows.Octets xxd.style (eqb ((i + 1) % 2) 1) (t ++ (cond (eqb ((i + 1) % 2) 1) [] (32 ∷ []) ++ (x ∷ y ∷ []))) (cs ++ (b ∷ []))
+    joins i {t} {cs} {x} {y} {b} o q = go (eqb ((i + 1) % 2) 1) refl
       where
-        go : (g : Bool) → eq ((i + 1) % 2) 1 ≡ g
-            → shows.Octets xxd.style (eq ((i + 1) % 2) 1) (t ++ (cond (eq ((i + 1) % 2) 1) [] (32 ∷ []) ++ (x ∷ y ∷ []))) (cs ++ (b ∷ []))
+        go : (g : Bool) → eqb ((i + 1) % 2) 1 ≡ g
+            → shows.Octets xxd.style (eqb ((i + 1) % 2) 1) (t ++ (cond (eqb ((i + 1) % 2) 1) [] (32 ∷ []) ++ (x ∷ y ∷ []))) (cs ++ (b ∷ []))
         go true e =
-            let k = eq-true ((i + 1) % 2) 1 e in
-            let z : eq (i % 2) 1 ≡ false = ne_eqb (i % 2) 1 (λ w. absurd (omega arith)) in
+            let k = eqb-true ((i + 1) % 2) 1 e in
+            let z : eqb (i % 2) 1 ≡ false = ne_eqb (i % 2) 1 (λ w. absurd (omega arith)) in
             rw e (shows.second refl (subst (λ (g : Bool). shows.Octets xxd.style g t cs) z o) q)
         go false e = rw e (shows.next o (one-space xxd.style) q)
 
@@ -220,11 +220,11 @@ hexdump-proper = record {
 }
   where
     joins : (i : ℕ) {t cs : List ℕ} {x y b : ℕ} → shows.Octets hexdump.style false t cs → Pair x y b
-        → shows.Octets hexdump.style false (t ++ (cond (eq (i + 1) 8) (32 ∷ 32 ∷ []) (32 ∷ []) ++ (x ∷ y ∷ []))) (cs ++ (b ∷ []))
-    joins i {t} {cs} {x} {y} {b} o q = go (eq (i + 1) 8) refl
+        → shows.Octets hexdump.style false (t ++ (cond (eqb (i + 1) 8) (32 ∷ 32 ∷ []) (32 ∷ []) ++ (x ∷ y ∷ []))) (cs ++ (b ∷ []))
+    joins i {t} {cs} {x} {y} {b} o q = go (eqb (i + 1) 8) refl
       where
-        go : (g : Bool) → eq (i + 1) 8 ≡ g
-            → shows.Octets hexdump.style false (t ++ (cond (eq (i + 1) 8) (32 ∷ 32 ∷ []) (32 ∷ []) ++ (x ∷ y ∷ []))) (cs ++ (b ∷ []))
+        go : (g : Bool) → eqb (i + 1) 8 ≡ g
+            → shows.Octets hexdump.style false (t ++ (cond (eqb (i + 1) 8) (32 ∷ 32 ∷ []) (32 ∷ []) ++ (x ∷ y ∷ []))) (cs ++ (b ∷ []))
         go true e =
             let g : Gap hexdump.style (32 ∷ 32 ∷ []) = record {
               blank = (shows.space refl, (shows.space refl, tt));

@@ -1,7 +1,7 @@
 -- How a text is read as octets, for one character of it: from what follows it back to it. Assumes nothing.
 use Rattle.std.specs.Prelude.{◌≡◌, refl, Bool, true, false, List, ◌∷◌, ℕ, ◌+◌, ◌-◌, ◌*◌, ◌%◌, ◌≤◌, ◌<◌, length, get_or, set}
 use Rattle.std.proofs.Common.{sym, ap, subst, ◌∙◌, arith}
-use borrow.Author.Tests.{le-leb, lt-leb, lt-ltb, le-ltb, eq-eq, ne_eqb}
+use borrow.Author.Tests.{le-leb, lt-leb, lt-ltb, le-ltb, eq-eqb, ne_eqb}
 use Rattle.hexes.specs.Hexes.{digit}
 use Rattle.hexes.specs.Hexes as hexes
 use Rattle.hexes.specs.HexesLaws.{value-decimal, value-upper, value-lower, digit-decimal, digit-upper, digit-lower}
@@ -88,7 +88,7 @@ shown-is {f} {b} {x} (beyond h e) = let k : 32 ≤ b = omega arith in rw (le-ltb
 shown-is {f} {b} {x} (dotted p z e) =
     let h : 32 ≤ b = omega arith in
     let k : b ≤ 126 = omega arith in
-    rw (le-ltb b 32 h, le-ltb 126 b k, p, eq-eq b 32 z) e
+    rw (le-ltb b 32 h, le-ltb 126 b k, p, eq-eqb b 32 z) e
 
 pub shown-range : {f : Style} {b x : ℕ} → Shown f b x → (32 ≤ x) × (x ≤ 126)
 shown-range {f} {b} {x} (printed h k d e) = (omega arith, omega arith)
@@ -105,11 +105,11 @@ module _ (f : Style) (x n b : ℕ) (s : State) where
 
   pub first-zero : s.ended ≡ false → f.prefix ≡ true → x ≡ 48 → states.to mode.prefix s ≡ states.first f x s
   unfolding states.first
-  first-zero e p z = rw (e, p, eq-eq x 48 z)
+  first-zero e p z = rw (e, p, eq-eqb x 48 z)
 
   pub prefixed-x : x ≡ 120 → states.to mode.offset (states.reading 0 0 s) ≡ states.prefixed x s
   unfolding states.prefixed
-  prefixed-x z = rw (eq-eq x 120 z)
+  prefixed-x z = rw (eq-eqb x 120 z)
 
   pub further-on : s.digits < f.digits → s.value ≤ 65535
       → states.reading (s.digits + 1) (16 * s.value + hexes.value x) s ≡ states.further f x s
@@ -124,20 +124,20 @@ module _ (f : Style) (x n b : ℕ) (s : State) where
   pub low-front : digit x ≡ true → shown_of f.prefix (s.octet % 16 * 16 + hexes.value x) ≡ 32 → s.beside ≡ n
       → states.complete (s.octet % 16 * 16 + hexes.value x) (states.column (n + 1) s) ≡ states.low f x n s
   unfolding states.low
-  low-front d h e = rw (d, eq-eq (shown_of f.prefix (s.octet % 16 * 16 + hexes.value x)) 32 h, eq-eq s.beside n e)
+  low-front d h e = rw (d, eq-eqb (shown_of f.prefix (s.octet % 16 * 16 + hexes.value x)) 32 h, eq-eqb s.beside n e)
 
   pub low-faint : digit x ≡ true → shown_of f.prefix (s.octet % 16 * 16 + hexes.value x) ≡ 32 → (s.beside ≡ n → ⊥)
       → states.complete (s.octet % 16 * 16 + hexes.value x) s ≡ states.low f x n s
   unfolding states.low
-  low-faint d h e = rw (d, eq-eq (shown_of f.prefix (s.octet % 16 * 16 + hexes.value x)) 32 h, ne_eqb s.beside n e)
+  low-faint d h e = rw (d, eq-eqb (shown_of f.prefix (s.octet % 16 * 16 + hexes.value x)) 32 h, ne_eqb s.beside n e)
 
   pub past-blank : f.closing ≡ 0 → x ≡ 32 → s ≡ states.past f x s
   unfolding states.past
-  past-blank c z = rw (eq-eq f.closing 0 c, eq-eq x 32 z)
+  past-blank c z = rw (eq-eqb f.closing 0 c, eq-eqb x 32 z)
 
   pub past-closes : (f.closing ≡ 0 → ⊥) → x ≡ f.closing → states.to mode.closed s ≡ states.past f x s
   unfolding states.past
-  past-closes c z = rw (ne_eqb f.closing 0 c, eq-eq x f.closing z)
+  past-closes c z = rw (ne_eqb f.closing 0 c, eq-eqb x f.closing z)
 
   pub beside-over : n ≤ s.beside → states.past f x s ≡ states.beside f x n b s
   unfolding states.beside
@@ -145,36 +145,36 @@ module _ (f : Style) (x n b : ℕ) (s : State) where
 
   pub beside-shows : s.beside < n → x ≡ shown_of f.prefix b → states.to mode.text (states.column (s.beside + 1) s) ≡ states.beside f x n b s
   unfolding states.beside
-  beside-shows h z = rw (lt-leb n s.beside h, eq-eq x (shown_of f.prefix b) z)
+  beside-shows h z = rw (lt-leb n s.beside h, eq-eqb x (shown_of f.prefix b) z)
 
   pub fenced-on : x ≡ f.opening → states.to mode.text (states.column s.line s) ≡ states.fenced f x s
   unfolding states.fenced
-  fenced-on z = rw (eq-eq x f.opening z)
+  fenced-on z = rw (eq-eqb x f.opening z)
 
   pub broken-on : f.closing ≡ 0 → s.solid ≤ s.beside → states.columned n s ≡ states.broken f n s
   unfolding states.broken
-  broken-on c h = rw (eq-eq f.closing 0 c, le-ltb s.beside s.solid h)
+  broken-on c h = rw (eq-eqb f.closing 0 c, le-ltb s.beside s.solid h)
 
   pub text-returned : x ≡ 13 → s ≡ states.text f x n b s
   unfolding states.text
-  text-returned z = rw (eq-eq x 13 z)
+  text-returned z = rw (eq-eqb x 13 z)
 
   pub text-broken : x ≡ 10 → states.broken f n s ≡ states.text f x n b s
   unfolding states.text
-  text-broken z = let k : x ≡ 13 → ⊥ = λ q. absurd (omega arith) in rw (ne_eqb x 13 k, eq-eq x 10 z)
+  text-broken z = let k : x ≡ 13 → ⊥ = λ q. absurd (omega arith) in rw (ne_eqb x 13 k, eq-eqb x 10 z)
 
   pub text-beside : (x ≡ 13 → ⊥) → (x ≡ 10 → ⊥) → states.beside f x n b s ≡ states.text f x n b s
   unfolding states.text
   text-beside y z = rw (ne_eqb x 13 y, ne_eqb x 10 z)
 
   pub more-digit : f.opening ≡ 0 → states.beside f x n b s ≡ states.more_by class.Digit f x n b s
-  more-digit o = rw (eq-eq f.opening 0 o)
+  more-digit o = rw (eq-eqb f.opening 0 o)
 
   pub more-next : (f.opening ≡ 0 → ⊥) → states.high false x s ≡ states.more_by class.Digit f x n b s
   more-next o = rw (ne_eqb f.opening 0 o)
 
   pub more-other : f.opening ≡ 0 → states.beside f x n b s ≡ states.more_by class.Other f x n b s
-  more-other o = rw (eq-eq f.opening 0 o)
+  more-other o = rw (eq-eqb f.opening 0 o)
 
   pub more-fenced : (f.opening ≡ 0 → ⊥) → states.fenced f x s ≡ states.more_by class.Other f x n b s
   more-fenced o = rw (ne_eqb f.opening 0 o)

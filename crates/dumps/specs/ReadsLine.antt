@@ -1,7 +1,7 @@
 -- A line that shows octets is read as them: the octets, then what follows them. Assumes nothing.
-use Rattle.std.specs.Prelude.{◌≡◌, refl, Bool, true, false, List, [], ◌∷◌, ◌++◌, ℕ, ◌+◌, ◌-◌, ◌*◌, ◌%◌, ◌≤◌, ◌<◌, eq, length, get_or, set, take, drop}
-use Rattle.std.proofs.Common.{sym, ap, subst, ◌∙◌, append_assoc, add-one, arith, eq-true, length-append, length-set, length-take-le, take-suc-set, get_or-append-add, get_or-take}
-use Rattle.std.proofs.lemmas.Bool.{eq-false}
+use Rattle.std.specs.Prelude.{◌≡◌, refl, Bool, true, false, List, [], ◌∷◌, ◌++◌, ℕ, ◌+◌, ◌-◌, ◌*◌, ◌%◌, ◌≤◌, ◌<◌, eqb, length, get_or, set, take, drop}
+use Rattle.std.proofs.Common.{sym, ap, subst, ◌∙◌, append_assoc, add-one, arith, eqb-true, length-append, length-set, length-take-le, take-suc-set, get_or-append-add, get_or-take}
+use Rattle.std.proofs.lemmas.Bool.{eqb-false}
 use Rattle.std.proofs.Math.ListN.{get_or-append}
 use Rattle.std.proofs.Math.Seq.{drop-append_seam, take-length, get_or-append_seam}
 use Rattle.std.proofs.lemmas.List.{take-append-le}
@@ -115,21 +115,21 @@ module _ {f : Style} {e z : ℕ} {now cs : List ℕ} (a : Sides f e z now cs) (o
     beside_is = a.beside_is;
     few = omega (arith, longer, a.few);
     faint = faint-still;
-    plain = λ k s. at_first (eq a.first (length cs)) refl k s;
+    plain = λ k s. at_first (eqb a.first (length cs)) refl k s;
     last = length cs + 1;
     solid_is = omega (arith, c);
     fewer = omega (arith, longer);
     clear = λ k s. h (subst (λ (b : ℕ). Shown f b 32) (ap (λ (i : ℕ). get_or (cs ++ (o ∷ [])) i 0) (omega arith) ∙ get_or-append_seam cs o [] 0) s);
   }
     where
-      at_first : (g : Bool) → eq a.first (length cs) ≡ g → a.first < length (cs ++ (o ∷ []))
+      at_first : (g : Bool) → eqb a.first (length cs) ≡ g → a.first < length (cs ++ (o ∷ []))
           → Shown f (get_or (cs ++ (o ∷ [])) a.first 0) 32 → ⊥
       at_first true p k s =
           h
           (subst (λ (b : ℕ). Shown f b 32)
-          (ap (λ (i : ℕ). get_or (cs ++ (o ∷ [])) i 0) (eq-true a.first (length cs) p) ∙ get_or-append_seam cs o [] 0) s)
+          (ap (λ (i : ℕ). get_or (cs ++ (o ∷ [])) i 0) (eqb-true a.first (length cs) p) ∙ get_or-append_seam cs o [] 0) s)
       at_first false p k s =
-          let q = eq-false a.first (length cs) p in
+          let q = eqb-false a.first (length cs) p in
           plain_still (omega (arith, a.few)) s
 
   pub sides-front : e ≡ n → Shown f o 32 → Sides f (n + 1) z now (cs ++ (o ∷ []))
@@ -175,7 +175,7 @@ module _ (f : Style) (m : ℕ) (bs now : List ℕ) (stood : Bool) where
   -- the second digit of an octet
   high-reads : (s : State) (n : ℕ) (out cs rest : List ℕ) (b y : ℕ) → s.mode ≡ mode.high → RowOf stood s n out now cs → Sides f s.beside s.solid now cs
       → digit y ≡ true → whole y s ≡ b → n < length out → Then s.second (cs ++ (b ∷ [])) rest (length out) → Good f s n out (y ∷ rest) m bs
-  high-reads s n out cs rest b y v a c d e h k = go (eq (shown_of f.prefix b) 32) refl (eq s.beside n) refl
+  high-reads s n out cs rest b y v a c d e h k = go (eqb (shown_of f.prefix b) 32) refl (eqb s.beside n) refl
     where
       at : states.low f y n s ≡ moved f y n (get_or out s.beside 0) s
       at = moves.at_high f y n (get_or out s.beside 0) s v
@@ -190,21 +190,21 @@ module _ (f : Style) (m : ℕ) (bs now : List ℕ) (stood : Bool) where
           back-octet f s y n out rest m bs t q g u w h
           (subst (λ (o : ℕ). Good f t (n + 1) (set out n o) rest m bs) (sym (o ∙ e)) (k t (n + 1) (set out n b) w z row sides (length-set out n b)))
 
-      go : (g : Bool) → eq (shown_of f.prefix b) 32 ≡ g → (i : Bool) → eq s.beside n ≡ i → Good f s n out (y ∷ rest) m bs
+      go : (g : Bool) → eqb (shown_of f.prefix b) 32 ≡ g → (i : Bool) → eqb s.beside n ≡ i → Good f s n out (y ∷ rest) m bs
       go false p i q =
-          let z = eq-false (shown_of f.prefix b) 32 p in
+          let z = eqb-false (shown_of f.prefix b) 32 p in
           completes (states.complete (whole y s) (states.showing n s))
           (reads.low-solid f y n 0 s d (λ w. z (ap (shown_of f.prefix) (sym e) ∙ w)) ∙ at) a.good a.filled refl refl refl (row_more a b h)
           (sides-solid c b n count (λ w. z (sym (shown-is w))))
       go true p true q =
-          let z = eq-true (shown_of f.prefix b) 32 p in
-          let w = eq-true s.beside n q in
+          let z = eqb-true (shown_of f.prefix b) 32 p in
+          let w = eqb-true s.beside n q in
           completes (states.complete (whole y s) (states.column (n + 1) s))
           (reads.low-front f y n 0 s d (ap (shown_of f.prefix) e ∙ z) w ∙ at) a.good a.filled refl refl refl (row_more a b h)
           (sides-front c b n count w (shown-says f b 32 (sym z)))
       go true p false q =
-          let z = eq-true (shown_of f.prefix b) 32 p in
-          let w = eq-false s.beside n q in
+          let z = eqb-true (shown_of f.prefix b) 32 p in
+          let w = eqb-false s.beside n q in
           completes (states.complete (whole y s) s)
           (reads.low-faint f y n 0 s d (ap (shown_of f.prefix) e ∙ z) w ∙ at) a.good a.filled refl refl refl (row_more a b h)
           (sides-faint c b n count w)

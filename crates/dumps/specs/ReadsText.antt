@@ -1,7 +1,7 @@
 -- What follows the octets of a line is read past: blanks, or a text column that shows them. Assumes nothing.
-use Rattle.std.specs.Prelude.{◌≡◌, refl, Bool, true, false, List, [], ◌∷◌, ◌++◌, ℕ, suc, ◌+◌, ◌-◌, ◌≤◌, ◌<◌, ltb, leb, eq, length, get_or, take, drop}
-use Rattle.std.proofs.Common.{sym, ap, subst, ◌∙◌, append-nil, append_assoc, add-zero, add-one, arith, eq-true, leb-true, leb-false, ltb-true, ltb-false, length-append, length-drop, length-take-le, get_or-take, drop-cons, get_or-drop}
-use Rattle.std.proofs.lemmas.Bool.{eq-false}
+use Rattle.std.specs.Prelude.{◌≡◌, refl, Bool, true, false, List, [], ◌∷◌, ◌++◌, ℕ, suc, ◌+◌, ◌-◌, ◌≤◌, ◌<◌, ltb, leb, eqb, length, get_or, take, drop}
+use Rattle.std.proofs.Common.{sym, ap, subst, ◌∙◌, append-nil, append_assoc, add-zero, add-one, arith, eqb-true, leb-true, leb-false, ltb-true, ltb-false, length-append, length-drop, length-take-le, get_or-take, drop-cons, get_or-drop}
+use Rattle.std.proofs.lemmas.Bool.{eqb-false}
 use Rattle.std.proofs.Math.ListN.{get_or-append}
 use Rattle.std.proofs.Math.Seq.{append_snoc, drop-append_seam, get_or-append_seam}
 use Rattle.octets.specs.ListsLaws.{all_append, all-at}
@@ -275,13 +275,13 @@ module _ (f : Style) (told : Told f) (m : ℕ) (bs now cs rest : List ℕ) (n : 
 
       lead-read : {b t : List ℕ} → Text f b t → (ds : List ℕ) → Faint f ds → cs ≡ ds ++ b → Good f s n out (t ++ (10 ∷ rest)) m bs
       lead-read (shows.shows {b = o} {x} {bs = b} {t} h e) ds q d =
-          go (eq x 32) refl
+          go (eqb x 32) refl
           (λ z.
           lead-read e (ds ++ (o ∷ [])) (all_append (λ b. Shown f b 32) ds (o ∷ []) q (subst (Shown f o) z h, tt)) (d ∙ sym (append_snoc ds o b)))
         where
-          go : (g : Bool) → eq x 32 ≡ g → (x ≡ 32 → Good f s n out (t ++ (10 ∷ rest)) m bs) → Good f s n out (x ∷ (t ++ (10 ∷ rest))) m bs
-          go true p r = let z = eq-true x 32 p in passes x t (shows.space z) (r z)
-          go false p r = begins ds b t o x q d h (eq-false x 32 p) e
+          go : (g : Bool) → eqb x 32 ≡ g → (x ≡ 32 → Good f s n out (t ++ (10 ∷ rest)) m bs) → Good f s n out (x ∷ (t ++ (10 ∷ rest))) m bs
+          go true p r = let z = eqb-true x 32 p in passes x t (shows.space z) (r z)
+          go false p r = begins ds b t o x q d h (eqb-false x 32 p) e
       lead-read (shows.returned {bs = b} {t} e) ds q d = passes 13 t (shows.carriage_return refl) (lead-read e ds q d)
       lead-read (shows.ends {bs = b} o h) ds q d =
           let w : Faint f cs = subst (Faint f) (sym d) (all_append (λ b. Shown f b 32) ds b q h) in

@@ -1,6 +1,6 @@
 -- Where a dump stands, and how a character moves it (docs/COMMAND.md, "Dumps"), in the code's order of tests. x is the character, n the number of octets
 -- before it, b the octet that the text column shows next. Assumes nothing: these are definitions.
-use Rattle.std.specs.Prelude.{Bool, true, false, cond, ℕ, ◌+◌, ◌*◌, ◌%◌, ltb, leb, eq}
+use Rattle.std.specs.Prelude.{Bool, true, false, cond, ℕ, ◌+◌, ◌*◌, ◌%◌, ltb, leb, eqb}
 use Rattle.hexes.specs.Hexes.{digit}
 use Rattle.hexes.specs.Hexes as hexes
 use Rattle.inputs.specs.Why as why
@@ -14,11 +14,11 @@ use Rattle.dumps.specs.Mode as mode
 
 unfoldable pub class_of : ℕ → Class
 class_of x =
-    cond (digit x) Digit (cond (eq x 10) Break (cond (eq x 32) Blank (cond (eq x 9) Blank (cond (eq x 13) Blank Other))))
+    cond (digit x) Digit (cond (eqb x 10) Break (cond (eqb x 32) Blank (cond (eqb x 9) Blank (cond (eqb x 13) Blank Other))))
 
 -- the character that a text column has for an octet: itself where it is printed, else a dot, as a blank is where `dot`
 unfoldable pub shown_of : Bool → ℕ → ℕ
-shown_of dot b = cond (ltb b 32) 46 (cond (ltb 126 b) 46 (cond dot (cond (eq b 32) 46 b) b))
+shown_of dot b = cond (ltb b 32) 46 (cond (ltb 126 b) 46 (cond dot (cond (eqb b 32) 46 b) b))
 
 -- ---- the state
 
@@ -62,11 +62,11 @@ reading d v s =
 unfoldable pub first : Style → ℕ → State → State
 first f x s =
     cond s.ended (but why.offset s)
-    (cond f.prefix (cond (eq x 48) (to mode.prefix s) (but why.form s))
+    (cond f.prefix (cond (eqb x 48) (to mode.prefix s) (but why.form s))
     (to mode.offset (reading 1 (hexes.value x) s)))
 
 unfoldable pub prefixed : ℕ → State → State
-prefixed x s = cond (eq x 120) (to mode.offset (reading 0 0 s)) (but why.form s)
+prefixed x s = cond (eqb x 120) (to mode.offset (reading 0 0 s)) (but why.form s)
 
 -- a further digit; no input has 65,536 octets
 unfoldable pub further : Style → ℕ → State → State
@@ -88,10 +88,10 @@ filled n s =
 -- the offset is whole: it is the number of octets before its line, or after a star a greater one
 unfoldable pub counted : Style → ℕ → State → State
 counted f n s =
-    cond (eq s.digits f.digits)
+    cond (eqb s.digits f.digits)
     (cond s.star
     (cond (leb s.value n) (but why.offset s) (opened s.value (filled s.value s)))
-    (cond (eq s.value n) (opened n s) (but why.offset s)))
+    (cond (eqb s.value n) (opened n s) (but why.offset s)))
     (but why.form s)
 
 -- the dump ends
@@ -108,7 +108,7 @@ abbrev pub offset_by : Class → Style → ℕ → ℕ → State → State
 offset_by Digit f x n s = further f x s
 offset_by Break f x n s = alone f (counted f n s)
 offset_by Blank f x n s = cond f.colon (but why.form s) (counted f n s)
-offset_by Other f x n s = cond f.colon (cond (eq x 58) (to mode.gap (counted f n s)) (but why.form s)) (but why.form s)
+offset_by Other f x n s = cond f.colon (cond (eqb x 58) (to mode.gap (counted f n s)) (but why.form s)) (but why.form s)
 
 abbrev pub offset : Style → ℕ → ℕ → State → State
 offset f x n s = offset_by (class_of x) f x n s
@@ -126,7 +126,7 @@ gap f x s = gap_by (class_of x) f s
 -- a star, after a line that it can stand for; after an offset that stood alone there is none
 unfoldable pub star_at : ℕ → State → State
 star_at x s =
-    cond (eq x 42)
+    cond (eqb x 42)
     (cond s.ended (but why.form s) (cond s.star (but why.form s) (cond (leb s.line s.before) (but why.form s) (to mode.star s))))
     (but why.form s)
 
@@ -172,10 +172,10 @@ column e s =
     state s.mode s.digits s.value s.octet s.second s.line s.before e s.solid s.star s.upto s.ended s.column s.why
 
 abbrev pub passing : ℕ → State → State
-passing n s = cond (eq s.beside n) (column (n + 1) s) s
+passing n s = cond (eqb s.beside n) (column (n + 1) s) s
 
 abbrev pub completed : Style → ℕ → ℕ → State → State
-completed f o n s = complete o (cond (eq (shown_of f.prefix o) 32) (passing n s) (showing n s))
+completed f o n s = complete o (cond (eqb (shown_of f.prefix o) 32) (passing n s) (showing n s))
 
 unfoldable pub low : Style → ℕ → ℕ → State → State
 low f x n s = cond (digit x) (completed f (s.octet % 16 * 16 + hexes.value x) n s) (but why.form s)
@@ -231,35 +231,35 @@ one f x n s = one_by (class_of x) f x n s
 -- after all octets: what closes the column, or a blank where nothing does
 unfoldable pub past : Style → ℕ → State → State
 past f x s =
-    cond (eq f.closing 0)
-    (cond (eq x 32) s (but why.column s))
-    (cond (eq x f.closing) (to mode.closed s) (but why.column s))
+    cond (eqb f.closing 0)
+    (cond (eqb x 32) s (but why.column s))
+    (cond (eqb x f.closing) (to mode.closed s) (but why.column s))
 
 -- a character of the column
 unfoldable pub beside : Style → ℕ → ℕ → ℕ → State → State
-beside f x n b s = cond (leb n s.beside) (past f x s) (cond (eq x (shown_of f.prefix b)) (to mode.text (column (s.beside + 1) s)) (but why.column s))
+beside f x n b s = cond (leb n s.beside) (past f x s) (cond (eqb x (shown_of f.prefix b)) (to mode.text (column (s.beside + 1) s)) (but why.column s))
 
 -- what stands before the column
 unfoldable pub fenced : Style → ℕ → State → State
-fenced f x s = cond (eq x f.opening) (to mode.text (column s.line s)) (but why.form s)
+fenced f x s = cond (eqb x f.opening) (to mode.text (column s.line s)) (but why.form s)
 
 -- what follows an octet and two blanks or more
 abbrev pub more_by : Class → Style → ℕ → ℕ → ℕ → State → State
 more_by Break f x n b s = cut f n s
 more_by Blank f x n b s = s
-more_by Digit f x n b s = cond (eq f.opening 0) (beside f x n b s) (high false x s)
-more_by Other f x n b s = cond (eq f.opening 0) (beside f x n b s) (fenced f x s)
+more_by Digit f x n b s = cond (eqb f.opening 0) (beside f x n b s) (high false x s)
+more_by Other f x n b s = cond (eqb f.opening 0) (beside f x n b s) (fenced f x s)
 
 abbrev pub more : Style → ℕ → ℕ → ℕ → State → State
 more f x n b s = more_by (class_of x) f x n b s
 
 -- the column ends with its line; blanks at its end may be missing where nothing closes it
 unfoldable pub broken : Style → ℕ → State → State
-broken f n s = cond (eq f.closing 0) (cond (ltb s.beside s.solid) (but why.column s) (columned n s)) (but why.column s)
+broken f n s = cond (eqb f.closing 0) (cond (ltb s.beside s.solid) (but why.column s) (columned n s)) (but why.column s)
 
 -- the rest of the column; a carriage return may stand before a line break
 unfoldable pub text : Style → ℕ → ℕ → ℕ → State → State
-text f x n b s = cond (eq x 13) s (cond (eq x 10) (broken f n s) (beside f x n b s))
+text f x n b s = cond (eqb x 13) s (cond (eqb x 10) (broken f n s) (beside f x n b s))
 
 -- what follows a closed column
 abbrev pub rest_by : Class → ℕ → State → State
@@ -275,21 +275,21 @@ rest x n s = rest_by (class_of x) n s
 
 unfoldable pub fronted : Style → ℕ → ℕ → State → State
 fronted f x n s =
-    cond (eq s.mode mode.start) (start f x s)
-    (cond (eq s.mode mode.prefix) (prefixed x s)
-    (cond (eq s.mode mode.offset) (offset f x n s)
-    (cond (eq s.mode mode.star) (starred x s) (gap f x s))))
+    cond (eqb s.mode mode.start) (start f x s)
+    (cond (eqb s.mode mode.prefix) (prefixed x s)
+    (cond (eqb s.mode mode.offset) (offset f x n s)
+    (cond (eqb s.mode mode.star) (starred x s) (gap f x s))))
 
 unfoldable pub within : Style → ℕ → ℕ → State → State
 within f x n s =
-    cond (eq s.mode mode.after) (after f x s)
-    (cond (eq s.mode mode.high) (low f x n s)
-    (cond (eq s.mode mode.low) (octet f x n s) (one f x n s)))
+    cond (eqb s.mode mode.after) (after f x s)
+    (cond (eqb s.mode mode.high) (low f x n s)
+    (cond (eqb s.mode mode.low) (octet f x n s) (one f x n s)))
 
 unfoldable pub behind : Style → ℕ → ℕ → ℕ → State → State
 behind f x n b s =
-    cond (eq s.mode mode.more) (more f x n b s)
-    (cond (eq s.mode mode.text) (text f x n b s) (rest x n s))
+    cond (eqb s.mode mode.more) (more f x n b s)
+    (cond (eqb s.mode mode.text) (text f x n b s) (rest x n s))
 
 unfoldable pub moved : Style → ℕ → ℕ → ℕ → State → State
 moved f x n b s =

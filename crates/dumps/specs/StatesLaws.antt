@@ -1,7 +1,7 @@
 -- The laws of the states of a dump. Assumes nothing.
-use Rattle.std.specs.Prelude.{◌≡◌, refl, Bool, true, false, cond, ℕ, ◌≤◌, ◌<◌, eq}
+use Rattle.std.specs.Prelude.{◌≡◌, refl, Bool, true, false, cond, ℕ, ◌≤◌, ◌<◌, eqb}
 use Rattle.std.proofs.Common.{arith}
-use borrow.Author.Tests.{le-leb, lt-leb, eq-eq, ne_eqb}
+use borrow.Author.Tests.{le-leb, lt-leb, eq-eqb, ne_eqb}
 use Rattle.hexes.specs.Hexes.{digit}
 use Rattle.inputs.specs.Why as why
 use Rattle.dumps.specs.declared.Style.{Style}
@@ -25,7 +25,7 @@ class-digit x e = go (digit x) refl
   where
     go : (b : Bool) → digit x ≡ b → digit x ≡ true
     go true d = d
-    go false d = absurd (other-class (eq x 10) (eq x 32) (eq x 9) (eq x 13) (rw d at e))
+    go false d = absurd (other-class (eqb x 10) (eqb x 32) (eqb x 9) (eqb x 13) (rw d at e))
 
 -- ---- an offset that is whole
 
@@ -38,20 +38,20 @@ module _ (f : Style) (n : ℕ) (s : State) where
     module _ (t : s.star ≡ true) where
       pub counted-less : s.value ≤ n → but why.offset s ≡ counted f n s
       unfolding counted
-      counted-less h = rw (eq-eq s.digits f.digits d, t, le-leb s.value n h)
+      counted-less h = rw (eq-eqb s.digits f.digits d, t, le-leb s.value n h)
 
       pub counted-star : n < s.value → opened s.value (filled s.value s) ≡ counted f n s
       unfolding counted
-      counted-star h = rw (eq-eq s.digits f.digits d, t, lt-leb s.value n h)
+      counted-star h = rw (eq-eqb s.digits f.digits d, t, lt-leb s.value n h)
 
     module _ (t : s.star ≡ false) where
       pub counted-other : (s.value ≡ n → ⊥) → but why.offset s ≡ counted f n s
       unfolding counted
-      counted-other h = rw (eq-eq s.digits f.digits d, t, ne_eqb s.value n h)
+      counted-other h = rw (eq-eqb s.digits f.digits d, t, ne_eqb s.value n h)
 
       pub counted-here : s.value ≡ n → opened n s ≡ counted f n s
       unfolding counted
-      counted-here h = rw (eq-eq s.digits f.digits d, t, eq-eq s.value n h)
+      counted-here h = rw (eq-eqb s.digits f.digits d, t, eq-eqb s.value n h)
 
 -- ---- a star
 
@@ -63,20 +63,20 @@ module _ (x : ℕ) (s : State) where
   module _ (h : x ≡ 42) where
     pub star-late : s.ended ≡ true → but why.form s ≡ star_at x s
     unfolding star_at
-    star-late g = rw (eq-eq x 42 h, g)
+    star-late g = rw (eq-eqb x 42 h, g)
 
     module _ (g : s.ended ≡ false) where
       pub star-twice : s.star ≡ true → but why.form s ≡ star_at x s
       unfolding star_at
-      star-twice t = rw (eq-eq x 42 h, g, t)
+      star-twice t = rw (eq-eqb x 42 h, g, t)
 
       pub star-early : s.star ≡ false → s.line ≤ s.before → but why.form s ≡ star_at x s
       unfolding star_at
-      star-early t l = rw (eq-eq x 42 h, g, t, le-leb s.line s.before l)
+      star-early t l = rw (eq-eqb x 42 h, g, t, le-leb s.line s.before l)
 
       pub star-stands : s.star ≡ false → s.before < s.line → to mode.star s ≡ star_at x s
       unfolding star_at
-      star-stands t l = rw (eq-eq x 42 h, g, t, lt-leb s.line s.before l)
+      star-stands t l = rw (eq-eqb x 42 h, g, t, lt-leb s.line s.before l)
 
 -- ---- a digit after an octet
 

@@ -1,7 +1,7 @@
 -- What follows from a text being read as octets, for one character of it: the state that it moves to, and the octets then. Assumes nothing.
-use Rattle.std.specs.Prelude.{◌≡◌, refl, Bool, true, false, List, ◌∷◌, ℕ, ◌+◌, ◌-◌, ◌%◌, ◌≤◌, ◌<◌, ltb, leb, eq, length, get_or, set, take}
-use Rattle.std.proofs.Common.{sym, ap, subst, ◌∙◌, arith, leb-true, leb-false, ltb-true, ltb-false, eq-true}
-use Rattle.std.proofs.lemmas.Bool.{eq-false}
+use Rattle.std.specs.Prelude.{◌≡◌, refl, Bool, true, false, List, ◌∷◌, ℕ, ◌+◌, ◌-◌, ◌%◌, ◌≤◌, ◌<◌, ltb, leb, eqb, length, get_or, set, take}
+use Rattle.std.proofs.Common.{sym, ap, subst, ◌∙◌, arith, leb-true, leb-false, ltb-true, ltb-false, eqb-true}
+use Rattle.std.proofs.lemmas.Bool.{eqb-false}
 use Rattle.inputs.specs.declared.Read.TheVariants.{Octets, Bad, Long}
 use Rattle.dumps.specs.declared.Style.{Style}
 use Rattle.dumps.specs.declared.Turn.{Turn}
@@ -69,24 +69,24 @@ module _ (f : Style) (s : State) (x n size i : ℕ) (out xs : List ℕ) (m : ℕ
         pub result : Result (read_from f t t.upto size (i + 1) (repeated_of (t.upto - n) t.before n out) xs) m bs
 
       pub step-fill : n < t.upto → (t.mode ≡ mode.low → ⊥) → Fills
-      step-fill l k = go (leb n t.before) refl (eq ((t.upto - n) % (n - t.before)) 0) refl (ltb (length out) t.upto) refl
+      step-fill l k = go (leb n t.before) refl (eqb ((t.upto - n) % (n - t.before)) 0) refl (ltb (length out) t.upto) refl
         where
-          go : (a : Bool) → leb n t.before ≡ a → (b : Bool) → eq ((t.upto - n) % (n - t.before)) 0 ≡ b
+          go : (a : Bool) → leb n t.before ≡ a → (b : Bool) → eqb ((t.upto - n) % (n - t.before)) 0 ≡ b
               → (c : Bool) → ltb (length out) t.upto ≡ c → Fills
           go true p b q c u =
               absurd (not-bad (take_no f s x n out e refl h (fill-early t.before n t.upto out l (leb-true n t.before p)) refl) refl)
           go false p false q c u =
               let j = leb-false n t.before p in
-              let d = eq-false ((t.upto - n) % (n - t.before)) 0 q in
+              let d = eqb-false ((t.upto - n) % (n - t.before)) 0 q in
               absurd (not-bad (take_no f s x n out e refl h (fill-part t.before n t.upto out l j d) refl) refl)
           go false p true q true u =
               let j = leb-false n t.before p in
-              let d = eq-true ((t.upto - n) % (n - t.before)) 0 q in
+              let d = eqb-true ((t.upto - n) % (n - t.before)) 0 q in
               absurd
               (not-long (take_long f s x n out e refl h (fill-long t.before n t.upto out l j d (ltb-true (length out) t.upto u)) refl) refl)
           go false p true q false u =
               let j = leb-false n t.before p in
-              let d = eq-true ((t.upto - n) % (n - t.before)) 0 q in
+              let d = eqb-true ((t.upto - n) % (n - t.before)) 0 q in
               let v = ltb-false (length out) t.upto u in
               record {
                 early = j;

@@ -1,9 +1,9 @@
 -- What becomes of a body, and of a block, is what `Answers` says and nothing else (RULES D2). Assumes nothing.
-use Rattle.std.specs.Prelude.{◌≡◌, refl, Bool, true, false, cond, ◌↔◌, ◌⊎◌, ℕ, zero, suc, ◌+◌, ◌*◌, ◌/◌, ◌%◌, ◌≤◌, ◌<◌, ltb, eq, length, take, drop}
-use Rattle.std.proofs.Common.{sym, ap, ap₂, subst, ◌∙◌, inl, inr, arith, ltb-true, ltb-false, eq-true, length-append, take-append-drop, length-take-le}
+use Rattle.std.specs.Prelude.{◌≡◌, refl, Bool, true, false, cond, ◌↔◌, ◌⊎◌, ℕ, zero, suc, ◌+◌, ◌*◌, ◌/◌, ◌%◌, ◌≤◌, ◌<◌, ltb, eqb, length, take, drop}
+use Rattle.std.proofs.Common.{sym, ap, ap₂, subst, ◌∙◌, inl, inr, arith, ltb-true, ltb-false, eqb-true, length-append, take-append-drop, length-take-le}
 use Rattle.std.proofs.Math.Path.{subst⁻¹}
 use mathlib.Core.List.{List, [], ◌∷◌, cons≢nil}
-use Rattle.std.proofs.lemmas.Bool.{eq-false}
+use Rattle.std.proofs.lemmas.Bool.{eqb-false}
 use Rattle.octets.specs.Numbers.{at16, Bytes}
 use Rattle.octets.specs.Fields.{put_counted}
 use Rattle.numbers.specs.Fault as fault
@@ -50,14 +50,14 @@ module _ (c : Carrier) (b : List ℕ) (octets : Bytes b) (possible : Possible c 
       ∙ yield-kept c (name_at c (length f.addresses)) f ((allowed-exactly Reading c f (laid-octets f l)).1 a)
 
   fields-become : (f : Fields) → Laid c b f → (o : Outcome) × BodyIs c b o
-  fields-become f l = go (eq (fault_of Reading c f) 0) refl
+  fields-become f l = go (eqb (fault_of Reading c f) 0) refl
     where
-      go : (allowed : Bool) → eq (fault_of Reading c f) 0 ≡ allowed → (o : Outcome) × BodyIs c b o
-      go true t = (kept (keep_of c f), keeps l ((allowed-exactly Reading c f (laid-octets f l)).0 (eq-true _ _ t)))
+      go : (allowed : Bool) → eqb (fault_of Reading c f) 0 ≡ allowed → (o : Outcome) × BodyIs c b o
+      go true t = (kept (keep_of c f), keeps l ((allowed-exactly Reading c f (laid-octets f l)).0 (eqb-true _ _ t)))
       go false t =
           let at : ℕ = name_at c (length f.addresses) in
           let rule = (broken-exactly Reading c f (fault_of Reading c f) (laid-octets f l)).0 refl in
-          (faulty (from at (judged_by Reading c f)), broken l rule (eq-false _ _ t) ((placed-exactly Reading c f at _).0 refl))
+          (faulty (from at (judged_by Reading c f)), broken l rule (eqb-false _ _ t) ((placed-exactly Reading c f at _).0 refl))
 
   -- one of the four is so
   body-becomes : (o : Outcome) × BodyIs c b o

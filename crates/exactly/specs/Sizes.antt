@@ -1,5 +1,5 @@
 -- How many octets a sheet has that reading gives (RULES L5). Assumes nothing.
-use Rattle.std.specs.Prelude.{◌≡◌, refl, Bool, true, false, cond, List, [], ◌∷◌, map, ℕ, zero, suc, ◌+◌, ◌-◌, ◌≤◌, ◌<◌, ltb, eq, length, take, drop}
+use Rattle.std.specs.Prelude.{◌≡◌, refl, Bool, true, false, cond, List, [], ◌∷◌, map, ℕ, zero, suc, ◌+◌, ◌-◌, ◌≤◌, ◌<◌, ltb, eqb, length, take, drop}
 use Rattle.std.proofs.Common.{subst, arith, ltb-true, ltb-false}
 use Rattle.octets.specs.Lists.{All}
 use Rattle.octets.specs.ListsLaws.{all_append, flat-few}
@@ -68,7 +68,7 @@ instances-small (suc k) at (x ∷ xs) = instances-small k (at + 1) xs
 
 joined_small : (b : List ℕ) → Smalls Dhcp4 (joined_yield b)
 unfolding joined_yield
-joined_small b = unless-small Dhcp4 (eq (length b) 0) (judged fault.field 0) (instances_from 0 0 b) (instances-small 0 0 b)
+joined_small b = unless-small Dhcp4 (eqb (length b) 0) (judged fault.field 0) (instances_from 0 0 b) (instances-small 0 0 b)
 
 block-small : (c : Carrier) (b : List ℕ) → Smalls c (yield_of c b)
 block-small =

@@ -1,11 +1,11 @@
 -- The fault and the place that a reading gives back are those of the first discarded block, and of fault 22 the place is that of its name's first bad octet
 -- (RULES W10, W11). Assumes nothing.
 use Rattle.std.proofs.Math.Path.{◌≡◌, refl, ap, subst, subst⁻¹}
-use Rattle.std.proofs.Common.{sym, ◌∙◌, true≢false, append_assoc, eq-true, length-append}
-use Rattle.std.specs.Prelude.{Bool, true, false, cond, List, [], ◌∷◌, ◌++◌, ℕ, ◌+◌, ◌-◌, ◌≤◌, ◌<◌, eq, length}
+use Rattle.std.proofs.Common.{sym, ◌∙◌, true≢false, append_assoc, eqb-true, length-append}
+use Rattle.std.specs.Prelude.{Bool, true, false, cond, List, [], ◌∷◌, ◌++◌, ℕ, ◌+◌, ◌-◌, ◌≤◌, ◌<◌, eqb, length}
 use native.Mathlib.Omega.{arith}
 use Rattle.std.proofs.Math.Nat.{add-sub_cancel_left}
-use Rattle.std.proofs.lemmas.Bool.{eq-false}
+use Rattle.std.proofs.lemmas.Bool.{eqb-false}
 use Rattle.octets.specs.Cases.{by-test}
 use Rattle.octets.specs.Numbers.{be, Bytes}
 use Rattle.octets.specs.NumbersLaws.{length-be}
@@ -289,7 +289,7 @@ module _ (n : ℕ) (octets : List ℕ) (room : ℕ) (d : Done) (bytes : Bytes oc
   -- and without it there is no place
   pub no_place : (d.fault ≡ fault.name → ⊥) → d.place ≡ 0
   unfolding WasRead
-  no_place k = by-test (eq d.fault 0) (λ _. d.place ≡ 0) (λ z. without (eq-true _ _ z)) (λ z. some (eq-false _ _ z))
+  no_place k = by-test (eqb d.fault 0) (λ _. d.place ≡ 0) (λ z. without (eqb-true _ _ z)) (λ z. some (eqb-false _ _ z))
     where
       without : d.fault ≡ 0 → d.place ≡ 0
       without z = let (c, ys, rs, h, r, q) = reads in ap (λ (d : Done). d.place) q ∙ no-fault r.blocks (sym (ap (λ (d : Done). d.fault) q) ∙ z)

@@ -1,11 +1,11 @@
 -- The mode of a file (POSIX sys/stat.h): its kind above three octal digits, the permissions of its owner, its group and all others.
 -- Assumes nothing: these are definitions.
-use Rattle.std.specs.Prelude.{Bool, ℕ, ◌+◌, ◌*◌, ◌/◌, ◌%◌, eq}
+use Rattle.std.specs.Prelude.{Bool, ℕ, ◌+◌, ◌*◌, ◌/◌, ◌%◌, eqb}
 use Rattle.std.specs.Int.Bits.{bit_and}
 
 -- S_IFREG
 abbrev pub regular : ℕ → Bool
-regular mode = eq (mode / 4096 % 16) 8
+regular mode = eqb (mode / 4096 % 16) 8
 
 abbrev pub permissions : ℕ → ℕ
 permissions mode = mode % 512

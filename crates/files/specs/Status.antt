@@ -1,5 +1,5 @@
 -- Exit statuses (docs/COMMAND.md: 0 done, 1 refused, 2 wrong use or a file, 3 done and the answer is no). Assumes nothing: these are definitions.
-use Rattle.std.specs.Prelude.{◌≡◌, Bool, true, false, cond, List, [], ◌∷◌, ℕ, eq, ℤ, pos, negsuc}
+use Rattle.std.specs.Prelude.{◌≡◌, Bool, true, false, cond, List, [], ◌∷◌, ℕ, eqb, ℤ, pos, negsuc}
 
 abbrev pub done : ℕ
 done = 0
@@ -15,7 +15,7 @@ no = 3
 
 abbrev pub among : ℕ → List ℕ → Bool
 among k [] = false
-among k (x ∷ xs) = cond (eq k x) true (among k xs)
+among k (x ∷ xs) = cond (eqb k x) true (among k xs)
 
 abbrev pub one_of : List ℕ → ℤ → Bool
 one_of ks (pos k) = among k ks

@@ -1,19 +1,19 @@
 -- A status that is one of fewer is one of more, and what a call's number says of it. Assumes nothing.
-use Rattle.std.specs.Prelude.{◌≡◌, refl, Bool, true, false, cond, [], ◌∷◌, ℕ, eq, ℤ, pos, negsuc}
-use Rattle.std.proofs.Common.{ap, eq-true, eq-eq}
-use Rattle.std.proofs.lemmas.Bool.{false≢true, eq-false}
+use Rattle.std.specs.Prelude.{◌≡◌, refl, Bool, true, false, cond, [], ◌∷◌, ℕ, eqb, ℤ, pos, negsuc}
+use Rattle.std.proofs.Common.{ap, eqb-true, eq-eqb}
+use Rattle.std.proofs.lemmas.Bool.{false≢true, eqb-false}
 use Rattle.files.specs.Status.{among, one_of, Delivered, Denied, Exited, Answers}
 use Rattle.files.specs.Status as status
 
 pub among_first : (r a b : ℕ) → r ≡ a → among r (a ∷ b ∷ []) ≡ true
-among_first r a b e = ap (λ (t : Bool). cond t true (cond (eq r b) true false)) (eq-eq r a e)
+among_first r a b e = ap (λ (t : Bool). cond t true (cond (eqb r b) true false)) (eq-eqb r a e)
 
 pub among_second : (r a b : ℕ) → r ≡ b → among r (a ∷ b ∷ []) ≡ true
-among_second r a b e = go (eq r a)
+among_second r a b e = go (eqb r a)
   where
-    go : (t : Bool) → cond t true (cond (eq r b) true false) ≡ true
+    go : (t : Bool) → cond t true (cond (eqb r b) true false) ≡ true
     go true = refl
-    go false = ap (λ (t : Bool). cond t true false) (eq-eq r b e)
+    go false = ap (λ (t : Bool). cond t true false) (eq-eqb r b e)
 
 pub failed-delivered : (r : ℤ) → r ≡ pos status.failed → Delivered r
 failed-delivered r e = ap (one_of (status.done ∷ status.failed ∷ [])) e
@@ -25,7 +25,7 @@ pub refused-exited : (r : ℤ) → r ≡ pos status.refused → Exited r
 refused-exited r e = ap (one_of (status.done ∷ status.refused ∷ status.failed ∷ status.no ∷ [])) e
 
 pub delivered-exited : (r : ℤ) → Delivered r → Exited r
-delivered-exited (pos k) h = go (eq k 0) (eq k 1) (eq k 2) (eq k 3) h
+delivered-exited (pos k) h = go (eqb k 0) (eqb k 1) (eqb k 2) (eqb k 3) h
   where
     go : (a b c d : Bool) → cond a true (cond c true false) ≡ true → cond a true (cond b true (cond c true (cond d true false))) ≡ true
     go true b c d h = h
@@ -35,7 +35,7 @@ delivered-exited (pos k) h = go (eq k 0) (eq k 1) (eq k 2) (eq k 3) h
 delivered-exited (negsuc k) h = h
 
 pub denied-exited : (r : ℤ) → Denied r → Exited r
-denied-exited (pos k) h = go (eq k 0) (eq k 1) (eq k 2) (eq k 3) h
+denied-exited (pos k) h = go (eqb k 0) (eqb k 1) (eqb k 2) (eqb k 3) h
   where
     go : (a b c d : Bool) → cond c true (cond d true false) ≡ true → cond a true (cond b true (cond c true (cond d true false))) ≡ true
     go true b c d h = refl
@@ -50,8 +50,8 @@ pub answers-refused : (n : ℕ) (r : ℤ) → (n ≡ 0 → ⊥) → r ≡ pos st
 answers-refused n r z e = record { done = λ i. absurd (z i); refuses = λ _. e }
 
 pub answers-exited : (n : ℕ) (r : ℤ) → Answers n r → Exited r
-answers-exited n r a = go (eq n 0) refl
+answers-exited n r a = go (eqb n 0) refl
   where
-    go : (b : Bool) → eq n 0 ≡ b → Exited r
-    go true t = delivered-exited r (a.done (eq-true n 0 t))
-    go false t = refused-exited r (a.refuses (eq-false n 0 t))
+    go : (b : Bool) → eqb n 0 ≡ b → Exited r
+    go true t = delivered-exited r (a.done (eqb-true n 0 t))
+    go false t = refused-exited r (a.refuses (eqb-false n 0 t))

@@ -1,7 +1,7 @@
 -- What the findings are: the number told is that by which reading discards; spots are where the bodies stand; the place of an octet of joined data is that of
 -- the octet itself; every place is in its body, fields stand where they are told to, and of faults 22 and 29 the place is the first that is bad. Assumes
 -- nothing.
-use Rattle.std.specs.Prelude.{◌≡◌, Bool, true, false, cond, ℕ, ◌+◌, ◌-◌, ◌≤◌, ◌<◌, eq, drop}
+use Rattle.std.specs.Prelude.{◌≡◌, Bool, true, false, cond, ℕ, ◌+◌, ◌-◌, ◌≤◌, ◌<◌, eqb, drop}
 use Rattle.std.proofs.Math.Path.{refl, ap}
 use Rattle.std.proofs.Common.{sym, ap₂, ◌∙◌, subst, arith}
 use mathlib.Core.List.{List, [], ◌∷◌, ◌++◌, map}
@@ -46,7 +46,7 @@ trouble-fault = faults.trouble-fault
 
 pub joined-fault : (b : List ℕ) → (joined_trouble b).fault ≡ block_fault (joined_yield b)
 unfolding joined_trouble joined_yield
-joined-fault b = go (eq (length b) 0)
+joined-fault b = go (eqb (length b) 0)
   where
     go : (t : Bool) → (cond t (plain fault.field 0) (instances_trouble 0 0 b)).fault
         ≡ block_fault (cond t (discarded (judged fault.field 0)) (instances_from 0 0 b))

@@ -1,6 +1,6 @@
 -- The ways through `examine`: what the places of the fields and the judge's answer make of a body. Assumes nothing.
 use Rattle.std.specs.Prelude.{◌≡◌, Bool, true, false, List, [], ℕ, ◌+◌, ◌-◌, ◌≤◌, length, take, drop}
-use Rattle.std.proofs.Common.{sym, ap, ◌∙◌, eq-eq, ne_eqb}
+use Rattle.std.proofs.Common.{sym, ap, ◌∙◌, eq-eqb, ne_eqb}
 use Rattle.std.proofs.Math.Nat.{add-sub_cancel_left}
 use Rattle.octets.specs.Numbers.{Bytes}
 use Rattle.numbers.specs.Fault as fault
@@ -28,7 +28,7 @@ use Rattle.findings.specs.PlacedLaws.{param-within, judged-placed}
 
 module _ (c : Carrier) (k : ℕ) (name : List ℕ) (place : ℕ) where
   pub reason-name : {text : Bool} {r : ℕ} → k ≡ fault.name → text ≡ as_text c → r ≡ name_reason text name place → r ≡ reason_of c k name place
-  reason-name e t h = simp (eq-eq _ _ e, ← t) h
+  reason-name e t h = simp (eq-eqb _ _ e, ← t) h
 
   pub reason-none : (k ≡ fault.name → ⊥) → 0 ≡ reason_of c k name place
   reason-none n = simp (ne_eqb _ _ n)

@@ -1,6 +1,6 @@
 -- The number that is told is the number by which a body is discarded. Assumes nothing.
 use Rattle.std.specs.Prelude.{◌≡◌, refl, Bool, true, false, cond, List, [], ◌∷◌, ℕ, zero, suc, ◌+◌, ◌-◌, ltb, length, take, drop}
-use Rattle.std.proofs.Common.{sym, ◌∙◌, eq-eq, ne_eqb}
+use Rattle.std.proofs.Common.{sym, ◌∙◌, eq-eqb, ne_eqb}
 use Rattle.octets.specs.Cases.{by_equal}
 use Rattle.octets.specs.Numbers.{at16}
 use Rattle.numbers.specs.Fault as fault
@@ -41,8 +41,8 @@ ahead-fault : (n : ℕ) (t next : Trouble) (o : Outcome) (y : Yield) → t.fault
     → next.fault ≡ block_fault y → (or_else n t next).fault ≡ block_fault (ahead (further n o) y)
 unfolding or_else
 ahead-fault n t next (faulty j) y e some h = let other : t.fault ≡ 0 → ⊥ = λ z. some j refl (sym e ∙ z) in simp (ne_eqb _ _ other) e
-ahead-fault n t next (kept r) (discarded j) e some h = simp (eq-eq _ _ e) h
-ahead-fault n t next (kept r) (yields rs) e some h = simp (eq-eq _ _ e) h
+ahead-fault n t next (kept r) (discarded j) e some h = simp (eq-eqb _ _ e) h
+ahead-fault n t next (kept r) (yields rs) e some h = simp (eq-eqb _ _ e) h
 
 pub instances-fault : (k at : ℕ) (l : List ℕ) → (instances_trouble k at l).fault ≡ block_fault (instances_from k at l)
 unfolding instances_trouble instances_from

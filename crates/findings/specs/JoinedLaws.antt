@@ -1,11 +1,11 @@
 -- The walk of `examine_joined` over the instances of joined data: it begins, goes on and ends; and every place is within the data. Assumes nothing.
-use Rattle.std.specs.Prelude.{◌≡◌, refl, Bool, true, false, cond, ltb, eq, take}
+use Rattle.std.specs.Prelude.{◌≡◌, refl, Bool, true, false, cond, ltb, eqb, take}
 use Rattle.std.proofs.Math.Path.{sym, ap₂}
 use Rattle.std.proofs.Common.{ap, ◌∙◌, add-zero, length-drop, drop_of_length-le, drop-drop, length-take-le}
 use mathlib.Core.List.{List, [], ◌∷◌}
 use Prim.Native.Nat.{ℕ, zero, suc, ◌+◌, ◌-◌, ◌≤◌, ◌<◌}
 use native.Mathlib.Omega.{arith}
-use borrow.Author.Tests.{lt-ltb, le-ltb, eq-eq, ne_eqb, ltb-false}
+use borrow.Author.Tests.{lt-ltb, le-ltb, eq-eqb, ne_eqb, ltb-false}
 use Rattle.std.proofs.Math.ListN.{length, drop}
 use Rattle.octets.specs.Cases.{by-test}
 use Rattle.octets.specs.Numbers.{Octet, Bytes, at16}
@@ -77,7 +77,7 @@ pub record Passing (joined : List ℕ) (at : ℕ) : Type 0 where
 
 pub joined-none : (joined : List ℕ) {r : Trouble} → length joined ≡ 0 → r ≡ plain fault.field 0 → r ≡ joined_trouble joined
 unfolding joined_trouble
-joined-none joined h e = simp (eq-eq _ _ h) e
+joined-none joined h e = simp (eq-eqb _ _ h) e
 
 pub passing-start : (joined : List ℕ) → (length joined ≡ 0 → ⊥) → Passing joined 0
 unfolding joined_trouble
@@ -139,14 +139,14 @@ module _ {joined : List ℕ} {at : ℕ} (p : Passing joined at) where
 
       pub passing-next : t.fault ≡ 0 → Passing joined (at + 2 + long)
       unfolding or_else
-      passing-next z = record { within = omega arith; troubles = here ∙ simp (eq-eq _ _ z) }
+      passing-next z = record { within = omega arith; troubles = here ∙ simp (eq-eqb _ _ z) }
 
 -- ---- every place is within the data
 
 or-within : (n : ℕ) (t next : Trouble) (most : ℕ) → n + t.at ≤ most → next.at ≤ most → (or_else n t next).at ≤ most
 unfolding or_else
 or-within n t next most h k =
-    by-test (eq t.fault 0) (λ z. (cond z next (trouble t.fault (n + t.at) t.reason t.key)).at ≤ most) (λ _. k) (λ _. h)
+    by-test (eqb t.fault 0) (λ z. (cond z next (trouble t.fault (n + t.at) t.reason t.key)).at ≤ most) (λ _. k) (λ _. h)
 
 pub instances-within : (k at : ℕ) (l : List ℕ) → Bytes l → (instances_trouble k at l).at ≤ at + length l
 unfolding instances_trouble
@@ -184,6 +184,6 @@ instances-within (suc k) at (x ∷ xs) h = omega (arith, instances-within k (at 
 pub joined-within : (b : List ℕ) → Bytes b → (joined_trouble b).at ≤ length b
 unfolding joined_trouble
 joined-within b h =
-    by-test (eq (length b) 0) (λ t. (cond t (plain fault.field 0) (instances_trouble 0 0 b)).at ≤ length b)
+    by-test (eqb (length b) 0) (λ t. (cond t (plain fault.field 0) (instances_trouble 0 0 b)).at ≤ length b)
     (λ _. omega arith)
     (λ _. omega (arith, instances-within 0 0 b h))

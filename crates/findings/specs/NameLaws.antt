@@ -1,6 +1,6 @@
 -- Of fault 22 the place that is told is the first bad one of the name, and the one that reading gives back. Assumes nothing.
-use Rattle.std.specs.Prelude.{◌≡◌, refl, Bool, true, false, cond, ◌⊎◌, List, [], ◌∷◌, ℕ, zero, suc, ◌+◌, ◌-◌, ltb, eq, length, take, drop}
-use Rattle.std.proofs.Common.{sym, ap, ◌∙◌, inl, inr, arith, eq-eq, ne_eqb}
+use Rattle.std.specs.Prelude.{◌≡◌, refl, Bool, true, false, cond, ◌⊎◌, List, [], ◌∷◌, ℕ, zero, suc, ◌+◌, ◌-◌, ltb, eqb, length, take, drop}
+use Rattle.std.proofs.Common.{sym, ap, ◌∙◌, inl, inr, arith, eq-eqb, ne_eqb}
 use Rattle.octets.specs.Numbers.{at16}
 use Rattle.numbers.specs.Fault as fault
 use Rattle.carriers.specs.declared.Carrier.{Carrier}
@@ -99,7 +99,7 @@ ahead-place n t next (faulty i) y j e here later some a m =
     let k : i.fault ≡ fault.name = ap (λ (j : Judged). j.fault) q ∙ m in
     let other : t.fault ≡ 0 → ⊥ = λ z. some i refl (sym e ∙ z) in
     simp (ne_eqb _ _ other) (ap (λ (p : ℕ). n + p) (here i refl k) ∙ judge.place-name n i.fault i.place k ∙ ap (λ (j : Judged). j.place) q)
-ahead-place n t next (kept r) (discarded i) j e here later some a m = simp (eq-eq _ _ e) (later e a)
+ahead-place n t next (kept r) (discarded i) j e here later some a m = simp (eq-eqb _ _ e) (later e a)
 ahead-place n t next (kept r) (yields rs) j e here later some a m = let o : ◌≡◌ {A = ℕ} 0 1 = cc in absurd (omega arith)
 
 instances-place : (k at : ℕ) (l : List ℕ) (j : Judged) → instances_from k at l ≡ discarded j → j.fault ≡ fault.name → (instances_trouble k at l).at ≡ j.place
@@ -136,7 +136,7 @@ instances-place (suc k) at (x ∷ xs) j e m = instances-place k (at + 1) xs j e 
 
 pub joined-place : (b : List ℕ) (j : Judged) → joined_yield b ≡ discarded j → j.fault ≡ fault.name → (joined_trouble b).at ≡ j.place
 unfolding joined_trouble joined_yield
-joined-place b j e m = go (eq (length b) 0) e
+joined-place b j e m = go (eqb (length b) 0) e
   where
     go : (none : Bool) → cond none (discarded (judged fault.field 0)) (instances_from 0 0 b) ≡ discarded j
         → (cond none (plain fault.field 0) (instances_trouble 0 0 b)).at ≡ j.place

@@ -1,8 +1,8 @@
 -- `past_padding` finds the first octet that padding cannot have. Assumes nothing.
-use Rattle.std.specs.Prelude.{◌≡◌, refl, Bool, true, false, cond, ◌&&◌, ◌⊎◌, List, [], ◌∷◌, ◌++◌, ℕ, suc, ◌+◌, ◌-◌, ◌≤◌, ◌<◌, ltb, eq, length, get_or, take}
-use Rattle.std.proofs.Common.{ap, ◌∙◌, subst, inl, inr, ⊎_elim, add-one, arith, lt-ltb, le-ltb, ltb-true, ltb-false, eq-true, take_all, take-suc, length-take-le}
+use Rattle.std.specs.Prelude.{◌≡◌, refl, Bool, true, false, cond, ◌&&◌, ◌⊎◌, List, [], ◌∷◌, ◌++◌, ℕ, suc, ◌+◌, ◌-◌, ◌≤◌, ◌<◌, ltb, eqb, length, get_or, take}
+use Rattle.std.proofs.Common.{ap, ◌∙◌, subst, inl, inr, ⊎_elim, add-one, arith, lt-ltb, le-ltb, ltb-true, ltb-false, eqb-true, take_all, take-suc, length-take-le}
 use Rattle.std.proofs.Math.Bool.{and-false, and-eq-true_iff}
-use Rattle.std.proofs.lemmas.Bool.{eq-false}
+use Rattle.std.proofs.lemmas.Bool.{eqb-false}
 use Rattle.octets.specs.Cases.{by-test}
 use Rattle.octets.specs.Lists.{All}
 use Rattle.octets.specs.ListsLaws.{all_right}
@@ -46,13 +46,13 @@ found-later n x u xs z f =
 found : (n : ℕ) (l : List ℕ) → n < 8 → Found n l (past_padding n l)
 unfolding past_padding
 found n [] h = found_here n [] h (λ k. absurd (omega arith))
-found n (x ∷ xs) h = go (λ (k : n + 1 < 8). found (n + 1) xs k) (eq x 0) (ltb n 7) refl refl
+found n (x ∷ xs) h = go (λ (k : n + 1 < 8). found (n + 1) xs k) (eqb x 0) (ltb n 7) refl refl
   where
-    go : (n + 1 < 8 → Found (n + 1) xs (past_padding (n + 1) xs)) → (a b : Bool) → eq x 0 ≡ a → ltb n 7 ≡ b
+    go : (n + 1 < 8 → Found (n + 1) xs (past_padding (n + 1) xs)) → (a b : Bool) → eqb x 0 ≡ a → ltb n 7 ≡ b
         → Found n (x ∷ xs) (cond (a && b) (past_padding (n + 1) xs) n)
-    go ih true true z k = let less : n < 7 = ltb-true _ _ k in found-later n x (past_padding (n + 1) xs) xs (eq-true _ _ z) (ih (omega arith))
+    go ih true true z k = let less : n < 7 = ltb-true _ _ k in found-later n x (past_padding (n + 1) xs) xs (eqb-true _ _ z) (ih (omega arith))
     go ih true false z k = let more : 7 ≤ n = ltb-false _ _ k in found_here n (x ∷ xs) h (λ _. inl (omega arith))
-    go ih false b z k = found_here n (x ∷ xs) h (λ _. inr (eq-false _ _ z))
+    go ih false b z k = found_here n (x ∷ xs) h (λ _. inr (eqb-false _ _ z))
 
 -- ---- so it is the first
 

@@ -1,5 +1,5 @@
 -- What the judge's answer says of the fields, and that the parameter at fault stands in its field: so a place is within its body. Assumes nothing.
-use Rattle.std.specs.Prelude.{◌≡◌, Bool, false, cond, not, ◌||◌, ◌⊎◌, List, [], ◌∷◌, ℕ, zero, suc, ◌+◌, ◌-◌, ◌*◌, ◌/◌, ◌%◌, ◌≤◌, ◌<◌, ltb, leb, eq, take, drop}
+use Rattle.std.specs.Prelude.{◌≡◌, Bool, false, cond, not, ◌||◌, ◌⊎◌, List, [], ◌∷◌, ℕ, zero, suc, ◌+◌, ◌-◌, ◌*◌, ◌/◌, ◌%◌, ◌≤◌, ◌<◌, ltb, leb, eqb, take, drop}
 use Rattle.std.proofs.Math.Path.{refl}
 use Rattle.std.proofs.Math.Bool.{true}
 use Rattle.std.proofs.Common.{inl, inr, arith, leb-false, ltb-true}
@@ -46,7 +46,7 @@ unfolding unordered_from
 unordered-within k at least [] = omega arith
 unordered-within zero at least (x ∷ xs) =
     on-within (size_of (x ∷ xs)) (at + length (x ∷ xs)) _ _ (omega arith) (λ k.
-    either-within (ltb (at16 (x ∷ xs) 0) least || eq (at16 (x ∷ xs) 0) key.invalid) (at + length (x ∷ xs)) _ _ (omega arith)
+    either-within (ltb (at16 (x ∷ xs) 0) least || eqb (at16 (x ∷ xs) 0) key.invalid) (at + length (x ∷ xs)) _ _ (omega arith)
     (omega (arith, unordered-within k (at + 1) (at16 (x ∷ xs) 0 + 1) xs)))
 unordered-within (suc k) at least (x ∷ xs) = omega (arith, unordered-within k (at + 1) least xs)
 
@@ -62,9 +62,9 @@ wrong-within hints ks (suc k) at (x ∷ xs) = omega (arith, wrong-within hints k
 pub param-within : (k : ℕ) (p : List ℕ) → (param_for k p).at ≤ length p
 unfolding param_for
 param-within k p =
-    either-within (eq k fault.parameters) (length p) _ _ (omega (arith, unordered-within 0 0 0 p))
-    (either-within (eq k fault.hint) (length p) _ _ (omega (arith, wrong-within true (keys_in p) 0 0 p))
-    (either-within (eq k fault.value) (length p) _ _ (omega (arith, wrong-within false (keys_in p) 0 0 p)) (omega arith)))
+    either-within (eqb k fault.parameters) (length p) _ _ (omega (arith, unordered-within 0 0 0 p))
+    (either-within (eqb k fault.hint) (length p) _ _ (omega (arith, wrong-within true (keys_in p) 0 0 p))
+    (either-within (eqb k fault.value) (length p) _ _ (omega (arith, wrong-within false (keys_in p) 0 0 p)) (omega arith)))
 
 -- ---- the judge's answer
 
@@ -81,7 +81,7 @@ tail-limit : (c : Carrier) (a p : List ℕ) → tail_fault Reading (address_widt
     → (limit.addresses * address_width c < length a) ⊎ (limit.parameters < length p)
 unfolding tail_fault
 tail-limit c a p =
-    go (eq (length a) 0) (eq (length a % w) 0) (ltb limit.addresses (length a / w)) (ltb limit.parameters (length p)) (refused_of Reading w (list_of w a))
+    go (eqb (length a) 0) (eqb (length a % w) 0) (ltb limit.addresses (length a / w)) (ltb limit.parameters (length p)) (refused_of Reading w (list_of w a))
     refl refl
   where
     w : ℕ
@@ -100,7 +100,7 @@ tail-limit c a p =
 
 pub judged-placed : (c : Carrier) (f : Fields) → Placed c f (judged_of Reading c f.priority f.name f.full f.addresses f.parameters)
 unfolding judged_of
-judged-placed c f = go (eq f.priority 0) (name_of Reading c f.name) f.full refl refl
+judged-placed c f = go (eqb f.priority 0) (name_of Reading c f.name) f.full refl refl
   where
     tail : ℕ
     tail = tail_fault Reading (address_width c) f.addresses f.parameters
@@ -144,10 +144,10 @@ module _ {c : Carrier} {b : List ℕ} {f : Fields} (s : Sized c b f) where
 
       go : (x : Bool) → leb j.fault fault.priority ≡ x
           → cond x 0
-          (cond (eq j.fault fault.name) (name_at c m + j.place)
-          (cond (eq j.fault fault.addresses) (address_length_at c n)
-          (cond (eq j.fault fault.limit) (limit_at c n m)
-          (cond (eq j.fault fault.dropped) (addresses_at c n)
+          (cond (eqb j.fault fault.name) (name_at c m + j.place)
+          (cond (eqb j.fault fault.addresses) (address_length_at c n)
+          (cond (eqb j.fault fault.limit) (limit_at c n m)
+          (cond (eqb j.fault fault.dropped) (addresses_at c n)
           (parameters_at c n m + within))))) ≤ length b
       go true t = omega arith
       go false t =

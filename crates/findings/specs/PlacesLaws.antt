@@ -1,9 +1,9 @@
 -- Places by what stands in a body: one law for each way out of the code. Assumes nothing.
-use Rattle.std.specs.Prelude.{◌≡◌, Bool, true, false, ℕ, ◌+◌, ◌-◌, ◌*◌, ◌≤◌, ◌<◌, eq, length, get_or, take}
+use Rattle.std.specs.Prelude.{◌≡◌, Bool, true, false, ℕ, ◌+◌, ◌-◌, ◌*◌, ◌≤◌, ◌<◌, eqb, length, get_or, take}
 use Rattle.std.proofs.Common.{sym, ◌∙◌, add-one, arith, drop-cons}
 use Rattle.std.proofs.Math.Bool.{cond, and-false}
 use mathlib.Core.List.{List, []}
-use borrow.Author.Tests.{lt-ltb, le-ltb, le-leb, lt-leb, eq-eq, ne_eqb}
+use borrow.Author.Tests.{lt-ltb, le-ltb, le-leb, lt-leb, eq-eqb, ne_eqb}
 use Rattle.std.proofs.Math.ListN.{drop, drop_of_length-le}
 use Rattle.octets.specs.Cases.{by-test}
 use Rattle.octets.specs.Numbers.{at16}
@@ -64,11 +64,11 @@ module _ (k : ℕ) (b : List ℕ) where
     unfolding laid_place past_padding
     laid-past h =
         let none : drop from b ≡ [] = drop_of_length-le b {i = from} (omega arith) in
-        simp (eq-eq _ _ e, ← f, none) (omega arith)
+        simp (eq-eqb _ _ e, ← f, none) (omega arith)
 
     pub laid-padding : {n : ℕ} → n ≡ past_padding 0 (take (length b - from) (drop from b)) → from + n ≡ laid_place k b
     unfolding laid_place
-    laid-padding i = simp (eq-eq _ _ e, ← f, i, take_rest)
+    laid-padding i = simp (eq-eqb _ _ e, ← f, i, take_rest)
 
 -- ---- 21 to 28
 
@@ -108,7 +108,7 @@ module _ (c : Carrier) {text : Bool} (e : text ≡ as_text c) where
       module _ {i t : ℕ} (f : text ≡ false) (et : t ≡ lifetime_width c) (ei : i ≡ addresses_at c n) where
         pub parameters-wire : t ≡ 0 → i + m ≡ parameters_at c n m
         unfolding parameters_at
-        parameters-wire z = simp (is-text f, eq-eq _ _ (sym et ∙ z), ei) (omega arith)
+        parameters-wire z = simp (is-text f, eq-eqb _ _ (sym et ∙ z), ei) (omega arith)
 
         pub parameters-padded : (t ≡ 0 → ⊥) → i + m + 2 ≡ parameters_at c n m
         unfolding parameters_at
@@ -152,9 +152,9 @@ module _ (c : Carrier) where
   unfolding parameters_at
   parameters-small n m =
       let h = addresses-small n in
-      by-test (as_text c) (λ t. cond t (4 + m + n) (addresses_at c n + m + cond (eq (lifetime_width c) 0) 0 2) ≤ 12 + n + m)
+      by-test (as_text c) (λ t. cond t (4 + m + n) (addresses_at c n + m + cond (eqb (lifetime_width c) 0) 0 2) ≤ 12 + n + m)
       (λ _. omega arith)
-      (λ _. by-test (eq (lifetime_width c) 0) (λ t. addresses_at c n + m + cond t 0 2 ≤ 12 + n + m) (λ _. omega (arith, h)) (λ _. omega (arith, h)))
+      (λ _. by-test (eqb (lifetime_width c) 0) (λ t. addresses_at c n + m + cond t 0 2 ≤ 12 + n + m) (λ _. omega (arith, h)) (λ _. omega (arith, h)))
 
   pub limit-small : limit.addresses * address_width c ≤ 1008
   limit-small = let w = address-width c in omega arith
@@ -167,22 +167,22 @@ module _ (c : Carrier) (k n m place within : ℕ) where
   module _ (a : fault.priority < k) where
     pub place-name : {i : ℕ} → i ≡ name_at c m → k ≡ fault.name → i + place ≡ field_place c k n m place within
     unfolding field_place
-    place-name e h = simp (e, lt-leb _ _ a, eq-eq _ _ h)
+    place-name e h = simp (e, lt-leb _ _ a, eq-eqb _ _ h)
 
     module _ (b : k ≡ fault.name → ⊥) where
       pub place-length : {i : ℕ} → i ≡ address_length_at c n → k ≡ fault.addresses → i ≡ field_place c k n m place within
       unfolding field_place
-      place-length e h = simp (e, lt-leb _ _ a, ne_eqb _ _ b, eq-eq _ _ h)
+      place-length e h = simp (e, lt-leb _ _ a, ne_eqb _ _ b, eq-eqb _ _ h)
 
       module _ (d : k ≡ fault.addresses → ⊥) where
         pub place-limit : {i : ℕ} → i ≡ limit_at c n m → k ≡ fault.limit → i ≡ field_place c k n m place within
         unfolding field_place
-        place-limit e h = simp (e, lt-leb _ _ a, ne_eqb _ _ b, ne_eqb _ _ d, eq-eq _ _ h)
+        place-limit e h = simp (e, lt-leb _ _ a, ne_eqb _ _ b, ne_eqb _ _ d, eq-eqb _ _ h)
 
         module _ (g : k ≡ fault.limit → ⊥) where
           pub place-addresses : {i : ℕ} → i ≡ addresses_at c n → k ≡ fault.dropped → i ≡ field_place c k n m place within
           unfolding field_place
-          place-addresses e h = simp (e, lt-leb _ _ a, ne_eqb _ _ b, ne_eqb _ _ d, ne_eqb _ _ g, eq-eq _ _ h)
+          place-addresses e h = simp (e, lt-leb _ _ a, ne_eqb _ _ b, ne_eqb _ _ d, ne_eqb _ _ g, eq-eqb _ _ h)
 
           pub place-parameters : {i : ℕ} → i ≡ parameters_at c n m → (k ≡ fault.dropped → ⊥) → i + within ≡ field_place c k n m place within
           unfolding field_place

@@ -1,5 +1,5 @@
 -- A body that is laid out has its fields within it, and so every place that is told. Assumes nothing.
-use Rattle.std.specs.Prelude.{◌≡◌, refl, Bool, true, false, ◌⊎◌, List, [], ℕ, ◌+◌, ◌≤◌, eq, length}
+use Rattle.std.specs.Prelude.{◌≡◌, refl, Bool, true, false, ◌⊎◌, List, [], ℕ, ◌+◌, ◌≤◌, eqb, length}
 use Rattle.std.proofs.Common.{sym, ap, ◌∙◌, subst, true≢false, inl, inr, arith, length-append}
 use Rattle.std.proofs.Math.Bool.{cond}
 use Rattle.std.proofs.lemmas.Bool.{false≢true}
@@ -34,14 +34,14 @@ module _ (c : Carrier) where
   unfolding addresses_at parameters_at
   addresses-before n m =
       by-test (as_text c) (λ t. cond t 4 (address_length_at c n + length_width c) + m
-      ≤ cond t (4 + m + n) (cond t 4 (address_length_at c n + length_width c) + m + cond (eq (lifetime_width c) 0) 0 2)) (λ _. omega arith) (λ _. omega arith)
+      ≤ cond t (4 + m + n) (cond t 4 (address_length_at c n + length_width c) + m + cond (eqb (lifetime_width c) 0) 0 2)) (λ _. omega arith) (λ _. omega arith)
 
   -- and both parts before their end
   pub parts-before : (n m : ℕ) → n + m ≤ parameters_at c n m
   unfolding address_length_at addresses_at parameters_at
   parts-before n m =
       by-test (as_text c) (λ t. n + m
-      ≤ cond t (4 + m + n) (cond t 4 (cond t 2 (name_at c 0 + n) + length_width c) + m + cond (eq (lifetime_width c) 0) 0 2))
+      ≤ cond t (4 + m + n) (cond t 4 (cond t 2 (name_at c 0 + n) + length_width c) + m + cond (eqb (lifetime_width c) 0) 0 2))
       (λ _. omega arith) (λ _. omega arith)
 
 -- in carriers 1 and 2

@@ -1,6 +1,6 @@
 -- Where in a body its fault stands, and what is known of it beside its number (RULES R20 to R29). Places are counted from 0, in the body. Assumes nothing:
 -- these are definitions.
-use Rattle.std.specs.Prelude.{cond, ◌&&◌, List, [], ◌∷◌, ℕ, zero, suc, ◌+◌, ◌-◌, ◌*◌, ltb, leb, eq, length, take, drop}
+use Rattle.std.specs.Prelude.{cond, ◌&&◌, List, [], ◌∷◌, ℕ, zero, suc, ◌+◌, ◌-◌, ◌*◌, ltb, leb, eqb, length, take, drop}
 use Rattle.octets.specs.Numbers.{at16}
 use Rattle.numbers.specs.Fault as fault
 use Rattle.numbers.specs.Limit as limit
@@ -49,11 +49,11 @@ padding_at b =
 -- the first octet that padding cannot have: one that is not 0, or the eighth (RULES B7)
 unfoldable pub past_padding : ℕ → List ℕ → ℕ
 past_padding at [] = at
-past_padding at (x ∷ xs) = cond (eq x 0 && ltb at 7) (past_padding (at + 1) xs) at
+past_padding at (x ∷ xs) = cond (eqb x 0 && ltb at 7) (past_padding (at + 1) xs) at
 
 -- 20: the end of the body, where an octet is missing; 29: the first octet that is no padding
 unfoldable pub laid_place : ℕ → List ℕ → ℕ
-laid_place k b = cond (eq k fault.padding) (padding_at b + past_padding 0 (drop (padding_at b) b)) (length b)
+laid_place k b = cond (eqb k fault.padding) (padding_at b + past_padding 0 (drop (padding_at b) b)) (length b)
 
 -- ---- 21 to 28
 
@@ -67,7 +67,7 @@ addresses_at c n = cond (as_text c) 4 (address_length_at c n + length_width c)
 
 -- where the parameters begin, after m octets of addresses; carrier 3, which alone has a lifetime, has a length before them
 unfoldable pub parameters_at : Carrier → ℕ → ℕ → ℕ
-parameters_at c n m = cond (as_text c) (4 + m + n) (addresses_at c n + m + cond (eq (lifetime_width c) 0) 0 2)
+parameters_at c n m = cond (as_text c) (4 + m + n) (addresses_at c n + m + cond (eqb (lifetime_width c) 0) 0 2)
 
 -- 24: the first address too many, else the first octet of parameters too many (RULES L3, L4)
 unfoldable pub limit_at : Carrier → ℕ → ℕ → ℕ
@@ -79,15 +79,15 @@ limit_at c n m =
 unfoldable pub field_place : Carrier → ℕ → ℕ → ℕ → ℕ → ℕ → ℕ
 field_place c k n m place within =
     cond (leb k fault.priority) 0
-    (cond (eq k fault.name) (name_at c m + place)
-    (cond (eq k fault.addresses) (address_length_at c n)
-    (cond (eq k fault.limit) (limit_at c n m)
-    (cond (eq k fault.dropped) (addresses_at c n)
+    (cond (eqb k fault.name) (name_at c m + place)
+    (cond (eqb k fault.addresses) (address_length_at c n)
+    (cond (eqb k fault.limit) (limit_at c n m)
+    (cond (eqb k fault.dropped) (addresses_at c n)
     (parameters_at c n m + within)))))
 
 -- why the name is bad, of fault 22
 abbrev pub reason_of : Carrier → ℕ → List ℕ → ℕ → ℕ
-reason_of c k name place = cond (eq k fault.name) (name_reason (as_text c) name place) 0
+reason_of c k name place = cond (eqb k fault.name) (name_reason (as_text c) name place) 0
 
 -- of fields that are judged so
 unfoldable pub judged_trouble : Carrier → Fields → Judged → Trouble
@@ -108,7 +108,7 @@ trouble_of c b = on_parsed (parse c b) (λ k. plain k (laid_place k b)) (fields_
 
 -- further on by so many octets; where there is no fault, what follows
 unfoldable pub or_else : ℕ → Trouble → Trouble → Trouble
-or_else n t next = cond (eq t.fault 0) next (trouble t.fault (n + t.at) t.reason t.key)
+or_else n t next = cond (eqb t.fault 0) next (trouble t.fault (n + t.at) t.reason t.key)
 
 -- `l` begins with an instance at a place; `go k` is what follows the first octet of `l` and k more
 abbrev pub instance_trouble : ℕ → List ℕ → (ℕ → Trouble) → Trouble
@@ -123,4 +123,4 @@ instances_trouble zero at (x ∷ xs) = instance_trouble at (x ∷ xs) (λ k. ins
 instances_trouble (suc k) at (x ∷ xs) = instances_trouble k (at + 1) xs
 
 unfoldable pub joined_trouble : List ℕ → Trouble
-joined_trouble b = cond (eq (length b) 0) (plain fault.field 0) (instances_trouble 0 0 b)
+joined_trouble b = cond (eqb (length b) 0) (plain fault.field 0) (instances_trouble 0 0 b)

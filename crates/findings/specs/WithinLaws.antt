@@ -1,5 +1,5 @@
 -- Where the padding of a body of carrier 3 begins and where it is none, and that every place that is told is within its body. Assumes nothing.
-use Rattle.std.specs.Prelude.{◌≡◌, Bool, true, false, cond, ◌&&◌, ◌⊎◌, List, [], ◌∷◌, ltb, eq, get_or, drop}
+use Rattle.std.specs.Prelude.{◌≡◌, Bool, true, false, cond, ◌&&◌, ◌⊎◌, List, [], ◌∷◌, ltb, eqb, get_or, drop}
 use Rattle.std.proofs.Math.Path.{refl, ap, subst⁻¹}
 use Rattle.std.proofs.Common.{sym, ◌∙◌, subst, inl, inr, add-zero, arith, length-append, length-drop, drop-drop, drop_at, get_or-drop}
 use Prim.Native.Nat.{ℕ, ◌+◌, ◌-◌, ◌^◌, ◌≤◌, ◌<◌}
@@ -85,7 +85,7 @@ past-within : (at : ℕ) (l : List ℕ) → past_padding at l ≤ at + length l
 unfolding past_padding
 past-within at [] = omega arith
 past-within at (x ∷ xs) =
-    by-test (eq x 0 && ltb at 7) (λ t. cond t (past_padding (at + 1) xs) at ≤ at + length (x ∷ xs))
+    by-test (eqb x 0 && ltb at 7) (λ t. cond t (past_padding (at + 1) xs) at ≤ at + length (x ∷ xs))
     (λ _. omega (arith, past-within (at + 1) xs))
     (λ _. omega arith)
 

@@ -1,5 +1,5 @@
 -- What a C array is read as (docs/FORMS.md, "Lists"): the list between its braces, and what may follow them. Assumes nothing: these are definitions.
-use Rattle.std.specs.Prelude.{◌≡◌, Bool, true, false, cond, List, [], ◌∷◌, ◌++◌, ℕ, ◌+◌, ◌-◌, ◌*◌, ltb, leb, eq, length, take, drop}
+use Rattle.std.specs.Prelude.{◌≡◌, Bool, true, false, cond, List, [], ◌∷◌, ◌++◌, ℕ, ◌+◌, ◌-◌, ◌*◌, ltb, leb, eqb, length, take, drop}
 use Rattle.octets.specs.Numbers.{range}
 use Rattle.inputs.specs.Why as why
 use Rattle.inputs.specs.declared.Read.{Read}
@@ -23,7 +23,7 @@ letter x = cond (range 65 90 x) true (range 97 122 x)
 
 -- letters, digits, [, ] and _: of these and of blanks is the declaration of a length, up to its =
 unfoldable pub word : ℕ → Bool
-word x = cond (decimal x) true (cond (letter x) true (cond (eq x 91) true (cond (eq x 93) true (eq x 95))))
+word x = cond (decimal x) true (cond (letter x) true (cond (eqb x 91) true (cond (eqb x 93) true (eqb x 95))))
 
 -- ---- after the closing brace
 
@@ -53,33 +53,33 @@ digit_on x s = cond (ltb 65535 s.length) (but why.count s) (tail 4 (10 * s.lengt
 unfoldable pub digits : ℕ → ℕ → After → After
 digits x n s =
     cond (decimal x) (digit_on x s)
-    (cond (eq s.length n) (cond (blank x) (to 5 s) (awaited (eq x 59) 6 s)) (but why.count s))
+    (cond (eqb s.length n) (cond (blank x) (to 5 s) (awaited (eqb x 59) 6 s)) (but why.count s))
 
 -- before the length, at a character that is no blank
 unfoldable pub early : ℕ → After → After
 early x s =
-    cond (eq s.phase 0) (awaited (eq x 59) 1 s)
-    (cond (eq s.phase 1) (awaited (word x) 2 s)
-    (cond (word x) s (awaited (eq x 61) 3 s)))
+    cond (eqb s.phase 0) (awaited (eqb x 59) 1 s)
+    (cond (eqb s.phase 1) (awaited (word x) 2 s)
+    (cond (word x) s (awaited (eqb x 61) 3 s)))
 
 -- at the length and after it, at a character that is no blank
 unfoldable pub late : ℕ → After → After
 late x s =
-    cond (eq s.phase 3) (cond (decimal x) (digit_on x s) (but why.form s))
-    (cond (eq s.phase 5) (awaited (eq x 59) 6 s) (but why.form s))
+    cond (eqb s.phase 3) (cond (decimal x) (digit_on x s) (but why.form s))
+    (cond (eqb s.phase 5) (awaited (eqb x 59) 6 s) (but why.form s))
 
 unfoldable pub after : ℕ → ℕ → After → After
 after x n s =
-    cond (eq s.phase 4) (digits x n s)
+    cond (eqb s.phase 4) (digits x n s)
     (cond (blank x) s
     (cond (ltb s.phase 3) (early x s) (late x s)))
 
 -- at the end of the text
 unfoldable pub ended_of : ℕ → ℕ → After → Read
-ended_of at n s = cond (ltb s.phase 2) (Octets n) (cond (eq s.phase 6) (Octets n) (Bad at why.form))
+ended_of at n s = cond (ltb s.phase 2) (Octets n) (cond (eqb s.phase 6) (Octets n) (Bad at why.form))
 
 abbrev onward : After → ℕ → Read → Read
-onward s i next = cond (eq s.why 0) next (Bad i s.why)
+onward s i next = cond (eqb s.why 0) next (Bad i s.why)
 
 unfoldable pub tail_from : After → ℕ → ℕ → ℕ → List ℕ → Read
 tail_from s n size i [] = ended_of size n s

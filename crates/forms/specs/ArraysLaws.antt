@@ -1,8 +1,8 @@
 -- The laws of a C array: a digit of its length, what its characters from the i-th on come to, and the list between its braces. Assumes nothing.
-use Rattle.std.specs.Prelude.{◌≡◌, refl, Bool, true, false, cond, List, [], ◌∷◌, ◌++◌, ℕ, ◌+◌, ◌-◌, ◌*◌, ◌≤◌, ◌<◌, ltb, leb, eq, length, get_or, take, drop}
+use Rattle.std.specs.Prelude.{◌≡◌, refl, Bool, true, false, cond, List, [], ◌∷◌, ◌++◌, ℕ, ◌+◌, ◌-◌, ◌*◌, ◌≤◌, ◌<◌, ltb, leb, eqb, length, get_or, take, drop}
 use Rattle.std.proofs.Math.Path.{sym, ap}
 use Rattle.std.proofs.Common.{◌∙◌, arith, length-drop, length-take-le}
-use borrow.Author.Tests.{ltb-false, le-ltb, le-leb, lt-leb, eq-eq, ne_eqb}
+use borrow.Author.Tests.{ltb-false, le-ltb, le-leb, lt-leb, eq-eqb, ne_eqb}
 use Rattle.inputs.specs.Why as why
 use Rattle.inputs.specs.declared.Read.{Read}
 use Rattle.inputs.specs.declared.Read.TheVariants.{Octets, Bad, Long}
@@ -18,7 +18,7 @@ use Rattle.forms.specs.Arrays.{answer_of, closing, listed, read_of, left_of, Arr
 
 -- ---- a character
 
-pub word-last : (x : ℕ) → decimal x ≡ false → letter x ≡ false → (x ≡ 91 → ⊥) → (x ≡ 93 → ⊥) → eq x 95 ≡ word x
+pub word-last : (x : ℕ) → decimal x ≡ false → letter x ≡ false → (x ≡ 91 → ⊥) → (x ≡ 93 → ⊥) → eqb x 95 ≡ word x
 unfolding word
 word-last x d l a b = rw (d, l, ne_eqb x 91 a, ne_eqb x 93 b)
 
@@ -38,13 +38,13 @@ digit-more s x d h e = rw (le-ltb 65535 s.length h, e)
 
 -- the character that ends a declaration's words, and the one that ends its length
 module _ (s : After) (x : ℕ) where
-  pub early-equals : (s.phase ≡ 0 → ⊥) → (s.phase ≡ 1 → ⊥) → word x ≡ false → awaited (eq x 61) 3 s ≡ early x s
+  pub early-equals : (s.phase ≡ 0 → ⊥) → (s.phase ≡ 1 → ⊥) → word x ≡ false → awaited (eqb x 61) 3 s ≡ early x s
   unfolding early
   early-equals a b w = rw (ne_eqb s.phase 0 a, ne_eqb s.phase 1 b, w)
 
-  pub late-close : (s.phase ≡ 3 → ⊥) → s.phase ≡ 5 → awaited (eq x 59) 6 s ≡ late x s
+  pub late-close : (s.phase ≡ 3 → ⊥) → s.phase ≡ 5 → awaited (eqb x 59) 6 s ≡ late x s
   unfolding late
-  late-close a b = rw (ne_eqb s.phase 3 a, eq-eq s.phase 5 b)
+  late-close a b = rw (ne_eqb s.phase 3 a, eq-eqb s.phase 5 b)
 
 pub tail-start : (t : List ℕ) (i n : ℕ) → tail_from begun n (length t) i (drop i (t ++ (10 ∷ []))) ≡ tail_of i n t
 unfolding tail_of
@@ -58,7 +58,7 @@ module _ (t : List ℕ) (i n : ℕ) (s s' : After) (e : s' ≡ after (get_or t i
   pub tail-later : i ≤ length t → s'.why ≡ 0
       → tail_from s' n (length t) (i + 1) (drop (i + 1) (t ++ (10 ∷ []))) ≡ tail_from s n (length t) i (drop i (t ++ (10 ∷ [])))
   unfolding tail_from
-  tail-later h w = rw (closed-cons t i h, sym e, eq-eq s'.why 0 w)
+  tail-later h w = rw (closed-cons t i h, sym e, eq-eqb s'.why 0 w)
 
 pub tail-end : (t : List ℕ) (i n : ℕ) (s : After) → length t < i → tail_from s n (length t) i (drop i (t ++ (10 ∷ []))) ≡ ended_of (length t) n s
 unfolding tail_from

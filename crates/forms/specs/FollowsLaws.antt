@@ -1,10 +1,10 @@
 -- A C array is read as octets only where nothing else follows its closing brace than `Follows` says: nothing that stands there is passed over. Assumes nothing.
 use Rattle.std.proofs.Math.Path.{◌≡◌, refl}
-use Rattle.std.proofs.Common.{sym, arith, eq-true, leb-false}
+use Rattle.std.proofs.Common.{sym, arith, eqb-true, leb-false}
 use Rattle.std.specs.Prelude.{Bool, ℕ, ◌+◌, ◌-◌, ◌*◌, ◌<◌, ltb, leb, length, drop}
 use Rattle.std.proofs.Math.Bool.{true, false, cond}
 use mathlib.Core.List.{List, [], ◌∷◌, ◌++◌}
-use Rattle.std.proofs.Math.Dec.{eq}
+use Rattle.std.proofs.Math.Dec.{eqb}
 use Rattle.std.proofs.lemmas.List.{drop-append-le}
 use Rattle.inputs.specs.Why as why
 use Rattle.inputs.specs.declared.Read.{Read}
@@ -27,7 +27,7 @@ module _ (n size m : ℕ) where
 
   -- the same after a character that led to s: of all that is left, and of the characters before the line break
   abbrev Arrived : ℕ → List ℕ → After → Type 0
-  Arrived i t s = cond (eq s.why 0) (tail_from s n size (i + 1) t) (Bad i s.why) ≡ Octets m
+  Arrived i t s = cond (eqb s.why 0) (tail_from s n size (i + 1) t) (Bad i s.why) ≡ Octets m
 
   abbrev Stepped : ℕ → List ℕ → After → Type 0
   Stepped i t s = Arrived i (t ++ (10 ∷ [])) s
@@ -45,33 +45,33 @@ module _ (n size m : ℕ) where
   closes : (t : List ℕ) (l i : ℕ) → ReadOn (tail 5 l 0) i t → Spaced Closed t
   unfolding tail_from after late blank ended_of
   closes [] l i e = refused e
-  closes (x ∷ t) l i e = go (closes t l (i + 1)) (blank x) refl (eq x 59) refl e
+  closes (x ∷ t) l i e = go (closes t l (i + 1)) (blank x) refl (eqb x 59) refl e
     where
-      go : (ReadOn (tail 5 l 0) (i + 1) t → Spaced Closed t) → (b : Bool) → blank x ≡ b → (c : Bool) → eq x 59 ≡ c
+      go : (ReadOn (tail 5 l 0) (i + 1) t → Spaced Closed t) → (b : Bool) → blank x ≡ b → (c : Bool) → eqb x 59 ≡ c
           → Stepped i t (cond b (tail 5 l 0) (awaited c 6 (tail 5 l 0))) → Spaced Closed (x ∷ t)
       go more true p c q r = blanks p (more r)
-      go more false p true q r = here (close (eq-true x 59 q) (ends t l (i + 1) r))
+      go more false p true q r = here (close (eqb-true x 59 q) (ends t l (i + 1) r))
       go more false p false q r = refused r
 
   counts : (t : List ℕ) (l i : ℕ) → ReadOn (tail 4 l 0) i t → Digits n l t
   unfolding tail_from after digits digit_on blank decimal ended_of
-  counts [] l i e = go (eq l n) e
+  counts [] l i e = go (eqb l n) e
     where
       go : (k : Bool) → Arrived i [] (cond k (tail 5 l 0) (but why.count (tail 4 l 0))) → Digits n l []
       go true r = refused r
       go false r = refused r
-  counts (x ∷ t) l i e = go (counts t (10 * l + (x - 48)) (i + 1)) (decimal x) refl (ltb 65535 l) (eq l n) refl (blank x) refl (eq x 59) refl e
+  counts (x ∷ t) l i e = go (counts t (10 * l + (x - 48)) (i + 1)) (decimal x) refl (ltb 65535 l) (eqb l n) refl (blank x) refl (eqb x 59) refl e
     where
       go : (ReadOn (tail 4 (10 * l + (x - 48)) 0) (i + 1) t → Digits n (10 * l + (x - 48)) t)
-          → (d : Bool) → decimal x ≡ d → (o : Bool) → (k : Bool) → eq l n ≡ k → (b : Bool) → blank x ≡ b → (c : Bool) → eq x 59 ≡ c
+          → (d : Bool) → decimal x ≡ d → (o : Bool) → (k : Bool) → eqb l n ≡ k → (b : Bool) → blank x ≡ b → (c : Bool) → eqb x 59 ≡ c
           → Stepped i t
           (cond d (cond o (but why.count (tail 4 l 0)) (tail 4 (10 * l + (x - 48)) 0))
           (cond k (cond b (tail 5 l 0) (awaited c 6 (tail 4 l 0))) (but why.count (tail 4 l 0))))
           → Digits n l (x ∷ t)
       go more true p true k q b u c v r = refused r
       go more true p false k q b u c v r = digit p (more r)
-      go more false p o true q true u c v r = all (eq-true l n q) (blanks u (closes t l (i + 1) r))
-      go more false p o true q false u true v r = all (eq-true l n q) (here (close (eq-true x 59 v) (ends t l (i + 1) r)))
+      go more false p o true q true u c v r = all (eqb-true l n q) (blanks u (closes t l (i + 1) r))
+      go more false p o true q false u true v r = all (eqb-true l n q) (here (close (eqb-true x 59 v) (ends t l (i + 1) r)))
       go more false p o true q false u false v r = refused r
       go more false p o false q b u c v r = refused r
 
@@ -89,13 +89,13 @@ module _ (n size m : ℕ) where
   words : (t : List ℕ) (i : ℕ) → ReadOn (tail 2 0 0) i t → Words n t
   unfolding tail_from after early blank ended_of
   words [] i e = refused e
-  words (x ∷ t) i e = go (words t (i + 1)) (blank x) refl (word x) refl (eq x 61) refl e
+  words (x ∷ t) i e = go (words t (i + 1)) (blank x) refl (word x) refl (eqb x 61) refl e
     where
-      go : (ReadOn (tail 2 0 0) (i + 1) t → Words n t) → (b : Bool) → blank x ≡ b → (d : Bool) → word x ≡ d → (c : Bool) → eq x 61 ≡ c
+      go : (ReadOn (tail 2 0 0) (i + 1) t → Words n t) → (b : Bool) → blank x ≡ b → (d : Bool) → word x ≡ d → (c : Bool) → eqb x 61 ≡ c
           → Stepped i t (cond b (tail 2 0 0) (cond d (tail 2 0 0) (awaited c 3 (tail 2 0 0)))) → Words n (x ∷ t)
       go more true p d q c u r = space p (more r)
       go more false p true q c u r = letter q (more r)
-      go more false p false q true u r = equals (eq-true x 61 u) (numbers t (i + 1) r)
+      go more false p false q true u r = equals (eqb-true x 61 u) (numbers t (i + 1) r)
       go more false p false q false u r = refused r
 
   declares : (t : List ℕ) (i : ℕ) → ReadOn (tail 1 0 0) i t → Spaced (Declared n) t
@@ -112,24 +112,24 @@ module _ (n size m : ℕ) where
   follows : (t : List ℕ) (i : ℕ) → ReadOn begun i t → Follows n t
   unfolding tail_from after early
   follows [] i e = here nothing
-  follows (x ∷ t) i e = go (follows t (i + 1)) (blank x) refl (eq x 59) refl e
+  follows (x ∷ t) i e = go (follows t (i + 1)) (blank x) refl (eqb x 59) refl e
     where
-      go : (ReadOn begun (i + 1) t → Follows n t) → (b : Bool) → blank x ≡ b → (c : Bool) → eq x 59 ≡ c
+      go : (ReadOn begun (i + 1) t → Follows n t) → (b : Bool) → blank x ≡ b → (c : Bool) → eqb x 59 ≡ c
           → Stepped i t (cond b begun (awaited c 1 begun)) → Follows n (x ∷ t)
       go more true p c q r = blanks p (more r)
-      go more false p true q r = here (semicolon (eq-true x 59 q) (declares t (i + 1) r))
+      go more false p true q r = here (semicolon (eqb-true x 59 q) (declares t (i + 1) r))
       go more false p false q r = refused r
 
   -- the octets are those of the list
   counted : (t : List ℕ) (s : After) (i : ℕ) → tail_from s n size i t ≡ Octets m → n ≡ m
   unfolding tail_from ended_of
-  counted [] s i e = go (ltb s.phase 2) (eq s.phase 6) e
+  counted [] s i e = go (ltb s.phase 2) (eqb s.phase 6) e
     where
       go : (a b : Bool) → cond a (Octets n) (cond b (Octets n) (Bad size why.form)) ≡ Octets m → n ≡ m
       go true b r = cc
       go false true r = cc
       go false false r = refused r
-  counted (x ∷ t) s i e = go (counted t (after x n s) (i + 1)) (eq (after x n s).why 0) e
+  counted (x ∷ t) s i e = go (counted t (after x n s) (i + 1)) (eqb (after x n s).why 0) e
     where
       go : (tail_from (after x n s) n size (i + 1) t ≡ Octets m → n ≡ m)
           → (a : Bool) → cond a (tail_from (after x n s) n size (i + 1) t) (Bad i (after x n s).why) ≡ Octets m → n ≡ m

@@ -1,9 +1,9 @@
 -- A C array is read as the octets of its list where only what `Follows` says stands after its closing brace. Assumes nothing.
-use Rattle.std.specs.Prelude.{◌≡◌, Bool, true, false, cond, List, [], ◌∷◌, ◌++◌, ℕ, ◌+◌, ◌-◌, ◌*◌, ◌≤◌, eq, length}
+use Rattle.std.specs.Prelude.{◌≡◌, Bool, true, false, cond, List, [], ◌∷◌, ◌++◌, ℕ, ◌+◌, ◌-◌, ◌*◌, ◌≤◌, eqb, length}
 use Rattle.std.proofs.Math.Path.{refl}
 use Rattle.std.proofs.Common.{sym, ap, ◌∙◌, arith}
 use Rattle.std.proofs.Math.Bool.{false≢true}
-use borrow.Author.Tests.{eq-true, eq-eq, le-ltb, lt-leb}
+use borrow.Author.Tests.{eqb-true, eq-eqb, le-ltb, lt-leb}
 use Rattle.std.proofs.lemmas.List.{drop-append-le}
 use Rattle.inputs.specs.declared.Read.TheVariants.{Octets}
 use Rattle.forms.specs.declared.array.After.{After}
@@ -16,14 +16,14 @@ use Rattle.forms.specs.Follows.{Spaced, here, blanks, Ended, Closed, Digits, Cou
 -- a blank is no digit, and stands in no word
 blank-other : (x : ℕ) → blank x ≡ true → (decimal x ≡ false) × (word x ≡ false)
 unfolding blank decimal word letter
-blank-other x = go (eq x 32) refl (eq x 9) refl (eq x 13) refl (eq x 10) refl
+blank-other x = go (eqb x 32) refl (eqb x 9) refl (eqb x 13) refl (eqb x 10) refl
   where
-    go : (a : Bool) → eq x 32 ≡ a → (b : Bool) → eq x 9 ≡ b → (c : Bool) → eq x 13 ≡ c → (d : Bool) → eq x 10 ≡ d
+    go : (a : Bool) → eqb x 32 ≡ a → (b : Bool) → eqb x 9 ≡ b → (c : Bool) → eqb x 13 ≡ c → (d : Bool) → eqb x 10 ≡ d
         → cond a true (cond b true (cond c true d)) ≡ true → (decimal x ≡ false) × (word x ≡ false)
-    go true p b q c r d s e = rw (eq-true x 32 p) (refl, refl)
-    go false p true q c r d s e = rw (eq-true x 9 q) (refl, refl)
-    go false p false q true r d s e = rw (eq-true x 13 r) (refl, refl)
-    go false p false q false r true s e = rw (eq-true x 10 s) (refl, refl)
+    go true p b q c r d s e = rw (eqb-true x 32 p) (refl, refl)
+    go false p true q c r d s e = rw (eqb-true x 9 q) (refl, refl)
+    go false p false q true r d s e = rw (eqb-true x 13 r) (refl, refl)
+    go false p false q false r true s e = rw (eqb-true x 10 s) (refl, refl)
     go false p false q false r false s e = absurd (false≢true e)
 
 module _ (x : ℕ) where
@@ -61,7 +61,7 @@ module _ (n size : ℕ) (few : n ≤ 65535) where
   step p l i s x t e r = rw e r
 
   -- blanks stay, but for those after the length
-  stays : (p l x : ℕ) → eq p 4 ≡ false → blank x ≡ true → after x n (tail p l 0) ≡ tail p l 0
+  stays : (p l x : ℕ) → eqb p 4 ≡ false → blank x ≡ true → after x n (tail p l 0) ≡ tail p l 0
   unfolding after
   stays p l x e b = rw (e, b)
 
@@ -80,11 +80,11 @@ module _ (n size : ℕ) (few : n ≤ 65535) where
 
   count-close : (x l : ℕ) → l ≡ n → x ≡ 59 → after x n (tail 4 l 0) ≡ tail 6 l 0
   unfolding after digits blank decimal
-  count-close x l e f = rw (f, eq-eq l n e)
+  count-close x l e f = rw (f, eq-eqb l n e)
 
   count-blank : (x l : ℕ) → l ≡ n → blank x ≡ true → after x n (tail 4 l 0) ≡ tail 5 l 0
   unfolding after digits
-  count-blank x l e p = rw ((blank-other x p).0, eq-eq l n e, p)
+  count-blank x l e p = rw ((blank-other x p).0, eq-eqb l n e, p)
 
   count-digit : (x l : ℕ) → l ≤ 65535 → decimal x ≡ true → after x n (tail 4 l 0) ≡ tail 4 (10 * l + (x - 48)) 0
   unfolding after digits digit_on

@@ -1,6 +1,6 @@
 -- What a text is read as (docs/COMMAND.md, "Input"): in the form that its front shows; or, where that is a list and the text leaves it on its first line, as
 -- a dump after a packet's head, or as an array. Assumes nothing: these are definitions.
-use Rattle.std.specs.Prelude.{◌≡◌, Bool, true, false, cond, List, ℕ, ◌+◌, ltb, leb, eq, length, drop}
+use Rattle.std.specs.Prelude.{◌≡◌, Bool, true, false, cond, List, ℕ, ◌+◌, ltb, leb, eqb, length, drop}
 use Rattle.inputs.specs.Why as why
 use Rattle.inputs.specs.declared.Read.{Read}
 use Rattle.inputs.specs.declared.Read.TheVariants.{Octets, Bad, Long}
@@ -26,10 +26,10 @@ colon d p = record { digits = d; prefix = p; colon = true; pairs = true; opening
 -- Wireshark and tshark -x; od -Ax -tx1, with z > and <; hexdump -C, with |; xxd; tcpdump -x
 unfoldable pub style_of : ℕ → Style
 style_of f =
-    cond (eq f 7) (bare 4 0 0 false false)
-    (cond (eq f 8) (bare 6 62 60 false true)
-    (cond (eq f 9) (bare 8 124 124 true true)
-    (cond (eq f 10) (colon 8 false) (colon 4 true))))
+    cond (eqb f 7) (bare 4 0 0 false false)
+    (cond (eqb f 8) (bare 6 62 60 false true)
+    (cond (eqb f 9) (bare 8 124 124 true true)
+    (cond (eqb f 10) (colon 8 false) (colon 4 true))))
 
 abbrev pub marked : ℕ → Bool → Kind
 marked m s = record { prefix = false; mark = m; marked = true; single = s; lines = false; whole = false }
@@ -37,10 +37,10 @@ marked m s = record { prefix = false; mark = m; marked = true; single = s; lines
 -- colons, commas, dashes, 0x; blanks
 unfoldable pub kind_of : ℕ → Kind
 kind_of f =
-    cond (eq f 2) (marked 58 true)
-    (cond (eq f 3) (marked 44 false)
-    (cond (eq f 4) (marked 45 false)
-    (cond (eq f 5)
+    cond (eqb f 2) (marked 58 true)
+    (cond (eqb f 3) (marked 44 false)
+    (cond (eqb f 4) (marked 45 false)
+    (cond (eqb f 5)
     (record { prefix = true; mark = 44; marked = false; single = true; lines = false; whole = true })
     (record { prefix = false; mark = 0; marked = false; single = false; lines = true; whole = false }))))
 
@@ -71,7 +71,7 @@ of_dumps e = answer e.read e.out
 unfoldable pub as_of : ℕ → List ℕ → List ℕ → Answer
 as_of f t out =
     cond (ltb f 6) (of_groups (groups.read_of (kind_of f) t out))
-    (cond (eq f 6) (of_escapes (escapes.read_of t out)) (of_dumps (dumps.read_of (style_of f) t out)))
+    (cond (eqb f 6) (of_escapes (escapes.read_of t out)) (of_dumps (dumps.read_of (style_of f) t out)))
 
 -- a list, and no dump
 unfoldable pub list_of : List ℕ → List ℕ → Answer
@@ -96,7 +96,7 @@ after k e = answer (shifted k e.read) e.out
 abbrev pub packed : ℕ → ℕ → ℕ → ℕ → List ℕ → List ℕ → Answer
 packed k end at w t out =
     cond (leb k end) (braced_of at w t out)
-    (cond (eq k (length t)) (braced_of at w t out) (after k (dumps.read_of (style_of 11) (drop k t) out)))
+    (cond (eqb k (length t)) (braced_of at w t out) (after k (dumps.read_of (style_of 11) (drop k t) out)))
 
 -- where the first line ends that is not blank
 abbrev pub line_end : List ℕ → ℕ

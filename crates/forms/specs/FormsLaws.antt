@@ -2,7 +2,7 @@
 use Rattle.std.specs.Prelude.{◌≡◌, refl, List, ℕ, ◌+◌, ◌-◌, ◌≤◌, ◌<◌, length, take, drop}
 use Rattle.std.proofs.Math.Path.{sym, ap}
 use Rattle.std.proofs.Common.{◌∙◌, arith, length-drop}
-use borrow.Author.Tests.{lt-ltb, le-ltb, le-leb, lt-leb, eq-eq, ne_eqb}
+use borrow.Author.Tests.{lt-ltb, le-ltb, le-leb, lt-leb, eq-eqb, ne_eqb}
 use Rattle.octets.specs.ListsLaws.{take_rest}
 use Rattle.inputs.specs.Why as why
 use Rattle.inputs.specs.declared.Read.{Read}
@@ -94,7 +94,7 @@ module _ (at w : ℕ) (t out : List ℕ) (end : ℕ) (e : end ≡ line_end t) wh
     module _ (m : end < k) where
       pub headed-none : {r : Read} {out' : List ℕ} → k ≡ length t → Answered (braced_of at w t out) r out' → Answered (headed_of at w t out) r out'
       headed-none h g =
-          let q : braced_of at w t out ≡ packed k end at w t out = rw (lt-leb k end m, eq-eq k (length t) h) in
+          let q : braced_of at w t out ≡ packed k end at w t out = rw (lt-leb k end m, eq-eqb k (length t) h) in
           answered-as (q ∙ headed-packed) g
 
       module _ {s : Style} {r : Read} {out' : List ℕ} (n : k ≡ length t → ⊥) (g : s ≡ style_of 11)

@@ -1,20 +1,20 @@
 -- Which form the front of a text shows (docs/COMMAND.md, "Input"), in the code's order of tests. The forms: lists with blanks 1, colons 2, commas 3, dashes 4,
 -- 0x before each group 5, \\x before each octet 6; dumps of Wireshark 7, od 8, hexdump 9, xxd 10, tcpdump 11. Assumes nothing: these are definitions.
-use Rattle.std.specs.Prelude.{Bool, true, false, cond, List, [], ◌∷◌, ◌++◌, ℕ, ◌+◌, ltb, eq}
+use Rattle.std.specs.Prelude.{Bool, true, false, cond, List, [], ◌∷◌, ◌++◌, ℕ, ◌+◌, ltb, eqb}
 use Rattle.hexes.specs.Hexes.{digit}
 use Rattle.forms.specs.declared.front.Front.{Front}
 
 -- a blank within a line
 unfoldable pub gap : ℕ → Bool
-gap x = cond (eq x 32) true (cond (eq x 9) true (eq x 13))
+gap x = cond (eqb x 32) true (cond (eqb x 9) true (eqb x 13))
 
 -- the form of a list by a character that is neither a digit nor a blank
 unfoldable pub marked : ℕ → ℕ
-marked x = cond (eq x 58) 2 (cond (eq x 44) 3 (cond (eq x 45) 4 1))
+marked x = cond (eqb x 58) 2 (cond (eqb x 44) 3 (cond (eqb x 45) 4 1))
 
 -- the form of a dump by the digits of its offset; with others it is a list with blanks
 unfoldable pub dumped : ℕ → ℕ
-dumped d = cond (eq d 4) 7 (cond (eq d 6) 8 (cond (eq d 8) 9 1))
+dumped d = cond (eqb d 4) 7 (cond (eqb d 6) 8 (cond (eqb d 8) 9 1))
 
 -- ---- what has been seen
 
@@ -34,7 +34,7 @@ is f s = front s.phase s.digits s.zero s.second f
 
 -- a character of a list
 unfoldable pub list : ℕ → Front → Front
-list x s = cond (digit x) (to 6 s) (cond (gap x) (to 6 s) (cond (eq x 10) (to 6 s) (is (marked x) s)))
+list x s = cond (digit x) (to 6 s) (cond (gap x) (to 6 s) (cond (eqb x 10) (to 6 s) (is (marked x) s)))
 
 -- before the first group
 abbrev beginning : Bool → Front → Front
@@ -42,14 +42,14 @@ beginning z s = front 1 1 z s.second s.form
 
 unfoldable pub lead : ℕ → Front → Front
 lead x s =
-    cond (digit x) (beginning (eq x 48) s)
+    cond (digit x) (beginning (eqb x 48) s)
     (cond (gap x) s
-    (cond (eq x 10) s
-    (cond (eq x 92) (is 6 s) (cond (eq x 34) (is 6 s) (is 1 s)))))
+    (cond (eqb x 10) s
+    (cond (eqb x 92) (is 6 s) (cond (eqb x 34) (is 6 s) (is 1 s)))))
 
 -- an x after the first group: its 0 was that of 0x
 unfoldable pub ex : Front → Front
-ex s = cond s.zero (cond (eq s.digits 1) (to 2 s) (is 1 s)) (is 1 s)
+ex s = cond s.zero (cond (eqb s.digits 1) (to 2 s) (is 1 s)) (is 1 s)
 
 -- one digit more of the first group; they are counted to 9
 unfoldable pub digit_on : Front → Front
@@ -58,17 +58,17 @@ digit_on s = cond (ltb s.digits 9) (front s.phase (s.digits + 1) s.zero s.second
 unfoldable pub first : ℕ → Front → Front
 first x s =
     cond (digit x) (digit_on s)
-    (cond (eq x 120) (ex s)
-    (cond (eq x 88) (ex s)
-    (cond (eq x 58) (to 3 s) (cond (gap x) (to 4 s) (list x s)))))
+    (cond (eqb x 120) (ex s)
+    (cond (eqb x 88) (ex s)
+    (cond (eqb x 58) (to 3 s) (cond (gap x) (to 4 s) (list x s)))))
 
 -- after 0x: an offset, where a colon follows its digits
 unfoldable pub prefix : ℕ → Front → Front
-prefix x s = cond (digit x) s (cond (eq x 58) (is 11 s) (is 5 s))
+prefix x s = cond (digit x) s (cond (eqb x 58) (is 11 s) (is 5 s))
 
 -- after the colon: the first group was an offset of 8 digits, where no digit follows
 unfoldable pub colon : ℕ → Front → Front
-colon x s = cond (eq s.digits 8) (cond (digit x) (is 2 s) (is 10 s)) (is 2 s)
+colon x s = cond (eqb s.digits 8) (cond (digit x) (is 2 s) (is 10 s)) (is 2 s)
 
 -- after the first group and a blank
 unfoldable pub gap_on : ℕ → Front → Front
@@ -78,16 +78,16 @@ gap_on x s = cond (digit x) (front 5 s.digits s.zero 1 s.form) (cond (gap x) s (
 unfoldable pub second_on : ℕ → Front → Front
 second_on x s =
     cond (digit x)
-    (cond (eq s.second 1) (front s.phase s.digits s.zero 2 s.form) (is 1 s))
-    (cond (eq s.second 1) (is 1 s) (is (dumped s.digits) s))
+    (cond (eqb s.second 1) (front s.phase s.digits s.zero 2 s.form) (is 1 s))
+    (cond (eqb s.second 1) (is 1 s) (is (dumped s.digits) s))
 
 -- ---- by where it stands
 
 unfoldable pub early : ℕ → Front → Front
-early x s = cond (eq s.phase 0) (lead x s) (cond (eq s.phase 1) (first x s) (prefix x s))
+early x s = cond (eqb s.phase 0) (lead x s) (cond (eqb s.phase 1) (first x s) (prefix x s))
 
 unfoldable pub late : ℕ → Front → Front
-late x s = cond (eq s.phase 3) (colon x s) (cond (eq s.phase 4) (gap_on x s) (cond (eq s.phase 5) (second_on x s) (list x s)))
+late x s = cond (eqb s.phase 3) (colon x s) (cond (eqb s.phase 4) (gap_on x s) (cond (eqb s.phase 5) (second_on x s) (list x s)))
 
 unfoldable pub after : ℕ → Front → Front
 after x s = cond (ltb s.phase 3) (early x s) (late x s)
@@ -95,7 +95,7 @@ after x s = cond (ltb s.phase 3) (early x s) (late x s)
 -- ---- a text, and a line break after it
 
 abbrev told : Front → ℕ → ℕ
-told s next = cond (eq s.form 0) next s.form
+told s next = cond (eqb s.form 0) next s.form
 
 unfoldable pub form_from : Front → List ℕ → ℕ
 form_from s [] = 1

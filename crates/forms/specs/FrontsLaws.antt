@@ -2,7 +2,7 @@
 use Rattle.std.specs.Prelude.{◌≡◌, refl, true, false, List, [], ◌∷◌, ◌++◌, ◌⊎◌, ℕ, ◌+◌, ◌≤◌, ◌<◌, length, get_or, drop}
 use Rattle.std.proofs.Math.Path.{sym}
 use Rattle.std.proofs.Common.{inl, inr}
-use borrow.Author.Tests.{eq-eq, ne_eqb}
+use borrow.Author.Tests.{eq-eqb, ne_eqb}
 use Rattle.inputs.specs.TextLaws.{closed-cons, closed-end}
 use Rattle.forms.specs.declared.front.Front.{Front}
 use Rattle.forms.specs.Fronts.{begun, is, ex, after, form_from, form_of}
@@ -22,7 +22,7 @@ module _ (t : List ℕ) (i : ℕ) (s s' : Front) (e : s' ≡ after (get_or t i 1
   -- it is not
   pub form-later : i ≤ length t → s'.form ≡ 0 → form_from s' (drop (i + 1) (t ++ (10 ∷ []))) ≡ form_from s (drop i (t ++ (10 ∷ [])))
   unfolding form_from
-  form-later h n = rw (closed-cons t i h, sym e, eq-eq s'.form 0 n)
+  form-later h n = rw (closed-cons t i h, sym e, eq-eqb s'.form 0 n)
 
 pub form-none : (t : List ℕ) (i : ℕ) (s : Front) → length t < i → form_from s (drop i (t ++ (10 ∷ []))) ≡ 1
 unfolding form_from

@@ -1,22 +1,22 @@
 -- Places in a text: what is looked for stands at an index, or nowhere, which is the text's length. Assumes nothing: these are definitions.
-use Rattle.std.specs.Prelude.{Bool, true, false, cond, List, [], ◌∷◌, ℕ, ◌+◌, ltb, eq, length, get_or}
+use Rattle.std.specs.Prelude.{Bool, true, false, cond, List, [], ◌∷◌, ℕ, ◌+◌, ltb, eqb, length, get_or}
 use Rattle.hexes.specs.Hexes.{digit}
 
 -- ---- characters
 
 unfoldable pub blank : ℕ → Bool
-blank x = cond (eq x 32) true (cond (eq x 9) true (cond (eq x 13) true (eq x 10)))
+blank x = cond (eqb x 32) true (cond (eqb x 9) true (cond (eqb x 13) true (eqb x 10)))
 
 -- x stands in no text; a terminal's colours (escape) and page breaks (form feed) do
 unfoldable pub control : ℕ → Bool
-control x = cond (blank x) false (cond (eq x 27) false (cond (eq x 12) false (cond (eq x 127) true (ltb x 32))))
+control x = cond (blank x) false (cond (eqb x 27) false (cond (eqb x 12) false (cond (eqb x 127) true (ltb x 32))))
 
 -- a byte order mark of 16-bit characters
 unfoldable pub wide_text : List ℕ → Bool
 wide_text t =
     cond (ltb (length t) 2) false
-    (cond (eq (get_or t 0 0) 255) (eq (get_or t 1 0) 254)
-    (cond (eq (get_or t 0 0) 254) (eq (get_or t 1 0) 255) false))
+    (cond (eqb (get_or t 0 0) 255) (eqb (get_or t 1 0) 254)
+    (cond (eqb (get_or t 0 0) 254) (eqb (get_or t 1 0) 255) false))
 
 unfoldable pub uncontrolled : List ℕ → Bool
 uncontrolled [] = true
@@ -30,7 +30,7 @@ textual_of t = cond (wide_text t) true (uncontrolled t)
 
 unfoldable pub place_of : ℕ → ℕ → List ℕ → ℕ
 place_of x i [] = i
-place_of x i (y ∷ ys) = cond (eq y x) i (place_of x (i + 1) ys)
+place_of x i (y ∷ ys) = cond (eqb y x) i (place_of x (i + 1) ys)
 
 -- the first character that is no blank
 unfoldable pub begin_of : ℕ → List ℕ → ℕ
@@ -41,7 +41,7 @@ begin_of i (y ∷ ys) = cond (blank y) (begin_of (i + 1) ys) i
 unfoldable pub brace_from : ℕ → ℕ → ℕ → List ℕ → ℕ
 brace_from size last i [] = i
 brace_from size last i (y ∷ ys) =
-    cond (eq y 123) (cond (eq last 61) i size) (cond (blank y) (brace_from size last (i + 1) ys) (brace_from size y (i + 1) ys))
+    cond (eqb y 123) (cond (eqb last 61) i size) (cond (blank y) (brace_from size last (i + 1) ys) (brace_from size y (i + 1) ys))
 
 abbrev pub brace_of : List ℕ → ℕ
 brace_of t = brace_from (length t) 61 0 t
@@ -53,7 +53,7 @@ unfoldable pub line_from : ℕ → ℕ → ℕ → ℕ → List ℕ → ℕ
 line_from at line breaks i [] = line
 line_from at line breaks i (y ∷ ys) =
     cond (ltb at i) line
-    (cond (eq y 10) (line_from at line (breaks + 1) (i + 1) ys)
+    (cond (eqb y 10) (line_from at line (breaks + 1) (i + 1) ys)
     (cond (blank y) (line_from at line breaks (i + 1) ys) (line_from at (line + breaks) 0 (i + 1) ys)))
 
 abbrev pub line_of : ℕ → List ℕ → ℕ
@@ -63,24 +63,24 @@ line_of at t = line_from at 1 0 0 t
 
 -- what a line begins with after blanks: nothing yet 0, a 0 1, 0x and digits 2, these and a colon 3, anything else 4
 unfoldable pub begins_offset : ℕ → ℕ
-begins_offset x = cond (eq x 58) 3 (cond (digit x) 2 4)
+begins_offset x = cond (eqb x 58) 3 (cond (digit x) 2 4)
 
 unfoldable pub begins_line : ℕ → ℕ
-begins_line x = cond (eq x 48) 1 (cond (blank x) 0 4)
+begins_line x = cond (eqb x 48) 1 (cond (blank x) 0 4)
 
 unfoldable pub begins_with : ℕ → ℕ → ℕ
 begins_with k x =
-    cond (eq x 10) 0
-    (cond (eq k 0) (begins_line x)
-    (cond (eq k 2) (begins_offset x)
-    (cond (eq k 1) (cond (eq x 120) 2 4) 4)))
+    cond (eqb x 10) 0
+    (cond (eqb k 0) (begins_line x)
+    (cond (eqb k 2) (begins_offset x)
+    (cond (eqb k 1) (cond (eqb x 120) 2 4) 4)))
 
 -- where the first line begins that begins with 0x, digits and a colon; `line` is where the line of the i-th character begins, and k what it begins with
 unfoldable pub packet_from : ℕ → ℕ → ℕ → List ℕ → ℕ
 packet_from k line i [] = i
 packet_from k line i (y ∷ ys) =
-    cond (eq (begins_with k y) 3) line
-    (cond (eq (begins_with k y) 0) (packet_from 0 (i + 1) (i + 1) ys) (packet_from (begins_with k y) line (i + 1) ys))
+    cond (eqb (begins_with k y) 3) line
+    (cond (eqb (begins_with k y) 0) (packet_from 0 (i + 1) (i + 1) ys) (packet_from (begins_with k y) line (i + 1) ys))
 
 abbrev pub packet_of : List ℕ → ℕ
 packet_of t = packet_from 0 0 0 t

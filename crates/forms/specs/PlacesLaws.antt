@@ -1,16 +1,16 @@
 -- The laws of places in a text: what is found from the i-th character on, by what stands there. Assumes nothing.
-use Rattle.std.specs.Prelude.{◌≡◌, refl, true, false, List, ◌⊎◌, ℕ, ◌+◌, ◌≤◌, ◌<◌, eq, length, get_or, drop}
+use Rattle.std.specs.Prelude.{◌≡◌, refl, true, false, List, ◌⊎◌, ℕ, ◌+◌, ◌≤◌, ◌<◌, eqb, length, get_or, drop}
 use Rattle.std.proofs.Math.Path.{sym}
 use Rattle.std.proofs.Common.{◌∙◌, inl, inr, arith, drop_of_length-le}
 use Rattle.std.proofs.Math.Numerals.{add-one}
-use borrow.Author.Tests.{lt-ltb, le-ltb, eq-eq, ne_eqb}
+use borrow.Author.Tests.{lt-ltb, le-ltb, eq-eqb, ne_eqb}
 use Rattle.std.proofs.Math.Seq.{drop-cons}
 use Rattle.forms.specs.Places.{blank, control, wide_text, uncontrolled, textual_of, place_of, begin_of}
 use Rattle.forms.specs.Places.{brace_from, line_from, line_of, begins_with, packet_from}
 
 -- ---- characters
 
-pub blank-break : (x : ℕ) → (x ≡ 32 → ⊥) → (x ≡ 9 → ⊥) → (x ≡ 13 → ⊥) → eq x 10 ≡ blank x
+pub blank-break : (x : ℕ) → (x ≡ 32 → ⊥) → (x ≡ 9 → ⊥) → (x ≡ 13 → ⊥) → eqb x 10 ≡ blank x
 unfolding blank
 blank-break x a b c = rw (ne_eqb x 32 a, ne_eqb x 9 b, ne_eqb x 13 c)
 
@@ -18,9 +18,9 @@ pub break-blank : (x : ℕ) → x ≡ 10 → blank x ≡ true
 unfolding blank
 break-blank x e = rw e
 
-pub wide-second : (t : List ℕ) → 2 ≤ length t → (get_or t 0 0 ≡ 255 → ⊥) → get_or t 0 0 ≡ 254 → eq (get_or t 1 0) 255 ≡ wide_text t
+pub wide-second : (t : List ℕ) → 2 ≤ length t → (get_or t 0 0 ≡ 255 → ⊥) → get_or t 0 0 ≡ 254 → eqb (get_or t 1 0) 255 ≡ wide_text t
 unfolding wide_text
-wide-second t h n e = rw (le-ltb (length t) 2 h, ne_eqb (get_or t 0 0) 255 n, eq-eq (get_or t 0 0) 254 e)
+wide-second t h n e = rw (le-ltb (length t) 2 h, ne_eqb (get_or t 0 0) 255 n, eq-eqb (get_or t 0 0) 254 e)
 
 -- ---- control characters
 
@@ -49,7 +49,7 @@ module _ (t : List ℕ) (i : ℕ) where
 module _ (x : ℕ) (t : List ℕ) (i : ℕ) where
   pub place_here : i < length t → get_or t i 0 ≡ x → place_of x i (drop i t) ≡ i
   unfolding place_of
-  place_here h e = rw (drop-cons t i 0 h, eq-eq (get_or t i 0) x e)
+  place_here h e = rw (drop-cons t i 0 h, eq-eqb (get_or t i 0) x e)
 
   pub place-later : i < length t → (get_or t i 0 ≡ x → ⊥) → place_of x (i + 1) (drop (i + 1) t) ≡ place_of x i (drop i t)
   unfolding place_of
@@ -75,11 +75,11 @@ module _ (t : List ℕ) (i : ℕ) where
 module _ (t : List ℕ) (last i : ℕ) where
   pub brace-array : i < length t → get_or t i 0 ≡ 123 → last ≡ 61 → brace_from (length t) last i (drop i t) ≡ i
   unfolding brace_from
-  brace-array h e l = rw (drop-cons t i 0 h, eq-eq (get_or t i 0) 123 e, eq-eq last 61 l)
+  brace-array h e l = rw (drop-cons t i 0 h, eq-eqb (get_or t i 0) 123 e, eq-eqb last 61 l)
 
   pub brace-other : i < length t → get_or t i 0 ≡ 123 → (last ≡ 61 → ⊥) → brace_from (length t) last i (drop i t) ≡ length t
   unfolding brace_from
-  brace-other h e l = rw (drop-cons t i 0 h, eq-eq (get_or t i 0) 123 e, ne_eqb last 61 l)
+  brace-other h e l = rw (drop-cons t i 0 h, eq-eqb (get_or t i 0) 123 e, ne_eqb last 61 l)
 
   pub brace-later : (next : ℕ) → i < length t → (get_or t i 0 ≡ 123 → ⊥)
       → ((blank (get_or t i 0) ≡ false) × (next ≡ get_or t i 0)) ⊎ ((blank (get_or t i 0) ≡ true) × (next ≡ last))
@@ -115,7 +115,7 @@ module _ {at : ℕ} {t : List ℕ} {line breaks i : ℕ} (l : Lined at t line br
   unfolding line_from
   lined-break h p e =
       let q : line_from at line (breaks + 1) (i + 1) (drop (i + 1) t) ≡ line_from at line breaks i (drop i t) =
-      rw (drop-cons t i 0 h, le-ltb at i p, eq-eq (get_or t i 0) 10 e, add-one i) in
+      rw (drop-cons t i 0 h, le-ltb at i p, eq-eqb (get_or t i 0) 10 e, add-one i) in
       q ∙ l.left
 
   lined-blank : i < length t → i ≤ at → (get_or t i 0 ≡ 10 → ⊥) → blank (get_or t i 0) ≡ true
@@ -151,7 +151,7 @@ module _ {at : ℕ} {t : List ℕ} {line breaks i : ℕ} (l : Lined at t line br
 module _ (t : List ℕ) (k line i : ℕ) where
   pub packet-here : (k' : ℕ) → i < length t → k' ≡ begins_with k (get_or t i 0) → k' ≡ 3 → packet_from k line i (drop i t) ≡ line
   unfolding packet_from
-  packet-here k' h e f = rw (drop-cons t i 0 h, sym e, eq-eq k' 3 f)
+  packet-here k' h e f = rw (drop-cons t i 0 h, sym e, eq-eqb k' 3 f)
 
   pub packet-line : (k' : ℕ) → i < length t → k' ≡ begins_with k (get_or t i 0) → k' ≡ 0
       → packet_from k' (i + 1) (i + 1) (drop (i + 1) t) ≡ packet_from k line i (drop i t)

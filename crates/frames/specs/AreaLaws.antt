@@ -1,9 +1,9 @@
 -- An area is framed to bodies exactly if it is a run of options with these bodies (RULES W1 to W8), and is a fault exactly if it is none
 -- (RULES R3); once over the carrier. Assumes nothing.
-use Rattle.std.specs.Prelude.{◌≡◌, refl, Bool, true, false, ◌↔◌, List, [], ◌∷◌, ◌++◌, ℕ, zero, suc, ◌+◌, ◌^◌, ◌≤◌, ◌<◌, length, get_or, take, drop, ltb, eq}
-use Rattle.std.proofs.Common.{sym, ap, ap₂, ◌∙◌, subst, true≢false, arith, length-append, length-drop, take-append-drop, get_or-take, length-take-le, take_at, drop_at, drop-drop, eq-eq, ne_eqb, eq-true, ltb-true, ltb-false}
+use Rattle.std.specs.Prelude.{◌≡◌, refl, Bool, true, false, ◌↔◌, List, [], ◌∷◌, ◌++◌, ℕ, zero, suc, ◌+◌, ◌^◌, ◌≤◌, ◌<◌, length, get_or, take, drop, ltb, eqb}
+use Rattle.std.proofs.Common.{sym, ap, ap₂, ◌∙◌, subst, true≢false, arith, length-append, length-drop, take-append-drop, get_or-take, length-take-le, take_at, drop_at, drop-drop, eq-eqb, ne_eqb, eqb-true, ltb-true, ltb-false}
 use Rattle.std.proofs.Math.Path.{subst⁻¹}
-use Rattle.std.proofs.lemmas.Bool.{false≢true, eq-false}
+use Rattle.std.proofs.lemmas.Bool.{false≢true, eqb-false}
 use Rattle.octets.specs.Numbers.{be, number_at, Octet, Bytes}
 use Rattle.octets.specs.NumbersLaws.{length-be, be-val, val-small, number-laid, number-local}
 use Rattle.octets.specs.ListsLaws.{all_take, all_drop}
@@ -74,7 +74,7 @@ module _ (c : Carrier) (option : List ℕ) (code : ℕ) (body : List ℕ) (i : I
   octet-there j = (narrow-header (head_width c) option (omega (arith, whole_length)) (marks-narrow c j)).0 ∙ stands-there
 
   -- it stands first: whether it is the carrier's own, and all of its octets
-  pub first-there : first_of c option ≡ Head.Option (eq code (code_of c)) (octets (length option))
+  pub first-there : first_of c option ≡ Head.Option (eqb code (code_of c)) (octets (length option))
   first-there =
       let pos = header-pos c in
       let len = whole_length in
@@ -82,18 +82,18 @@ module _ (c : Carrier) (option : List ℕ) (code : ℕ) (body : List ℕ) (i : I
       mark-other (get_or option 0 0) (head_in c option) (is_joined c)
       (λ j. subst Unmarked (sym (octet-there j)) (i.unmarked j))
       ∙ head-option c option (omega arith) (λ z. omega arith)
-      ∙ ap₂ (λ (x n : ℕ). Head.Option (eq x (code_of c)) (octets n)) code-there size
+      ∙ ap₂ (λ (x n : ℕ). Head.Option (eqb x (code_of c)) (octets n)) code-there size
 
   -- an option, and then the rest
-  pub option-framed : (rest : List ℕ) → frame c (option ++ rest) ≡ onto (eq code (code_of c)) body (frame c rest)
+  pub option-framed : (rest : List ℕ) → frame c (option ++ rest) ≡ onto (eqb code (code_of c)) body (frame c rest)
   option-framed rest =
       let pos : 0 < length option = omega (arith, whole_length, header-pos c) in
       let both = length-append option rest in
       let pos' : 0 < length (option ++ rest) = omega arith in
       frame-option c (option ++ rest) pos' (first-append c option rest pos first-there) (omega arith)
-      ∙ ap₂ (λ (l r : List ℕ). onto (eq code (code_of c)) (drop (header_of c) l) (frame c r))
+      ∙ ap₂ (λ (l r : List ℕ). onto (eqb code (code_of c)) (drop (header_of c) l) (frame c r))
       (take_at option rest (length option) refl) (drop_at option rest (length option) refl)
-      ∙ ap (λ (l : List ℕ). onto (eq code (code_of c)) l (frame c rest)) body-there
+      ∙ ap (λ (l : List ℕ). onto (eqb code (code_of c)) l (frame c rest)) body-there
 
 -- where options are joined, an octet 0 is passed over, and what follows 255 is ignored
 pad-framed : (c : Carrier) (rest : List ℕ) → is_joined c ≡ true → frame c (0 ∷ rest) ≡ frame c rest
@@ -111,7 +111,7 @@ area-framed c area bodies (padding {area = rest} j a) = pad-framed c rest j ∙ 
 area-framed c area bodies (end {rest} j) = end_framed c rest j
 area-framed c area bodies (own {option} {body} {area = rest} {bodies = bs} i a) =
     option-framed c option (code_of c) body i rest
-    ∙ ap₂ (λ (b : Bool) (f : Framed). onto b body f) (eq-eq (code_of c) (code_of c) refl) (area-framed c rest bs a)
+    ∙ ap₂ (λ (b : Bool) (f : Framed). onto b body f) (eq-eqb (code_of c) (code_of c) refl) (area-framed c rest bs a)
 area-framed c area bodies (foreign {code} {option} {body} {area = rest} i n a) =
     option-framed c option code body i rest
     ∙ ap₂ (λ (b : Bool) (f : Framed). onto b body f) (ne_eqb code (code_of c) n) (area-framed c rest bodies a)
@@ -155,24 +155,24 @@ module _ (c : Carrier) (o : List ℕ) (bytes : Bytes o) (room : header_of c ≤ 
 -- an octet is padding, or an end, or neither
 by-octet : (P : ℕ → Type 0) (x : ℕ) (j : Bool) → (j ≡ true → P 0) → (j ≡ true → P 255) → ((j ≡ true → Unmarked x) → P x) → P x
 by-octet P x false pad stop other = other (λ j. absurd (false≢true j))
-by-octet P x true pad stop other = go (eq x 0) (eq x 255) refl refl
+by-octet P x true pad stop other = go (eqb x 0) (eqb x 255) refl refl
   where
-    go : (a b : Bool) → eq x 0 ≡ a → eq x 255 ≡ b → P x
-    go true b t u = subst⁻¹ P (eq-true x 0 t) (pad refl)
-    go false true t u = subst⁻¹ P (eq-true x 255 u) (stop refl)
-    go false false t u = other (λ j. (eq-false _ _ t, eq-false _ _ u))
+    go : (a b : Bool) → eqb x 0 ≡ a → eqb x 255 ≡ b → P x
+    go true b t u = subst⁻¹ P (eqb-true x 0 t) (pad refl)
+    go false true t u = subst⁻¹ P (eqb-true x 255 u) (stop refl)
+    go false false t u = other (λ j. (eqb-false _ _ t, eqb-false _ _ u))
 
 -- an option and then octets that are a run of options where they are framed
 option-area : (c : Carrier) (option : List ℕ) (code : ℕ) (body rest : List ℕ) (bodies : List (List ℕ)) → IsOption c option code body
     → ((bs : List (List ℕ)) → frame c rest ≡ framed bs → Area c rest bs) → frame c (option ++ rest) ≡ framed bodies → Area c (option ++ rest) bodies
 option-area c option code body rest bodies i ih e =
-    go (eq code (code_of c)) (frame c rest) refl refl (sym (option-framed c option code body i rest) ∙ e)
+    go (eqb code (code_of c)) (frame c rest) refl refl (sym (option-framed c option code body i rest) ∙ e)
   where
-    go : (b : Bool) (f : Framed) → eq code (code_of c) ≡ b → frame c rest ≡ f → onto b body f ≡ framed bodies → Area c (option ++ rest) bodies
+    go : (b : Bool) (f : Framed) → eqb code (code_of c) ≡ b → frame c rest ≡ f → onto b body f ≡ framed bodies → Area c (option ++ rest) bodies
     go b fault t u q = absurd (fault-framed q)
     go true (framed bs) t u q =
-        subst (Area c (option ++ rest)) (framed-same q) (own (subst (λ (n : ℕ). IsOption c option n body) (eq-true _ _ t) i) (ih bs u))
-    go false (framed bs) t u q = subst (Area c (option ++ rest)) (framed-same q) (foreign i (eq-false _ _ t) (ih bs u))
+        subst (Area c (option ++ rest)) (framed-same q) (own (subst (λ (n : ℕ). IsOption c option n body) (eqb-true _ _ t) i) (ih bs u))
+    go false (framed bs) t u q = subst (Area c (option ++ rest)) (framed-same q) (foreign i (eqb-false _ _ t) (ih bs u))
 
 -- by what is so of fewer octets
 module _ (c : Carrier) (s : List ℕ) (bodies : List (List ℕ)) (some : 0 < length s) (bytes : Bytes s) (e : frame c s ≡ framed bodies)

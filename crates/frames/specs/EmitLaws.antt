@@ -1,6 +1,6 @@
 -- Own options that were written are framed to their bodies, in every carrier. Assumes nothing.
-use Rattle.std.specs.Prelude.{◌≡◌, refl, Bool, true, false, List, [], ◌∷◌, ◌++◌, ℕ, ◌+◌, ◌^◌, ◌≤◌, ◌<◌, length, drop, eq}
-use Rattle.std.proofs.Common.{sym, ap, ◌∙◌, subst, true≢false, append_assoc, arith, length-append, drop_at, eq-eq}
+use Rattle.std.specs.Prelude.{◌≡◌, refl, Bool, true, false, List, [], ◌∷◌, ◌++◌, ℕ, ◌+◌, ◌^◌, ◌≤◌, ◌<◌, length, drop, eqb}
+use Rattle.std.proofs.Common.{sym, ap, ◌∙◌, subst, true≢false, append_assoc, arith, length-append, drop_at, eq-eqb}
 use Rattle.std.proofs.Math.Path.{subst⁻¹}
 use Rattle.std.proofs.Math.Nat.{pow-le-pow_right}
 use Rattle.octets.specs.Numbers.{be}
@@ -85,8 +85,8 @@ option_is c b f =
     code-unmarked = by-joined (λ c. is_joined c ≡ true → (code_of c ≡ 0 → ⊥) × (code_of c ≡ 255 → ⊥))
         (λ j. (λ z. omega arith, λ z. omega arith)) (λ c n j. absurd (true≢false (sym j ∙ n)))
 
-own_code : (c : Carrier) → eq (code_of c) (code_of c) ≡ true
-own_code c = eq-eq (code_of c) (code_of c) refl
+own_code : (c : Carrier) → eqb (code_of c) (code_of c) ≡ true
+own_code c = eq-eqb (code_of c) (code_of c) refl
 
 -- it is a whole own option
 pub option-first : (c : Carrier) (b : List ℕ) → Fits c b → first_of c (option_of c b) ≡ Head.Option true (octets (length (option_of c b)))

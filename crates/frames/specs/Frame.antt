@@ -1,5 +1,5 @@
 -- How an area is framed (RULES W1 to W8), once over the carrier. Assumes nothing: these are definitions.
-use Rattle.std.specs.Prelude.{ℕ, zero, suc, ◌+◌, ◌-◌, ◌*◌, Bool, true, false, cond, List, [], ◌∷◌, length, get_or, take, drop, ltb, eq}
+use Rattle.std.specs.Prelude.{ℕ, zero, suc, ◌+◌, ◌-◌, ◌*◌, Bool, true, false, cond, List, [], ◌∷◌, length, get_or, take, drop, ltb, eqb}
 use Rattle.octets.specs.Numbers.{number_at}
 use Rattle.numbers.specs.Refusal as refusal
 use Rattle.carriers.specs.declared.Carrier.{Carrier}
@@ -24,12 +24,12 @@ size_in c s = whole_size (in_eights c) (header_of c) (number_at (head_width c) (
 abbrev pub head_in : Carrier → List ℕ → Head
 head_in c s =
     cond (ltb (length s) (header_of c)) Bad
-    (cond (eq (size_in c s) 0) Bad
-    (Option (eq (code_in c s) (code_of c)) (octets (size_in c s))))
+    (cond (eqb (size_in c s) 0) Bad
+    (Option (eqb (code_in c s) (code_of c)) (octets (size_in c s))))
 
 -- in carrier 1, code 0 is one octet of padding, and code 255 ends the area (RFC 2132 §3.1, §3.2)
 abbrev pub or_mark : Bool → ℕ → Head → Head
-or_mark joined x z = cond joined (cond (eq x 0) (Option false (octets 1)) (cond (eq x 255) End z)) z
+or_mark joined x z = cond joined (cond (eqb x 0) (Option false (octets 1)) (cond (eqb x 255) End z)) z
 
 abbrev pub first_of : Carrier → List ℕ → Head
 first_of c s = or_mark (is_joined c) (get_or s 0 0) (head_in c s)

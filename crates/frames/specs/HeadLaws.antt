@@ -1,7 +1,7 @@
 -- The laws of one header: what it says of the octets that it was read from, and that it does not look past itself. Assumes nothing.
-use Rattle.std.specs.Prelude.{◌≡◌, refl, Bool, true, false, cond, List, ◌++◌, ℕ, ◌+◌, ◌*◌, ◌≤◌, ◌<◌, length, get_or, take, ltb, eq}
-use Rattle.std.proofs.Common.{sym, ap, ap₂, ◌∙◌, arith, length-append, get_or-take, length-take-le, lt-ltb, le-ltb, eq-eq, ne_eqb, ltb-false}
-use Rattle.std.proofs.lemmas.Bool.{false≢true, eq-false}
+use Rattle.std.specs.Prelude.{◌≡◌, refl, Bool, true, false, cond, List, ◌++◌, ℕ, ◌+◌, ◌*◌, ◌≤◌, ◌<◌, length, get_or, take, ltb, eqb}
+use Rattle.std.proofs.Common.{sym, ap, ap₂, ◌∙◌, arith, length-append, get_or-take, length-take-le, lt-ltb, le-ltb, eq-eqb, ne_eqb, ltb-false}
+use Rattle.std.proofs.lemmas.Bool.{false≢true, eqb-false}
 use Rattle.std.proofs.Math.ListN.{get_or-append}
 use Rattle.octets.specs.Numbers.{at16, number_at}
 use Rattle.octets.specs.NumbersLaws.{number-8, number-16, number-local}
@@ -34,17 +34,17 @@ pub head-short : (c : Carrier) (s : List ℕ) → length s < header_of c → hea
 head-short c s h = simp (lt-ltb _ _ h)
 
 pub head-none : (c : Carrier) (s : List ℕ) → header_of c ≤ length s → size_in c s ≡ 0 → head_in c s ≡ Bad
-head-none c s h z = simp (le-ltb _ _ h, eq-eq _ _ z)
+head-none c s h z = simp (le-ltb _ _ h, eq-eqb _ _ z)
 
 pub head-option : (c : Carrier) (s : List ℕ) → header_of c ≤ length s → (size_in c s ≡ 0 → ⊥)
-    → head_in c s ≡ Option (eq (code_in c s) (code_of c)) (octets (size_in c s))
+    → head_in c s ≡ Option (eqb (code_in c s) (code_of c)) (octets (size_in c s))
 head-option c s h z = simp (le-ltb _ _ h, ne_eqb _ _ z)
 
 -- what an option tells of the octets that it was read from
 pub record Read (c : Carrier) (s : List ℕ) (own : Bool) (n : ℕ) : Type 0 where
   pub room : header_of c ≤ length s
   pub body : header_of c ≤ n
-  pub code : own ≡ eq (code_in c s) (code_of c)
+  pub code : own ≡ eqb (code_in c s) (code_of c)
   pub size : n ≡ size_in c s
 
 -- a size that is not 0 counts the header, which is no longer than a unit
@@ -60,8 +60,8 @@ tests-inv false false w n e = (refl, refl, ap own_of (sym e), ap size_of (sym e)
 
 pub head-inv : (c : Carrier) (s : List ℕ) {own : Bool} {n : ℕ} → head_in c s ≡ Option own (octets n) → Read c s own n
 head-inv c s e =
-    let p = tests-inv (ltb (length s) (header_of c)) (eq (size_in c s) 0) (eq (code_in c s) (code_of c)) (size_in c s) e in
-    let nz : size_in c s ≡ 0 → ⊥ = eq-false _ _ p.1 in
+    let p = tests-inv (ltb (length s) (header_of c)) (eqb (size_in c s) 0) (eqb (code_in c s) (code_of c)) (size_in c s) e in
+    let nz : size_in c s ≡ 0 → ⊥ = eqb-false _ _ p.1 in
     let few = (headed c).few in
     record {
       room = ltb-false _ _ p.0;
@@ -76,7 +76,7 @@ tests-end false true w n e = bad-end e
 tests-end false false w n e = option-end e
 
 pub head-end : (c : Carrier) (s : List ℕ) → head_in c s ≡ End → ⊥
-head-end c s e = tests-end (ltb (length s) (header_of c)) (eq (size_in c s) 0) (eq (code_in c s) (code_of c)) (size_in c s) e
+head-end c s e = tests-end (ltb (length s) (header_of c)) (eqb (size_in c s) 0) (eqb (code_in c s) (code_of c)) (size_in c s) e
 
 -- a header that is all there does not look past itself
 head-local : (c : Carrier) (s t : List ℕ) → header_of c ≤ length s → head_in c (s ++ t) ≡ head_in c s
@@ -97,10 +97,10 @@ module _ (w : ℕ) (s : List ℕ) (room : w + w ≤ length s) where
 
 module _ (x : ℕ) (z : Head) where
   pub mark-pad : (j : Bool) → j ≡ true → x ≡ 0 → or_mark j x z ≡ Option false (octets 1)
-  mark-pad j t e = simp (t, eq-eq _ _ e)
+  mark-pad j t e = simp (t, eq-eqb _ _ e)
 
   pub mark-end : (j : Bool) → j ≡ true → x ≡ 255 → or_mark j x z ≡ End
-  mark-end j t e = let nz : x ≡ 0 → ⊥ = λ q. omega arith in simp (t, ne_eqb _ _ nz, eq-eq _ _ e)
+  mark-end j t e = let nz : x ≡ 0 → ⊥ = λ q. omega arith in simp (t, ne_eqb _ _ nz, eq-eqb _ _ e)
 
   pub mark-other : (j : Bool) → (j ≡ true → (x ≡ 0 → ⊥) × (x ≡ 255 → ⊥)) → or_mark j x z ≡ z
   mark-other true o = simp (ne_eqb _ _ (o refl).0, ne_eqb _ _ (o refl).1)
@@ -115,9 +115,9 @@ module _ (x : ℕ) (z : Head) (own : Bool) (n : ℕ) (P : Type 0) where
   by-mark : (j : Bool) → (((y : Head) → or_mark j x y ≡ Option own (octets n)) → own ≡ false → n ≡ 1 → P)
       → (((y : Head) → or_mark j x y ≡ y) → z ≡ Option own (octets n) → P) → or_mark j x z ≡ Option own (octets n) → P
   by-mark false pad other e = other (λ y. refl) e
-  by-mark true pad other e = go (eq x 0) (eq x 255) refl refl
+  by-mark true pad other e = go (eqb x 0) (eqb x 255) refl refl
     where
-      go : (a b : Bool) → eq x 0 ≡ a → eq x 255 ≡ b → P
+      go : (a b : Bool) → eqb x 0 ≡ a → eqb x 255 ≡ b → P
       go true b t u = pad (λ y. rw t (rw t at e)) (ap own_of (sym (rw t at e))) (ap size_of (sym (rw t at e)))
       go false true t u = absurd (end-option (rw (t, u) at e))
       go false false t u = other (λ y. rw (t, u)) (rw (t, u) at e)

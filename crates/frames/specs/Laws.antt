@@ -1,6 +1,6 @@
 -- The laws of framing, once over the carrier: the equations of `frame`, and what a step says of the walk from there. Assumes nothing.
 use Rattle.std.specs.Prelude.{◌≡◌, refl, Bool, true, false, cond, List, [], ◌∷◌, ℕ, zero, suc, ◌+◌, ◌-◌, ◌%◌, ◌≤◌, ◌<◌, length, take, drop, ltb, leb}
-use Rattle.std.proofs.Common.{sym, ap, ap₂, ◌∙◌, subst, le_of_suc-le-suc, not-suc-le-zero, arith, length-drop, drop-drop, lt-ltb, le-ltb, le-leb, eq-eq, ne_eqb, ltb-true, ltb-false, leb-true, leb-false}
+use Rattle.std.proofs.Common.{sym, ap, ap₂, ◌∙◌, subst, le_of_suc-le-suc, not-suc-le-zero, arith, length-drop, drop-drop, lt-ltb, le-ltb, le-leb, eq-eqb, ne_eqb, ltb-true, ltb-false, leb-true, leb-false}
 use Rattle.std.proofs.Math.Path.{subst⁻¹}
 use Rattle.std.proofs.Math.Seq.{drop-length}
 use Rattle.std.proofs.lemmas.Bool.{lt-leb}
@@ -67,7 +67,7 @@ onto-skipped b (framed bs) = refl
 
 pub step-at-end : (c : Carrier) (s : List ℕ) (at : ℕ) → at ≡ length s → step_at c s at ≡ Step.End
 unfolding step_at
-step-at-end c s at e = simp (eq-eq _ _ e)
+step-at-end c s at e = simp (eq-eqb _ _ e)
 
 pub step_past : (c : Carrier) (s : List ℕ) (at : ℕ) → length s < at → step_at c s at ≡ Step.Fault
 unfolding step_at

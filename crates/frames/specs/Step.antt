@@ -1,5 +1,5 @@
 -- What stands at an index of an area, as the walk finds it one option at a time. Assumes nothing: these are definitions.
-use Rattle.std.specs.Prelude.{ℕ, ◌+◌, ◌-◌, Bool, true, false, cond, List, length, take, drop, ltb, leb, eq}
+use Rattle.std.specs.Prelude.{ℕ, ◌+◌, ◌-◌, Bool, true, false, cond, List, length, take, drop, ltb, leb, eqb}
 use Rattle.carriers.specs.declared.Carrier.{Carrier}
 use Rattle.carriers.specs.Carriers.{header_of}
 use Rattle.frames.specs.declared.Head.{Head}
@@ -24,6 +24,6 @@ head_at c left at (Head.Option own size) = cond (leb size.0 left) (option_at c a
 -- at the area's end: End; past it: Fault; else what the header there says
 unfoldable pub step_at : Carrier → List ℕ → ℕ → Step
 step_at c area at =
-    cond (eq at (length area)) Step.End
+    cond (eqb at (length area)) Step.End
     (cond (ltb (length area) at) Step.Fault
     (head_at c (length area - at) at (first_of c (drop at area))))

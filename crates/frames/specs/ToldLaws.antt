@@ -1,6 +1,6 @@
 -- What the numbers of the answers say of an area, and that a number with its bodies is a framing. Assumes nothing.
-use Rattle.std.specs.Prelude.{◌≡◌, refl, ◌↔◌, Bool, true, false, List, [], ◌∷◌, ℕ, ◌≤◌, ltb, eq, length, get_or, drop}
-use Rattle.std.proofs.Common.{sym, ap, ◌∙◌, inl, inr, ⊎_elim, arith, ltb-true, ltb-false, eq-true}
+use Rattle.std.specs.Prelude.{◌≡◌, refl, ◌↔◌, Bool, true, false, List, [], ◌∷◌, ℕ, ◌≤◌, ltb, eqb, length, get_or, drop}
+use Rattle.std.proofs.Common.{sym, ap, ◌∙◌, inl, inr, ⊎_elim, arith, ltb-true, ltb-false, eqb-true}
 use Rattle.std.proofs.lemmas.Bool.{false≢true}
 use Rattle.numbers.specs.Refusal as refusal
 use Rattle.carriers.specs.declared.Carrier.{Carrier}
@@ -36,11 +36,11 @@ module _ (c : Carrier) (s : List ℕ) where
       go false t = ⊎_elim (head-short c s) (head-none c s (ltb-false _ _ t)) n
 
   header-none : head_number (head_in c s) ≡ refusal.framing → NoHeader c s
-  header-none = go (ltb (length s) (header_of c)) (eq (size_in c s) 0) refl refl
+  header-none = go (ltb (length s) (header_of c)) (eqb (size_in c s) 0) refl refl
     where
-      go : (a b : Bool) → ltb (length s) (header_of c) ≡ a → eq (size_in c s) 0 ≡ b → head_number (head_in c s) ≡ refusal.framing → NoHeader c s
+      go : (a b : Bool) → ltb (length s) (header_of c) ≡ a → eqb (size_in c s) 0 ≡ b → head_number (head_in c s) ≡ refusal.framing → NoHeader c s
       go true b t u e = inl (ltb-true _ _ t)
-      go false true t u e = inr (eq-true _ _ u)
+      go false true t u e = inr (eqb-true _ _ u)
       go false false t u e = absurd (omega (arith, rw (t, u) at e))
 
   pub head-exactly : (r : Head) → r ≡ head_in c s → (head_number r ≡ refusal.framing) ↔ NoHeader c s

@@ -1,6 +1,6 @@
 -- What is spelled is read: groups of octets, and what stands between them, complete those octets. Assumes nothing.
 use Rattle.std.specs.Prelude.{◌≡◌, refl, Bool, true, false, cond, List, [], ◌∷◌, ◌++◌, ℕ, suc, ◌+◌, ◌*◌, ◌%◌, ◌≤◌, ◌<◌, ltb, length}
-use Rattle.std.proofs.Common.{sym, ap, ◌∙◌, subst, append_assoc, arith, eq-eq, lt-ltb}
+use Rattle.std.proofs.Common.{sym, ap, ◌∙◌, subst, append_assoc, arith, eq-eqb, lt-ltb}
 use Rattle.std.proofs.lemmas.Bool.{false≢true}
 use Rattle.octets.specs.Lists.{flat}
 use Rattle.hexes.specs.Hexes.{value}
@@ -204,7 +204,7 @@ module _ {f : Kind} (pr : Proper f) where
         other-moved (other-digit pr d) (standing 0 0 o c q m v l)
         ∙ sym (within-begins f x s n)
         ∙ sym (begins-prefix f x s e (omega arith))
-        ∙ rw (eq-eq x 48 z) refl
+        ∙ rw (eq-eqb x 48 z) refl
 
     ex-moved : {x : ℕ} (o : ℕ) (c m v l : Bool) → Ex x → moved f x (standing 1 0 o c q m v l) ≡ standing 2 0 o false q m v l
     ex-moved {x} o c m v l y =

@@ -1,6 +1,6 @@
 -- Octets as \x and two digits each, with blanks and quotation marks between them (docs/COMMAND.md, "Lists"), in the code's order of tests. Assumes nothing:
 -- these are definitions.
-use Rattle.std.specs.Prelude.{◌≡◌, cond, List, [], ◌∷◌, ◌++◌, ℕ, ◌+◌, leb, eq, length, set}
+use Rattle.std.specs.Prelude.{◌≡◌, cond, List, [], ◌∷◌, ◌++◌, ℕ, ◌+◌, leb, eqb, length, set}
 use Rattle.hexes.specs.Hexes.{digit}
 use Rattle.hexes.specs.Hexes as hexes
 use Rattle.inputs.specs.Why as why
@@ -10,17 +10,17 @@ use Rattle.inputs.specs.declared.Read.TheVariants.{Octets, Bad, Long}
 -- where such a text stands: between octets 0, after the backslash 1, after the x 2, after the first digit 3, after the second 4; 5 that it is none
 abbrev pub between : ℕ → ℕ
 between x =
-    cond (eq x 92) 1
-    (cond (eq x 34) 0 (cond (eq x 32) 0 (cond (eq x 9) 0 (cond (eq x 13) 0 (cond (eq x 10) 0 5)))))
+    cond (eqb x 92) 1
+    (cond (eqb x 34) 0 (cond (eqb x 32) 0 (cond (eqb x 9) 0 (cond (eqb x 13) 0 (cond (eqb x 10) 0 5)))))
 
 abbrev pub digit_to : ℕ → ℕ → ℕ
 digit_to x at = cond (digit x) at 5
 
 abbrev pub next : ℕ → ℕ → ℕ
 next at x =
-    cond (eq at 1) (cond (eq x 120) 2 5)
-    (cond (eq at 2) (digit_to x 3)
-    (cond (eq at 3) (digit_to x 4) (between x)))
+    cond (eqb at 1) (cond (eqb x 120) 2 5)
+    (cond (eqb at 2) (digit_to x 3)
+    (cond (eqb at 3) (digit_to x 4) (between x)))
 
 -- the octet of two digits
 abbrev pub octet_of : ℕ → ℕ → ℕ
@@ -38,8 +38,8 @@ ended r out = record { read = r; out = out }
 -- at the i-th character, which leads to `at`: none; an octet, laid at n; or on
 abbrev pub arrive : ℕ → ℕ → ℕ → ℕ → List ℕ → (ℕ → List ℕ → Ended) → Ended
 arrive at b n i out onward =
-    cond (eq at 5) (ended (Bad i why.form) out)
-    (cond (eq at 4) (cond (leb (length out) n) (ended Long out) (onward (n + 1) (set out n b))) (onward n out))
+    cond (eqb at 5) (ended (Bad i why.form) out)
+    (cond (eqb at 4) (cond (leb (length out) n) (ended Long out) (onward (n + 1) (set out n b))) (onward n out))
 
 -- the characters from the i-th on, after the character `high`
 unfoldable pub read_from : ℕ → ℕ → ℕ → ℕ → List ℕ → List ℕ → Ended

@@ -1,8 +1,8 @@
 -- A text of \x and two digits each is read as octets exactly where it spells them, and they have room; it spells one list of octets at most.
 -- Assumes nothing.
-use Rattle.std.specs.Prelude.{◌≡◌, refl, Bool, true, false, cond, ◌⊎◌, List, [], ◌∷◌, ◌++◌, ℕ, ◌+◌, ◌*◌, ◌≤◌, eq, leb, length, take, set}
-use Rattle.std.proofs.Common.{sym, ap, ◌∙◌, subst, inl, inr, zero-add, arith, eq-true, leb-true, leb-false, eq-eq}
-use Rattle.std.proofs.lemmas.Bool.{eq-false}
+use Rattle.std.specs.Prelude.{◌≡◌, refl, Bool, true, false, cond, ◌⊎◌, List, [], ◌∷◌, ◌++◌, ℕ, ◌+◌, ◌*◌, ◌≤◌, eqb, leb, length, take, set}
+use Rattle.std.proofs.Common.{sym, ap, ◌∙◌, subst, inl, inr, zero-add, arith, eqb-true, leb-true, leb-false, eq-eqb}
+use Rattle.std.proofs.lemmas.Bool.{eqb-false}
 use Rattle.octets.specs.Over.{over}
 use Rattle.hexes.specs.Hexes.{digit, value}
 use Rattle.hexes.specs.Spelled.{Digit}
@@ -33,7 +33,7 @@ machine =
       State = Seen;
       move = λ s x. seen (next s.at x) x (octet_of s.last x);
       Good = λ s. s.at ≡ 5 → ⊥;
-      complete = λ s. eq s.at 4;
+      complete = λ s. eqb s.at 4;
       octet = λ s. s.made;
     }
 
@@ -43,7 +43,7 @@ Runs at h o xs bs = filling.Runs machine (seen at h o) xs bs
 
 -- the same, after the character x, which led to `to`
 abbrev RunsOn : ℕ → ℕ → ℕ → List ℕ → List ℕ → Type 0
-RunsOn to h x xs bs = (to ≡ 5 → ⊥) × (cs : List ℕ) × Runs to x (octet_of h x) xs cs × (bs ≡ cond (eq to 4) (octet_of h x ∷ []) [] ++ cs)
+RunsOn to h x xs bs = (to ≡ 5 → ⊥) × (cs : List ℕ) × Runs to x (octet_of h x) xs cs × (bs ≡ cond (eqb to 4) (octet_of h x ∷ []) [] ++ cs)
 
 abbrev read_seen : Seen → ℕ → ℕ → List ℕ → List ℕ → Ended
 read_seen s n i out xs = read_from s.at s.last n i out xs
@@ -55,13 +55,13 @@ module _ (t : Seen) (n i : ℕ) (out xs : List ℕ) where
       cond b (ended (Bad i why.form) out)
       (cond c (cond d (ended Long out) (read_seen t (n + 1) (i + 1) (set out n t.made) xs)) (read_seen t n (i + 1) out xs))
 
-  step : (b : Bool) → eq t.at 5 ≡ b → (c : Bool) → eq t.at 4 ≡ c → (d : Bool) → leb (length out) n ≡ d
+  step : (b : Bool) → eqb t.at 5 ≡ b → (c : Bool) → eqb t.at 4 ≡ c → (d : Bool) → leb (length out) n ≡ d
       → Step machine read_seen ended t n i out xs (picked b c d)
-  step false b false c d r = passes (eq-false t.at 5 b) c refl
-  step false b true c false r = lays (eq-false t.at 5 b) c (leb-false (length out) n r) refl
+  step false b false c d r = passes (eqb-false t.at 5 b) c refl
+  step false b true c false r = lays (eqb-false t.at 5 b) c (leb-false (length out) n r) refl
   step false b true c true r = ends {r = Long} (λ m e. let z : ◌≡◌ {A = ℕ} 0 1 = cc in absurd (omega arith)) (λ g. (c, leb-true (length out) n r)) refl
   step true b c q d r =
-      ends {r = Bad i why.form} (λ m e. let z : ◌≡◌ {A = ℕ} 0 1 = cc in absurd (omega arith)) (λ g. absurd (g (eq-true t.at 5 b))) refl
+      ends {r = Bad i why.form} (λ m e. let z : ◌≡◌ {A = ℕ} 0 1 = cc in absurd (omega arith)) (λ g. absurd (g (eqb-true t.at 5 b))) refl
 
 reader : Reader machine read_seen ended
 unfolding read_from
@@ -71,7 +71,7 @@ reader =
       none = λ s n i out. refl;
       step = λ s x n i out xs.
           let t = seen (next s.at x) x (octet_of s.last x) in
-          step t n i out xs (eq t.at 5) refl (eq t.at 4) refl (leb (length out) n) refl;
+          step t n i out xs (eqb t.at 5) refl (eqb t.at 4) refl (leb (length out) n) refl;
     }
 
 -- ---- what is read is spelled
@@ -89,17 +89,17 @@ abbrev led : Bool → Bool → Bool → Bool → Bool → Bool → ℕ
 led a b c d e f = cond a 1 (cond b 0 (cond c 0 (cond d 0 (cond e 0 (cond f 0 5)))))
 
 between-says : (x : ℕ) → (between x ≡ 5 → ⊥) → ((x ≡ 92) × (between x ≡ 1)) ⊎ (Apart x × (between x ≡ 0))
-between-says x = go (eq x 92) refl (eq x 34) refl (eq x 32) refl (eq x 9) refl (eq x 13) refl (eq x 10) refl
+between-says x = go (eqb x 92) refl (eqb x 34) refl (eqb x 32) refl (eqb x 9) refl (eqb x 13) refl (eqb x 10) refl
   where
-    go : (a : Bool) → eq x 92 ≡ a → (b : Bool) → eq x 34 ≡ b → (c : Bool) → eq x 32 ≡ c → (d : Bool) → eq x 9 ≡ d
-        → (e : Bool) → eq x 13 ≡ e → (f : Bool) → eq x 10 ≡ f → (led a b c d e f ≡ 5 → ⊥)
+    go : (a : Bool) → eqb x 92 ≡ a → (b : Bool) → eqb x 34 ≡ b → (c : Bool) → eqb x 32 ≡ c → (d : Bool) → eqb x 9 ≡ d
+        → (e : Bool) → eqb x 13 ≡ e → (f : Bool) → eqb x 10 ≡ f → (led a b c d e f ≡ 5 → ⊥)
         → ((x ≡ 92) × (led a b c d e f ≡ 1)) ⊎ (Apart x × (led a b c d e f ≡ 0))
-    go true p b q c r d s e t f u n = inl (eq-true x 92 p, refl)
-    go false p true q c r d s e t f u n = inr (quotation_mark (eq-true x 34 q), refl)
-    go false p false q true r d s e t f u n = inr (blank (spells.space (eq-true x 32 r)), refl)
-    go false p false q false r true s e t f u n = inr (blank (spells.tab (eq-true x 9 s)), refl)
-    go false p false q false r false s true t f u n = inr (blank (spells.carriage_return (eq-true x 13 t)), refl)
-    go false p false q false r false s false t true u n = inr (line_break (eq-true x 10 u), refl)
+    go true p b q c r d s e t f u n = inl (eqb-true x 92 p, refl)
+    go false p true q c r d s e t f u n = inr (quotation_mark (eqb-true x 34 q), refl)
+    go false p false q true r d s e t f u n = inr (blank (spells.space (eqb-true x 32 r)), refl)
+    go false p false q false r true s e t f u n = inr (blank (spells.tab (eqb-true x 9 s)), refl)
+    go false p false q false r false s true t f u n = inr (blank (spells.carriage_return (eqb-true x 13 t)), refl)
+    go false p false q false r false s false t true u n = inr (line_break (eqb-true x 10 u), refl)
     go false p false q false r false s false t false u n = absurd (n refl)
 
 abbrev Next : List ℕ → Type 0
@@ -117,8 +117,8 @@ module _ (x : ℕ) (xs : List ℕ) (next : Next xs) where
           let r' : RunsOn 0 h x (xs ++ (10 ∷ [])) bs = subst (λ (y : ℕ). RunsOn y h x (xs ++ (10 ∷ [])) bs) e.1 r in
           apart e.0 (subst (SpellsEscapes xs) (sym r'.3) (next 0 x (octet_of h x) [] r'.1 begun r'.2))
 
-  ex-next : {a : ℕ} (bs : List ℕ) → a ≡ 92 → (b : Bool) → eq x 120 ≡ b → RunsOn (cond b 2 5) a x (xs ++ (10 ∷ [])) bs → SpellsEscapes (a ∷ x ∷ xs) bs
-  ex-next {a} bs e true b r = subst (SpellsEscapes (a ∷ x ∷ xs)) (sym r.3) (next 2 x (octet_of a x) (a ∷ x ∷ []) r.1 (ex e (eq-true x 120 b)) r.2)
+  ex-next : {a : ℕ} (bs : List ℕ) → a ≡ 92 → (b : Bool) → eqb x 120 ≡ b → RunsOn (cond b 2 5) a x (xs ++ (10 ∷ [])) bs → SpellsEscapes (a ∷ x ∷ xs) bs
+  ex-next {a} bs e true b r = subst (SpellsEscapes (a ∷ x ∷ xs)) (sym r.3) (next 2 x (octet_of a x) (a ∷ x ∷ []) r.1 (ex e (eqb-true x 120 b)) r.2)
   ex-next bs e false b r = absurd (r.0 refl)
 
   high-next : {a b : ℕ} (bs : List ℕ) → a ≡ 92 → b ≡ 120 → (d : Bool) → digit x ≡ d → RunsOn (cond d 3 5) b x (xs ++ (10 ∷ [])) bs
@@ -144,7 +144,7 @@ runs-spelled [] at h o p bs (ex e f) r = absurd (r.0 refl)
 runs-spelled [] at h o p bs (high e f d) r = absurd (r.0 refl)
 runs-spelled (x ∷ xs) at h o p bs begun r = between_next x xs (runs-spelled xs) h bs r
 runs-spelled (x ∷ xs) at h o p bs after r = between_next x xs (runs-spelled xs) h bs r
-runs-spelled (x ∷ xs) at h o p bs (backslash e) r = ex-next x xs (runs-spelled xs) bs e (eq x 120) refl r
+runs-spelled (x ∷ xs) at h o p bs (backslash e) r = ex-next x xs (runs-spelled xs) bs e (eqb x 120) refl r
 runs-spelled (x ∷ xs) at h o p bs (ex e f) r = high-next x xs (runs-spelled xs) bs e f (digit x) refl r
 runs-spelled (x ∷ xs) at h o p bs (high e f d) r = low-next x xs (runs-spelled xs) bs e f d (digit x) refl r
 
@@ -170,8 +170,8 @@ spelled-runs (octet {a} {b} {x} {y} {v} {w} {t} {bs} e f d g k) at h m o =
     let z : v * 16 + w ≡ octet_of x y = rw (i.0, j.0, i.1, j.1) refl in
     let p3 : next 3 y ≡ 4 = rw j.0 refl in
     let p2 : next 2 x ≡ 3 = rw i.0 refl in
-    let p1 : next 1 b ≡ 2 = rw (eq-eq b 120 f) refl in
-    let p0 : between a ≡ 1 = rw (eq-eq a 92 e) refl in
+    let p1 : next 1 b ≡ 2 = rw (eq-eqb b 120 f) refl in
+    let p0 : between a ≡ 1 = rw (eq-eqb a 92 e) refl in
     let r4 : RunsOn 4 x y ts os = ((λ z. absurd (omega arith)), bs, spelled-runs k 4 y (octet_of x y) (λ x. refl), ap (λ (n : ℕ). n ∷ bs) z) in
     let r3 : Runs 3 x (octet_of b x) (y ∷ ts) os = subst (λ (n : ℕ). RunsOn n x y ts os) (sym p3) r4 in
     let r2 : Runs 2 b (octet_of a b) (x ∷ y ∷ ts) os = subst (λ (n : ℕ). RunsOn n b x (y ∷ ts) os) (sym p2) ((λ z. absurd (omega arith)), os, r3, refl) in

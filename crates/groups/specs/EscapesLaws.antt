@@ -1,7 +1,7 @@
 -- How a text of \x and two digits each is read: where a character leads, and the turns of the loop. Assumes nothing.
 use Rattle.std.specs.Prelude.{◌≡◌, Bool, true, false, cond, List, [], ◌∷◌, ◌++◌, ℕ, ◌+◌, ◌*◌, ◌≤◌, ◌<◌, length, get_or, set}
 use Rattle.std.proofs.Math.Path.{refl, ap}
-use Rattle.std.proofs.Common.{sym, ◌∙◌, arith, eq-eq, ne_eqb, le-leb}
+use Rattle.std.proofs.Common.{sym, ◌∙◌, arith, eq-eqb, ne_eqb, le-leb}
 use Rattle.std.proofs.lemmas.Bool.{lt-leb}
 use Rattle.std.proofs.Math.ListN.{drop}
 use Rattle.hexes.specs.Hexes.{digit}
@@ -42,17 +42,17 @@ module _ {text out₀ : List ℕ} where
           ∙ c.rest
 
       pub escape-none : to ≡ 5 → Escaped text out₀ (Bad i why.form) out
-      escape-none z = escaped-as (rw (eq-eq to 5 z) at arrived)
+      escape-none z = escaped-as (rw (eq-eqb to 5 z) at arrived)
 
       pub escape-long : to ≡ 4 → length out ≤ n → Escaped text out₀ Long out
-      escape-long z l = escaped-as (rw (ne_eqb to 5 (λ y. absurd (omega arith)), eq-eq to 4 z, le-leb (length out) n l) at arrived)
+      escape-long z l = escaped-as (rw (ne_eqb to 5 (λ y. absurd (omega arith)), eq-eqb to 4 z, le-leb (length out) n l) at arrived)
 
       pub escape-octet : {b : ℕ} → to ≡ 4 → n < length out → b ≡ octet_of high x → Escaping text out₀ to x (n + 1) (i + 1) (set out n b)
       escape-octet {b} z l o =
           record {
             within = omega arith;
             rest = ap (λ (y : ℕ). read_from to x (n + 1) (i + 1) (set out n y) (drop (i + 1) (text ++ (10 ∷ [])))) o
-                ∙ rw (ne_eqb to 5 (λ y. absurd (omega arith)), eq-eq to 4 z, lt-leb (length out) n l) at arrived;
+                ∙ rw (ne_eqb to 5 (λ y. absurd (omega arith)), eq-eqb to 4 z, lt-leb (length out) n l) at arrived;
           }
 
       pub escape-on : (to ≡ 5 → ⊥) → (to ≡ 4 → ⊥) → Escaping text out₀ to x n (i + 1) out

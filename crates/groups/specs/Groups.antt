@@ -1,6 +1,6 @@
 -- What a text is read as that is to be a list: its characters one after the other, and a line break after the last. Assumes nothing: these are
 -- definitions.
-use Rattle.std.specs.Prelude.{◌≡◌, cond, List, [], ◌∷◌, ◌++◌, ℕ, ◌+◌, leb, eq, length, set}
+use Rattle.std.specs.Prelude.{◌≡◌, cond, List, [], ◌∷◌, ◌++◌, ℕ, ◌+◌, leb, eqb, length, set}
 use Rattle.inputs.specs.declared.Read.{Read}
 use Rattle.inputs.specs.declared.Read.TheVariants.{Octets, Bad, Long}
 use Rattle.groups.specs.declared.Kind.{Kind}
@@ -27,7 +27,7 @@ lay_of s n out =
 -- ---- a character
 
 abbrev pub settled : State → ℕ → List ℕ → After
-settled s n out = cond (eq s.why 0) (lay_of s n out) (after (turns.Bad s.why) out)
+settled s n out = cond (eqb s.why 0) (lay_of s n out) (after (turns.Bad s.why) out)
 
 unfoldable pub take_of : Kind → State → ℕ → ℕ → List ℕ → After
 take_of f s x n out = settled (moved f x s) n out

@@ -1,7 +1,7 @@
 -- How a list is read: an octet laid, a character taken, and the turns of the loop over a text. Assumes nothing.
 use Rattle.std.specs.Prelude.{◌≡◌, true, false, ℕ, ◌+◌, ◌≤◌, ◌<◌, length, get_or, set}
 use Rattle.std.proofs.Math.Path.{sym, ap}
-use Rattle.std.proofs.Common.{◌∙◌, arith, eq-eq, ne_eqb, le-leb}
+use Rattle.std.proofs.Common.{◌∙◌, arith, eq-eqb, ne_eqb, le-leb}
 use mathlib.Core.List.{List, [], ◌∷◌, ◌++◌}
 use Rattle.std.proofs.lemmas.Bool.{lt-leb}
 use Rattle.std.proofs.Math.ListN.{drop}
@@ -42,7 +42,7 @@ module _ (f : Kind) (s t : State) (x n : ℕ) (out : List ℕ) (e : t ≡ moved 
 
   pub take-laid : {r : Turn} {out' : List ℕ} → t.why ≡ 0 → Turned (lay_of t n out) r out' → Turned (take_of f s x n out) r out'
   take-laid {r} {out'} w l =
-      let g : take_of f s x n out ≡ lay_of t n out = taken_as (rw (eq-eq t.why 0 w)) in
+      let g : take_of f s x n out ≡ lay_of t n out = taken_as (rw (eq-eqb t.why 0 w)) in
       record { answered = l.answered ∙ sym (ap (λ (b : After). b.turn) g); leaves = l.leaves ∙ sym (ap (λ (b : After). b.out) g) }
 
 -- ---- a text

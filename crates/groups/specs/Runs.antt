@@ -1,7 +1,7 @@
 -- A list's characters taken one after the other from any state, and the octets that they complete: what reading is, without a buffer. Assumes nothing.
-use Rattle.std.specs.Prelude.{◌≡◌, refl, Bool, true, false, cond, List, ◌++◌, ℕ, ◌+◌, eq, leb, length, set}
-use Rattle.std.proofs.Common.{ap, arith, eq-true, leb-true, leb-false}
-use Rattle.std.proofs.lemmas.Bool.{eq-false}
+use Rattle.std.specs.Prelude.{◌≡◌, refl, Bool, true, false, cond, List, ◌++◌, ℕ, ◌+◌, eqb, leb, length, set}
+use Rattle.std.proofs.Common.{ap, arith, eqb-true, leb-true, leb-false}
+use Rattle.std.proofs.lemmas.Bool.{eqb-false}
 use Rattle.inputs.specs.declared.Read.TheVariants.{Bad, Long}
 use Rattle.groups.specs.declared.Kind.{Kind}
 use Rattle.groups.specs.declared.Turn.TheVariants as turns
@@ -36,13 +36,13 @@ module _ (f : Kind) (t : State) (n i : ℕ) (out xs : List ℕ) where
   abbrev going : After → Ended
   going a = onward a.turn i a.out (λ u k. read_from f u k (i + 1) a.out xs)
 
-  step : (b : Bool) → eq t.why 0 ≡ b → (c : Bool) → t.complete ≡ c → (d : Bool) → leb (length out) n ≡ d
+  step : (b : Bool) → eqb t.why 0 ≡ b → (c : Bool) → t.complete ≡ c → (d : Bool) → leb (length out) n ≡ d
       → Step (machine f) (read_from f) ended t n i out xs (going (picked b c d))
-  step true b false c d r = passes (eq-true t.why 0 b) c refl
-  step true b true c false r = lays (eq-true t.why 0 b) c (leb-false (length out) n r) refl
+  step true b false c d r = passes (eqb-true t.why 0 b) c refl
+  step true b true c false r = lays (eqb-true t.why 0 b) c (leb-false (length out) n r) refl
   step true b true c true r = ends {r = Long} (λ m e. let z : ◌≡◌ {A = ℕ} 0 1 = cc in absurd (omega arith)) (λ g. (c, leb-true (length out) n r)) refl
   step false b c q d r =
-      ends {r = Bad i t.why} (λ m e. let z : ◌≡◌ {A = ℕ} 0 1 = cc in absurd (omega arith)) (λ g. absurd (eq-false t.why 0 b g)) refl
+      ends {r = Bad i t.why} (λ m e. let z : ◌≡◌ {A = ℕ} 0 1 = cc in absurd (omega arith)) (λ g. absurd (eqb-false t.why 0 b g)) refl
 
 pub reader : (f : Kind) → Reader (machine f) (read_from f) ended
 unfolding read_from take_of
@@ -52,5 +52,5 @@ reader f =
       none = λ s n i out. refl;
       step = λ s x n i out xs.
           let t = moved f x s in
-          step f t n i out xs (eq t.why 0) refl t.complete refl (leb (length out) n) refl;
+          step f t n i out xs (eqb t.why 0) refl t.complete refl (leb (length out) n) refl;
     }

@@ -1,6 +1,6 @@
 -- What is read is spelled: the characters of a list that completes octets are groups of those octets and what stands between them. Assumes nothing.
-use Rattle.std.specs.Prelude.{◌≡◌, refl, Bool, true, false, cond, ◌⊎◌, List, [], ◌∷◌, ◌++◌, ℕ, ◌+◌, ◌*◌, ◌%◌, ◌≤◌, ◌<◌, eq, ltb, length}
-use Rattle.std.proofs.Common.{sym, ap, ◌∙◌, subst, ⊎_elim, append_assoc, arith, eq-true, lt-ltb, le-ltb, length-append}
+use Rattle.std.specs.Prelude.{◌≡◌, refl, Bool, true, false, cond, ◌⊎◌, List, [], ◌∷◌, ◌++◌, ℕ, ◌+◌, ◌*◌, ◌%◌, ◌≤◌, ◌<◌, eqb, ltb, length}
+use Rattle.std.proofs.Common.{sym, ap, ◌∙◌, subst, ⊎_elim, append_assoc, arith, eqb-true, lt-ltb, le-ltb, length-append}
 use Rattle.std.proofs.lemmas.Bool.{false≢true}
 use Rattle.octets.specs.Lists.{flat}
 use Rattle.hexes.specs.Hexes.{value}
@@ -160,14 +160,14 @@ Next f xs =
     → Goes f s.after s.some s.several s.wide (p ++ xs) (bs ++ cs)
 
 pub blank-says : (x : ℕ) → (x ≡ 10 → ⊥) → blank x ≡ true → Blank x
-blank-says x n = go (eq x 32) refl (eq x 9) refl (eq x 13) refl (eq x 10) refl
+blank-says x n = go (eqb x 32) refl (eqb x 9) refl (eqb x 13) refl (eqb x 10) refl
   where
-    go : (a : Bool) → eq x 32 ≡ a → (b : Bool) → eq x 9 ≡ b → (c : Bool) → eq x 13 ≡ c → (d : Bool) → eq x 10 ≡ d
+    go : (a : Bool) → eqb x 32 ≡ a → (b : Bool) → eqb x 9 ≡ b → (c : Bool) → eqb x 13 ≡ c → (d : Bool) → eqb x 10 ≡ d
         → cond a true (cond b true (cond c true d)) ≡ true → Blank x
-    go true a b q c r d s e = spells.space (eq-true x 32 a)
-    go false a true q c r d s e = spells.tab (eq-true x 9 q)
-    go false a false q true r d s e = spells.carriage_return (eq-true x 13 r)
-    go false a false q false r true s e = absurd (n (eq-true x 10 s))
+    go true a b q c r d s e = spells.space (eqb-true x 32 a)
+    go false a true q c r d s e = spells.tab (eqb-true x 9 q)
+    go false a false q true r d s e = spells.carriage_return (eqb-true x 13 r)
+    go false a false q false r true s e = absurd (n (eqb-true x 10 s))
     go false a false q false r false s e = absurd (false≢true e)
 
 ends_at : {f : Kind} {x : ℕ} → Gap f x → (t : List ℕ) → Ends f (x ∷ t)

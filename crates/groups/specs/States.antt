@@ -1,5 +1,5 @@
 -- Where a list stands, and how a character x moves it (docs/COMMAND.md, "Lists"), in the code's order of tests. Assumes nothing: these are definitions.
-use Rattle.std.specs.Prelude.{Bool, true, false, cond, ℕ, ◌+◌, ◌*◌, ◌%◌, ltb, eq}
+use Rattle.std.specs.Prelude.{Bool, true, false, cond, ℕ, ◌+◌, ◌*◌, ◌%◌, ltb, eqb}
 use Rattle.hexes.specs.Hexes.{digit}
 use Rattle.hexes.specs.Hexes as hexes
 use Rattle.inputs.specs.Why as why
@@ -10,7 +10,7 @@ abbrev pub state : ℕ → ℕ → ℕ → Bool → Bool → Bool → Bool → B
 state p d o c q m v l w = record { front = p; digits = d; octet = o; complete = c; after = q; some = m; several = v; wide = l; why = w }
 
 abbrev pub blank : ℕ → Bool
-blank x = cond (eq x 32) true (cond (eq x 9) true (cond (eq x 13) true (eq x 10)))
+blank x = cond (eqb x 32) true (cond (eqb x 9) true (cond (eqb x 13) true (eqb x 10)))
 
 abbrev pub begun : State
 begun = state 0 0 0 false false false false false 0
@@ -32,7 +32,7 @@ abbrev pub completing : ℕ → ℕ → State → State
 completing d x s = state s.front d (s.octet % 16 * 16 + hexes.value x) true s.after s.some s.several s.wide s.why
 
 abbrev pub digit_on : ℕ → State → State
-digit_on x s = cond (eq (more s.digits % 2) 1) (waiting (more s.digits) x s) (completing (more s.digits) x s)
+digit_on x s = cond (eqb (more s.digits % 2) 1) (waiting (more s.digits) x s) (completing (more s.digits) x s)
 
 -- a character of 0x
 abbrev pub fronted : ℕ → State → State
@@ -40,9 +40,9 @@ fronted p s = state p s.digits s.octet s.complete s.after s.some s.several s.wid
 
 abbrev pub prefix : ℕ → State → State
 prefix x s =
-    cond (eq s.front 0)
-    (cond (eq x 48) (fronted 1 s) (but why.form s))
-    (cond (eq x 120) (fronted 2 s) (cond (eq x 88) (fronted 2 s) (but why.form s)))
+    cond (eqb s.front 0)
+    (cond (eqb x 48) (fronted 1 s) (but why.form s))
+    (cond (eqb x 120) (fronted 2 s) (cond (eqb x 88) (fronted 2 s) (but why.form s)))
 
 -- a character of a group; a mark must stand before it where groups on a line want one
 abbrev pub digital : ℕ → State → State
@@ -77,9 +77,9 @@ allowed f s =
 -- what stands between groups ends one, where one has begun
 abbrev pub close : Kind → State → State
 close f s =
-    cond (eq s.digits 0) (cond (eq s.front 0) s (but why.form s))
-    (cond (eq s.digits 1) (allowed f (ended_one f s))
-    (cond (eq s.digits 3) (but why.form s)
+    cond (eqb s.digits 0) (cond (eqb s.front 0) s (but why.form s))
+    (cond (eqb s.digits 1) (allowed f (ended_one f s))
+    (cond (eqb s.digits 3) (but why.form s)
     (allowed f (ended (ltb 2 s.digits) s))))
 
 -- ---- between groups
@@ -93,10 +93,10 @@ abbrev pub mark : State → State
 mark s = cond s.after (state s.front s.digits s.octet s.complete false s.some s.several s.wide s.why) (but why.form s)
 
 abbrev pub marking : Kind → ℕ → State → State
-marking f x s = cond (eq f.mark 0) (within f x s) (cond (eq x f.mark) (mark (close f s)) (within f x s))
+marking f x s = cond (eqb f.mark 0) (within f x s) (cond (eqb x f.mark) (mark (close f s)) (within f x s))
 
 abbrev pub stepping : Kind → ℕ → State → State
-stepping f x s = cond (eq x 10) (line f (close f s)) (cond (blank x) (close f s) (marking f x s))
+stepping f x s = cond (eqb x 10) (line f (close f s)) (cond (blank x) (close f s) (marking f x s))
 
 -- a character: no octet is complete yet
 abbrev pub fresh : State → State

@@ -1,7 +1,7 @@
 -- Where each test of a list's state leads. Assumes nothing.
-use Rattle.std.specs.Prelude.{◌≡◌, refl, Bool, true, false, cond, ℕ, ◌+◌, ◌*◌, ◌%◌, ◌<◌, ◌≤◌, ltb, eq}
+use Rattle.std.specs.Prelude.{◌≡◌, refl, Bool, true, false, cond, ℕ, ◌+◌, ◌*◌, ◌%◌, ◌<◌, ◌≤◌, ltb, eqb}
 use Rattle.std.proofs.Common.{ap, ◌∙◌, arith}
-use borrow.Author.Tests.{eq-eq, ne_eqb, lt-ltb, le-ltb, eq-false}
+use borrow.Author.Tests.{eq-eqb, ne_eqb, lt-ltb, le-ltb, eqb-false}
 use Rattle.hexes.specs.Hexes.{digit}
 use Rattle.hexes.specs.Hexes as hexes
 use Rattle.inputs.specs.Why as why
@@ -17,15 +17,15 @@ module _ (d v x : ℕ) (s : State) (e : d ≡ more s.digits) (w : v ≡ hexes.va
       → state s.front d v s.complete s.after s.some s.several s.wide s.why ≡ digit_on x s
   digit-first o =
       ap (λ (n : ℕ). state s.front d n s.complete s.after s.some s.several s.wide s.why) w
-      ∙ rw (eq-eq (d % 2) 1 o) refl
-      ∙ ap (λ (n : ℕ). cond (eq (n % 2) 1) (waiting n x s) (completing n x s)) e
+      ∙ rw (eq-eqb (d % 2) 1 o) refl
+      ∙ ap (λ (n : ℕ). cond (eqb (n % 2) 1) (waiting n x s) (completing n x s)) e
 
   pub digit-second : (d % 2 ≡ 1 → ⊥)
       → state s.front d (s.octet % 16 * 16 + v) true s.after s.some s.several s.wide s.why ≡ digit_on x s
   digit-second o =
       ap (λ (n : ℕ). state s.front d (s.octet % 16 * 16 + n) true s.after s.some s.several s.wide s.why) w
       ∙ rw (ne_eqb (d % 2) 1 o) refl
-      ∙ ap (λ (n : ℕ). cond (eq (n % 2) 1) (waiting n x s) (completing n x s)) e
+      ∙ ap (λ (n : ℕ). cond (eqb (n % 2) 1) (waiting n x s) (completing n x s)) e
 
 module _ (f : Kind) (x : ℕ) (s : State) where
   pub within-after : f.marked ≡ true → s.after ≡ true → but why.form s ≡ within f x s
@@ -56,7 +56,7 @@ module _ (f : Kind) (x : ℕ) (s : State) where
 
 -- ---- between groups
 
-pub blank-last : (x : ℕ) → (x ≡ 32 → ⊥) → (x ≡ 9 → ⊥) → (x ≡ 13 → ⊥) → eq x 10 ≡ blank x
+pub blank-last : (x : ℕ) → (x ≡ 32 → ⊥) → (x ≡ 9 → ⊥) → (x ≡ 13 → ⊥) → eqb x 10 ≡ blank x
 blank-last x a b c = rw (ne_eqb x 32 a, ne_eqb x 9 b, ne_eqb x 13 c)
 
 pub mark-none : (s : State) → s.after ≡ false → but why.form s ≡ mark s
@@ -65,7 +65,7 @@ mark-none s a = rw a
 module _ (f : Kind) (x : ℕ) (s : State) where
   pub moved-line : x ≡ 10 → line f (close f (fresh s)) ≡ moved f x s
   unfolding moved
-  moved-line e = rw (eq-eq x 10 e)
+  moved-line e = rw (eq-eqb x 10 e)
 
   module _ (n : x ≡ 10 → ⊥) where
     pub moved-blank : blank x ≡ true → close f (fresh s) ≡ moved f x s
@@ -79,29 +79,29 @@ module _ (f : Kind) (x : ℕ) (s : State) where
 
 module _ (f : Kind) (x : ℕ) (s : State) where
   pub marking-mark : (f.mark ≡ 0 → ⊥) → x ≡ f.mark → mark (close f s) ≡ marking f x s
-  marking-mark n e = rw (ne_eqb f.mark 0 n, eq-eq x f.mark e)
+  marking-mark n e = rw (ne_eqb f.mark 0 n, eq-eqb x f.mark e)
 
   pub marking-within : ((f.mark ≡ 0 → ⊥) → x ≡ f.mark → ⊥) → within f x s ≡ marking f x s
-  marking-within n = go (eq f.mark 0) refl
+  marking-within n = go (eqb f.mark 0) refl
     where
-      go : (b : Bool) → eq f.mark 0 ≡ b → within f x s ≡ cond b (within f x s) (cond (eq x f.mark) (mark (close f s)) (within f x s))
+      go : (b : Bool) → eqb f.mark 0 ≡ b → within f x s ≡ cond b (within f x s) (cond (eqb x f.mark) (mark (close f s)) (within f x s))
       go true b = refl
-      go false b = rw (ne_eqb x f.mark (n (eq-false f.mark 0 b)))
+      go false b = rw (ne_eqb x f.mark (n (eqb-false f.mark 0 b)))
 
 -- ---- the end of a group
 
 module _ (f : Kind) (s : State) where
   pub close-none : s.digits ≡ 0 → s.front ≡ 0 → s ≡ close f s
-  close-none d p = rw (eq-eq s.digits 0 d, eq-eq s.front 0 p)
+  close-none d p = rw (eq-eqb s.digits 0 d, eq-eqb s.front 0 p)
 
   pub close-front : s.digits ≡ 0 → (s.front ≡ 0 → ⊥) → but why.form s ≡ close f s
-  close-front d p = rw (eq-eq s.digits 0 d, ne_eqb s.front 0 p)
+  close-front d p = rw (eq-eqb s.digits 0 d, ne_eqb s.front 0 p)
 
   pub close-one : s.digits ≡ 1 → allowed f (ended_one f s) ≡ close f s
-  close-one d = rw (ne_eqb s.digits 0 (λ z. absurd (omega arith)), eq-eq s.digits 1 d)
+  close-one d = rw (ne_eqb s.digits 0 (λ z. absurd (omega arith)), eq-eqb s.digits 1 d)
 
   pub close-odd : s.digits ≡ 3 → but why.form s ≡ close f s
-  close-odd d = rw (ne_eqb s.digits 0 (λ z. absurd (omega arith)), ne_eqb s.digits 1 (λ z. absurd (omega arith)), eq-eq s.digits 3 d)
+  close-odd d = rw (ne_eqb s.digits 0 (λ z. absurd (omega arith)), ne_eqb s.digits 1 (λ z. absurd (omega arith)), eq-eqb s.digits 3 d)
 
   pub close-even : (s.digits ≡ 0 → ⊥) → (s.digits ≡ 1 → ⊥) → (s.digits ≡ 3 → ⊥) → allowed f (ended (ltb 2 s.digits) s) ≡ close f s
   close-even m n o = rw (ne_eqb s.digits 0 m, ne_eqb s.digits 1 n, ne_eqb s.digits 3 o)

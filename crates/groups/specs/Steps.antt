@@ -1,7 +1,7 @@
 -- What a character does to a list that stands between groups, within a group or at its end. Assumes nothing.
-use Rattle.std.specs.Prelude.{◌≡◌, refl, Bool, true, false, cond, ◌⊎◌, ℕ, eq}
-use Rattle.std.proofs.Common.{sym, ◌∙◌, inl, inr, arith, eq-true}
-use Rattle.std.proofs.lemmas.Bool.{false≢true, eq-false}
+use Rattle.std.specs.Prelude.{◌≡◌, refl, Bool, true, false, cond, ◌⊎◌, ℕ, eqb}
+use Rattle.std.proofs.Common.{sym, ◌∙◌, inl, inr, arith, eqb-true}
+use Rattle.std.proofs.lemmas.Bool.{false≢true, eqb-false}
 use Rattle.hexes.specs.Hexes.{digit}
 use Rattle.inputs.specs.Why as why
 use Rattle.groups.specs.declared.Kind.{Kind}
@@ -30,16 +30,16 @@ pub record Other (f : Kind) (x : ℕ) : Type 0 where
   pub no_mark : (f.mark ≡ 0 → ⊥) → x ≡ f.mark → ⊥
 
 pub gap-or-other : (f : Kind) (x : ℕ) → Gap f x ⊎ Other f x
-gap-or-other f x = go (eq x 10) refl (blank x) refl (eq f.mark 0) refl (eq x f.mark) refl
+gap-or-other f x = go (eqb x 10) refl (blank x) refl (eqb f.mark 0) refl (eqb x f.mark) refl
   where
-    go : (a : Bool) → eq x 10 ≡ a → (b : Bool) → blank x ≡ b → (c : Bool) → eq f.mark 0 ≡ c → (d : Bool) → eq x f.mark ≡ d → Gap f x ⊎ Other f x
-    go true a b q c r d s = inl (at_break (eq-true x 10 a))
-    go false a true q c r d s = inl (at_blank (eq-false x 10 a) q)
-    go false a false q false r true s = inl (at_mark (eq-false x 10 a) q (eq-false f.mark 0 r) (eq-true x f.mark s))
+    go : (a : Bool) → eqb x 10 ≡ a → (b : Bool) → blank x ≡ b → (c : Bool) → eqb f.mark 0 ≡ c → (d : Bool) → eqb x f.mark ≡ d → Gap f x ⊎ Other f x
+    go true a b q c r d s = inl (at_break (eqb-true x 10 a))
+    go false a true q c r d s = inl (at_blank (eqb-false x 10 a) q)
+    go false a false q false r true s = inl (at_mark (eqb-false x 10 a) q (eqb-false f.mark 0 r) (eqb-true x f.mark s))
     go false a false q true r d s =
-        inr record { no_break = eq-false x 10 a; no_blank = q; no_mark = λ n e. absurd (n (eq-true f.mark 0 r)) }
+        inr record { no_break = eqb-false x 10 a; no_blank = q; no_mark = λ n e. absurd (n (eqb-true f.mark 0 r)) }
     go false a false q false r false s =
-        inr record { no_break = eq-false x 10 a; no_blank = q; no_mark = λ n e. absurd (eq-false x f.mark s e) }
+        inr record { no_break = eqb-false x 10 a; no_blank = q; no_mark = λ n e. absurd (eqb-false x f.mark s e) }
 
 -- ---- between groups
 
@@ -125,19 +125,19 @@ module _ (f : Kind) (x : ℕ) (s : State) where
 
 module _ (x o : ℕ) (c q m v l : Bool) where
   pub zero-says : (prefix x (standing 0 0 o c q m v l)).why ≡ 0 → (x ≡ 48) × (prefix x (standing 0 0 o c q m v l) ≡ standing 1 0 o c q m v l)
-  zero-says = go (eq x 48) refl
+  zero-says = go (eqb x 48) refl
     where
-      go : (b : Bool) → eq x 48 ≡ b → (cond b (standing 1 0 o c q m v l) (but why.form (standing 0 0 o c q m v l))).why ≡ 0
+      go : (b : Bool) → eqb x 48 ≡ b → (cond b (standing 1 0 o c q m v l) (but why.form (standing 0 0 o c q m v l))).why ≡ 0
           → (x ≡ 48) × (cond b (standing 1 0 o c q m v l) (but why.form (standing 0 0 o c q m v l)) ≡ standing 1 0 o c q m v l)
-      go true b z = (eq-true x 48 b, refl)
+      go true b z = (eqb-true x 48 b, refl)
       go false b z = absurd (omega arith)
 
   pub ex-says : (prefix x (standing 1 0 o c q m v l)).why ≡ 0 → Ex x × (prefix x (standing 1 0 o c q m v l) ≡ standing 2 0 o c q m v l)
-  ex-says = go (eq x 120) refl (eq x 88) refl
+  ex-says = go (eqb x 120) refl (eqb x 88) refl
     where
-      go : (a : Bool) → eq x 120 ≡ a → (b : Bool) → eq x 88 ≡ b
+      go : (a : Bool) → eqb x 120 ≡ a → (b : Bool) → eqb x 88 ≡ b
           → (cond a (standing 2 0 o c q m v l) (cond b (standing 2 0 o c q m v l) (but why.form (standing 1 0 o c q m v l)))).why ≡ 0
           → Ex x × (cond a (standing 2 0 o c q m v l) (cond b (standing 2 0 o c q m v l) (but why.form (standing 1 0 o c q m v l))) ≡ standing 2 0 o c q m v l)
-      go true a b p z = (spells.lower (eq-true x 120 a), refl)
-      go false a true p z = (spells.upper (eq-true x 88 p), refl)
+      go true a b p z = (spells.lower (eqb-true x 120 a), refl)
+      go false a true p z = (spells.upper (eqb-true x 88 p), refl)
       go false a false p z = absurd (omega arith)

@@ -1,6 +1,6 @@
 -- The options that hold a value, the octets of an option after its header (docs/COMMAND.md, "Input"; RULES E2, E3, W6).
 -- Assumes nothing: these are definitions.
-use Rattle.std.specs.Prelude.{◌≡◌, cond, List, [], ◌++◌, map, ℕ, ◌+◌, ◌-◌, ◌%◌, ◌≤◌, ◌<◌, ltb, eq, length, take, drop}
+use Rattle.std.specs.Prelude.{◌≡◌, cond, List, [], ◌++◌, map, ℕ, ◌+◌, ◌-◌, ◌%◌, ◌≤◌, ◌<◌, ltb, eqb, length, take, drop}
 use Rattle.octets.specs.Lists.{flat}
 use Rattle.octets.specs.Numbers.{zeros}
 use Rattle.octets.specs.Over.{over}
@@ -32,7 +32,7 @@ headed_of c v = cond (is_joined c) (cut_of v) (option_of c (padded_of c v))
 
 -- a value of no octets has no options
 abbrev pub options_in : Carrier → List ℕ → List ℕ
-options_in c v = cond (eq (length v) 0) [] (headed_of c v)
+options_in c v = cond (eqb (length v) 0) [] (headed_of c v)
 
 -- octets of the options of a value of n octets
 abbrev pub size_of : Carrier → ℕ → ℕ
@@ -76,7 +76,7 @@ put p out = record { placed = p; out = out }
 -- a value of no octets has no options, and no room is wanted for it
 unfoldable pub put_of : List ℕ → Carrier → List ℕ → Put
 put_of out c v =
-    cond (eq (length v) 0) (put (Next 0) out)
+    cond (eqb (length v) 0) (put (Next 0) out)
     (cond (ltb (most_of c) (length v)) (put Large out)
     (cond (ltb (length out) (length (headed_of c v))) (put NoRoom out)
     (put (Next (length (headed_of c v))) (over 0 (headed_of c v) out))))

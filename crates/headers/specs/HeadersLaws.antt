@@ -1,10 +1,10 @@
 -- The laws of values made options: how many octets these have, that an option can say them, and what each outcome leaves. Assumes nothing.
-use Rattle.std.specs.Prelude.{◌≡◌, Bool, true, false, cond, List, [], ◌∷◌, ◌++◌, ℕ, zero, suc, ◌+◌, ◌-◌, ◌%◌, ◌≤◌, ◌<◌, ltb, eq, take, drop}
+use Rattle.std.specs.Prelude.{◌≡◌, Bool, true, false, cond, List, [], ◌∷◌, ◌++◌, ℕ, zero, suc, ◌+◌, ◌-◌, ◌%◌, ◌≤◌, ◌<◌, ltb, eqb, take, drop}
 use Rattle.std.proofs.Math.Path.{refl, ap}
 use Rattle.std.proofs.Common.{sym, ◌∙◌, subst, true≢false, append_assoc, append-nil, arith, length-append, length-take, length-drop, take-append-drop, drop_of_length-le, take_at, take_all, drop_at, length-take-le}
 use Rattle.std.proofs.Math.ListN.{length}
 use Rattle.std.proofs.lemmas.List.{length-replicate}
-use borrow.Author.Tests.{ltb-false, eq-true, eq-false, lt-ltb, le-ltb, eq-eq, ne_eqb}
+use borrow.Author.Tests.{ltb-false, eqb-true, eqb-false, lt-ltb, le-ltb, eq-eqb, ne_eqb}
 use Rattle.octets.specs.Numbers.{zeros}
 use Rattle.octets.specs.Over.{over, Wrote}
 use Rattle.octets.specs.OverLaws.{then, over-length, over-behind}
@@ -153,7 +153,7 @@ cut-wrote v {k} {o} {r} {l} {l₁} {l₂} e w x =
 module _ (out : List ℕ) (c : Carrier) (v : List ℕ) where
   pub put-none : length v ≡ 0 → Puts (put_of out c v) (Next 0) out
   unfolding put_of
-  put-none e = rw (eq-eq (length v) 0 e) (record { answered = refl; leaves = refl })
+  put-none e = rw (eq-eqb (length v) 0 e) (record { answered = refl; leaves = refl })
 
   module _ (some : length v ≡ 0 → ⊥) where
     pub put-large : most_of c < length v → Puts (put_of out c v) Large out
@@ -180,7 +180,7 @@ by-outcome : (P : Placed → List ℕ → Type 0) (out : List ℕ) (c : Carrier)
     → P (put_of out c v).placed (put_of out c v).out
 unfolding put_of
 by-outcome P out c v none large short laid =
-    go (eq (length v) 0) refl (ltb (most_of c) (length v)) refl (ltb (length out) (length (headed_of c v))) refl
+    go (eqb (length v) 0) refl (ltb (most_of c) (length v)) refl (ltb (length out) (length (headed_of c v))) refl
   where
     answer : Bool → Bool → Bool → Put
     answer x y z =
@@ -188,13 +188,13 @@ by-outcome P out c v none large short laid =
         (cond y (put Large out)
         (cond z (put NoRoom out) (put (Next (length (headed_of c v))) (over 0 (headed_of c v) out))))
 
-    go : (x : Bool) → eq (length v) 0 ≡ x → (y : Bool) → ltb (most_of c) (length v) ≡ y → (z : Bool) → ltb (length out) (length (headed_of c v)) ≡ z
+    go : (x : Bool) → eqb (length v) 0 ≡ x → (y : Bool) → ltb (most_of c) (length v) ≡ y → (z : Bool) → ltb (length out) (length (headed_of c v)) ≡ z
         → P (answer x y z).placed (answer x y z).out
-    go true p y q z e = none (eq-true (length v) 0 p)
+    go true p y q z e = none (eqb-true (length v) 0 p)
     go false p true q z e = large
     go false p false q true e = short
     go false p false q false e =
-        laid (eq-false (length v) 0 p) (ltb-false (most_of c) (length v) q) (ltb-false (length out) (length (headed_of c v)) e)
+        laid (eqb-false (length v) 0 p) (ltb-false (most_of c) (length v) q) (ltb-false (length out) (length (headed_of c v)) e)
 
 -- the options that were laid have no more octets than the buffer, which keeps its length
 abbrev Within : ℕ → Placed → Type 0
@@ -275,7 +275,7 @@ add-lays out n c v {m} h = by-outcome (λ p l. told n p ≡ Octets m → Lays c 
     none z e =
         let k : n ≡ m = let q : n + 0 ≡ m = cc in omega arith in
         record {
-          are = take_at (take n out) (drop n out) m (size ∙ k) ∙ rw (eq-eq (length v) 0 z) (sym (append-nil (take n out)));
+          are = take_at (take n out) (drop n out) m (size ∙ k) ∙ rw (eq-eqb (length v) 0 z) (sym (append-nil (take n out)));
           held = λ s. absurd (s z);
         }
 

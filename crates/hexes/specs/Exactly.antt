@@ -1,7 +1,7 @@
 -- A text is read as octets exactly where it spells them, one at least; a text spells at most one list of octets, and each of them is
 -- below 256. Assumes nothing.
-use Rattle.std.specs.Prelude.{◌≡◌, refl, ◌↔◌, Bool, true, false, ◌||◌, List, [], ◌∷◌, ℕ, ◌≤◌, eq, length}
-use Rattle.std.proofs.Common.{ap, ◌∙◌, arith, eq-true}
+use Rattle.std.specs.Prelude.{◌≡◌, refl, ◌↔◌, Bool, true, false, ◌||◌, List, [], ◌∷◌, ℕ, ◌≤◌, eqb, length}
+use Rattle.std.proofs.Common.{ap, ◌∙◌, arith, eqb-true}
 use Rattle.std.proofs.lemmas.Bool.{false≢true}
 use Rattle.hexes.specs.Hexes.{digit, value, separator, octet, Read, octets, other, onto, pairs, some, read_hex}
 use Rattle.hexes.specs.HexesLaws.{by-digit, value-decimal, value-upper, value-lower, digit-decimal, digit-upper, digit-lower, digit-separator, pairs-separator, pairs-pair, pairs_first, pairs-second, some_is, is_some}
@@ -23,15 +23,15 @@ digit-is {x} {v} (lower h k e) = (digit-lower x (omega arith) (omega arith), val
 
 separator-says : (x : ℕ) → separator x ≡ true → Separator x
 unfolding separator
-separator-says x = go (eq x 32) refl (eq x 9) refl (eq x 10) refl (eq x 13) refl (eq x 58) refl
+separator-says x = go (eqb x 32) refl (eqb x 9) refl (eqb x 10) refl (eqb x 13) refl (eqb x 58) refl
   where
-    go : (a : Bool) → eq x 32 ≡ a → (b : Bool) → eq x 9 ≡ b → (c : Bool) → eq x 10 ≡ c → (d : Bool) → eq x 13 ≡ d → (e : Bool) → eq x 58 ≡ e
+    go : (a : Bool) → eqb x 32 ≡ a → (b : Bool) → eqb x 9 ≡ b → (c : Bool) → eqb x 10 ≡ c → (d : Bool) → eqb x 13 ≡ d → (e : Bool) → eqb x 58 ≡ e
         → a || b || c || d || e ≡ true → Separator x
-    go true p b q c r d s e u h = space (eq-true x 32 p)
-    go false p true q c r d s e u h = tab (eq-true x 9 q)
-    go false p false q true r d s e u h = line_feed (eq-true x 10 r)
-    go false p false q false r true s e u h = carriage_return (eq-true x 13 s)
-    go false p false q false r false s true u h = colon (eq-true x 58 u)
+    go true p b q c r d s e u h = space (eqb-true x 32 p)
+    go false p true q c r d s e u h = tab (eqb-true x 9 q)
+    go false p false q true r d s e u h = line_feed (eqb-true x 10 r)
+    go false p false q false r true s e u h = carriage_return (eqb-true x 13 s)
+    go false p false q false r false s true u h = colon (eqb-true x 58 u)
     go false p false q false r false s false u h = absurd (false≢true h)
 
 separator-is : {x : ℕ} → Separator x → separator x ≡ true

@@ -1,6 +1,6 @@
 -- Octets as hexadecimal text, in the form in which Wireshark copies a byte string: what each character is, how a text is read, and
 -- how octets are written. Characters are given by their ASCII numbers. Assumes nothing: these are definitions.
-use Rattle.std.specs.Prelude.{Bool, cond, ◌&&◌, ◌||◌, List, [], ◌∷◌, ◌++◌, ℕ, ◌+◌, ◌-◌, ◌*◌, ◌/◌, ◌%◌, ltb, eq}
+use Rattle.std.specs.Prelude.{Bool, cond, ◌&&◌, ◌||◌, List, [], ◌∷◌, ◌++◌, ℕ, ◌+◌, ◌-◌, ◌*◌, ◌/◌, ◌%◌, ltb, eqb}
 use Rattle.octets.specs.Numbers.{range}
 
 -- ---- characters
@@ -15,7 +15,7 @@ value x = cond (ltb x 65) (x - 48) (cond (ltb x 97) (x - 55) (x - 87))
 
 -- x is a space, tab, line feed, carriage return or colon
 unfoldable pub separator : ℕ → Bool
-separator x = eq x 32 || eq x 9 || eq x 10 || eq x 13 || eq x 58
+separator x = eqb x 32 || eqb x 9 || eqb x 10 || eqb x 13 || eqb x 58
 
 -- the octet of two digits, the more significant first
 abbrev pub octet : ℕ → ℕ → ℕ

@@ -1,5 +1,5 @@
 -- The laws of characters and of reading, case by case, and that what is written is read back. Assumes nothing.
-use Rattle.std.specs.Prelude.{◌≡◌, refl, Bool, true, false, ◌||◌, List, [], ◌∷◌, ◌++◌, ℕ, ◌+◌, ◌-◌, ◌*◌, ◌/◌, ◌%◌, ◌≤◌, ◌<◌, leb, eq, length, get_or, take}
+use Rattle.std.specs.Prelude.{◌≡◌, refl, Bool, true, false, ◌||◌, List, [], ◌∷◌, ◌++◌, ℕ, ◌+◌, ◌-◌, ◌*◌, ◌/◌, ◌%◌, ◌≤◌, ◌<◌, leb, eqb, length, get_or, take}
 use Rattle.std.proofs.Common.{sym, ap, ◌∙◌, add-one, arith, leb-true, leb-false, le-leb, lt-ltb, le-ltb, ne_eqb, take-suc}
 use Rattle.std.proofs.lemmas.Bool.{false≢true, lt-leb}
 use Rattle.std.proofs.Math.Bool.{and-eq-true_iff}
@@ -56,7 +56,7 @@ digit-lower x h k =
     simp (le-leb 48 x l, lt-leb x 57 m, le-leb 65 x n, lt-leb x 70 o, le-leb 97 x h, le-leb x 102 k)
 
 -- what is no other separator is one where it is a colon
-pub separator-colon : (x : ℕ) → (x ≡ 32 → ⊥) → (x ≡ 9 → ⊥) → (x ≡ 10 → ⊥) → (x ≡ 13 → ⊥) → eq x 58 ≡ separator x
+pub separator-colon : (x : ℕ) → (x ≡ 32 → ⊥) → (x ≡ 9 → ⊥) → (x ≡ 10 → ⊥) → (x ≡ 13 → ⊥) → eqb x 58 ≡ separator x
 unfolding separator
 separator-colon x a b c d = simp (ne_eqb x 32 a, ne_eqb x 9 b, ne_eqb x 10 c, ne_eqb x 13 d)
 

@@ -1,6 +1,6 @@
 -- IP addresses as text: IPv4 in dotted decimal, IPv6 as RFC 5952 §4 and §5 recommend. An address is its octets; a text is the codes of its
 -- characters, where `0` is 48, `a` is 97, the dot is 46 and the colon is 58. Assumes nothing: these are definitions.
-use Rattle.std.specs.Prelude.{Bool, cond, ◌&&◌, List, [], ◌∷◌, ◌++◌, map, ℕ, zero, suc, ◌+◌, ◌-◌, ◌/◌, ◌%◌, eq, ltb, take, drop}
+use Rattle.std.specs.Prelude.{Bool, cond, ◌&&◌, List, [], ◌∷◌, ◌++◌, map, ℕ, zero, suc, ◌+◌, ◌-◌, ◌/◌, ◌%◌, eqb, ltb, take, drop}
 use Rattle.octets.specs.Numbers.{at16, words, all_zero}
 use Rattle.ips.specs.declared.Run.{Run}
 
@@ -44,7 +44,7 @@ text4 a = joined 46 (map decimal a)
 -- how many zero fields stand at the front
 unfoldable pub zeros_ahead : List ℕ → ℕ
 zeros_ahead [] = 0
-zeros_ahead (f ∷ fs) = cond (eq f 0) (zeros_ahead fs + 1) 0
+zeros_ahead (f ∷ fs) = cond (eqb f 0) (zeros_ahead fs + 1) 0
 
 -- n fields from the one with index i on
 abbrev pub run : ℕ → ℕ → Run
@@ -77,11 +77,11 @@ around r fs = colons (take r.start fs) ++ (58 ∷ 58 ∷ colons (drop (r.start +
 
 -- fields with a run shortened, if it has any
 unfoldable pub shortened : Run → List ℕ → List ℕ
-shortened r fs = cond (eq r.count 0) (colons fs) (around r fs)
+shortened r fs = cond (eqb r.count 0) (colons fs) (around r fs)
 
 -- whether an address has the prefix ::ffff:0:0/96 (RFC 4291 §2.5.5.2, IPv4-mapped addresses)
 unfoldable pub mapped : List ℕ → Bool
-mapped a = all_zero (take 10 a) && eq (at16 a 10) 65535
+mapped a = all_zero (take 10 a) && eqb (at16 a 10) 65535
 
 -- ::ffff: and the IPv4 address in the last four octets (RFC 5952 §5, mixed notation under a well-known prefix)
 unfoldable pub mixed : List ℕ → List ℕ

@@ -1,9 +1,9 @@
 -- The run that is shortened is the one that RFC 5952 §4.2 asks for: a run of zeros, with none longer, the first where several are as
 -- long, so that the fields next to it are not zero; and none where no two zeros stand side by side. Assumes nothing.
-use Rattle.std.specs.Prelude.{◌≡◌, refl, Bool, true, false, cond, ◌⊎◌, List, [], ◌∷◌, ℕ, zero, suc, ◌+◌, ◌-◌, ◌≤◌, ◌<◌, eq, length, get_or, drop}
-use Rattle.std.proofs.Common.{ap, inl, inr, ⊎_elim, add-zero, zero-add, add-suc, suc-add, arith, eq-true, length-drop}
+use Rattle.std.specs.Prelude.{◌≡◌, refl, Bool, true, false, cond, ◌⊎◌, List, [], ◌∷◌, ℕ, zero, suc, ◌+◌, ◌-◌, ◌≤◌, ◌<◌, eqb, length, get_or, drop}
+use Rattle.std.proofs.Common.{ap, inl, inr, ⊎_elim, add-zero, zero-add, add-suc, suc-add, arith, eqb-true, length-drop}
 use Rattle.std.proofs.Math.Nat.{sub-zero}
-use Rattle.std.proofs.lemmas.Bool.{eq-false}
+use Rattle.std.proofs.lemmas.Bool.{eqb-false}
 use Rattle.octets.specs.Cases.{by_less}
 use Rattle.ips.specs.declared.Run.{Run}
 use Rattle.ips.specs.Ips.{zeros_ahead, run, longer, longest_from, shortening, run_of}
@@ -22,24 +22,24 @@ zeros-pred {f} {s} {n} z = record { inside = omega (arith, z.inside); zero = λ 
 ahead-zeros : (fs : List ℕ) → Zeros fs 0 (zeros_ahead fs)
 unfolding zeros_ahead
 ahead-zeros [] = record { inside = omega arith; zero = λ i h. absurd (omega arith) }
-ahead-zeros (f ∷ fs) = go (eq f 0) refl (ahead-zeros fs)
+ahead-zeros (f ∷ fs) = go (eqb f 0) refl (ahead-zeros fs)
   where
-    go : (b : Bool) → eq f 0 ≡ b → Zeros fs 0 (zeros_ahead fs) → Zeros (f ∷ fs) 0 (cond b (zeros_ahead fs + 1) 0)
+    go : (b : Bool) → eqb f 0 ≡ b → Zeros fs 0 (zeros_ahead fs) → Zeros (f ∷ fs) 0 (cond b (zeros_ahead fs + 1) 0)
     go false t z = record { inside = omega arith; zero = λ i h. absurd (omega arith) }
     go true t z = record { inside = omega (arith, z.inside); zero = at }
       where
         at : (i : ℕ) → i < zeros_ahead fs + 1 → get_or (f ∷ fs) (0 + i) 0 ≡ 0
-        at zero h = eq-true _ _ t
+        at zero h = eqb-true _ _ t
         at (suc i) h = rw (zero-add (suc i)) (rw (zero-add i) at (z.zero i (omega arith)))
 
 ahead-most : (fs : List ℕ) (m : ℕ) → Zeros fs 0 m → m ≤ zeros_ahead fs
 unfolding zeros_ahead
 ahead-most [] m z = omega (arith, z.inside)
 ahead-most (f ∷ fs) zero z = omega arith
-ahead-most (f ∷ fs) (suc m) z = go (eq f 0) refl (ahead-most fs m)
+ahead-most (f ∷ fs) (suc m) z = go (eqb f 0) refl (ahead-most fs m)
   where
-    go : (b : Bool) → eq f 0 ≡ b → (Zeros fs 0 m → m ≤ zeros_ahead fs) → suc m ≤ cond b (zeros_ahead fs + 1) 0
-    go false t ih = absurd (eq-false _ _ t (z.zero 0 (omega arith)))
+    go : (b : Bool) → eqb f 0 ≡ b → (Zeros fs 0 m → m ≤ zeros_ahead fs) → suc m ≤ cond b (zeros_ahead fs + 1) 0
+    go false t ih = absurd (eqb-false _ _ t (z.zero 0 (omega arith)))
     go true t ih =
         let tail : Zeros fs 0 m = record { inside = omega (arith, z.inside); zero = λ i h. rw (zero-add i) (rw (zero-add (suc i)) at (z.zero (suc i) (omega arith))) } in
         omega (arith, ih tail)

@@ -1,6 +1,6 @@
 -- A text is of one address: two addresses with the same text are the same, in IPv4 and in IPv6. Assumes nothing.
-use Rattle.std.specs.Prelude.{◌≡◌, refl, Bool, true, false, ◌⊎◌, List, [], ◌∷◌, ◌++◌, map, ℕ, zero, ◌+◌, ◌-◌, ◌/◌, ◌≤◌, ◌<◌, eq, ltb, length, get_or, take, drop}
-use Rattle.std.proofs.Common.{sym, ap, ◌∙◌, inl, inr, append-nil, append_assoc, arith, eq-true, ltb-true, ltb-false, length-append, length-drop, take-append-drop, length-take-le, get_or-take, get_or-drop, drop-cons, ext_get_or}
+use Rattle.std.specs.Prelude.{◌≡◌, refl, Bool, true, false, ◌⊎◌, List, [], ◌∷◌, ◌++◌, map, ℕ, zero, ◌+◌, ◌-◌, ◌/◌, ◌≤◌, ◌<◌, eqb, ltb, length, get_or, take, drop}
+use Rattle.std.proofs.Common.{sym, ap, ◌∙◌, inl, inr, append-nil, append_assoc, arith, eqb-true, ltb-true, ltb-false, length-append, length-drop, take-append-drop, length-take-le, get_or-take, get_or-drop, drop-cons, ext_get_or}
 use Rattle.std.proofs.Math.Bool.{and-eq-true_iff}
 use Rattle.octets.specs.Numbers.{Octet, Bytes, at16, words, numbers_of, zeros, all_zero}
 use Rattle.octets.specs.NumbersLaws.{bytes-get_or, words-length, words_small, numbers-words, zero-zeros}
@@ -183,10 +183,10 @@ fields-same a b ha hb la lb e = sym (numbers-words a ha (omega arith)) ∙ ap nu
 pub mapped-octets : (a : List ℕ) → Bytes a → length a ≡ 16 → mapped a ≡ true → a ≡ zeros 10 ++ (255 ∷ 255 ∷ drop 12 a)
 unfolding mapped
 mapped-octets a h l e =
-    let both = (and-eq-true_iff (all_zero (take 10 a)) (eq (at16 a 10) 65535)).0 e in
+    let both = (and-eq-true_iff (all_zero (take 10 a)) (eqb (at16 a 10) 65535)).0 e in
     let ten : length (take 10 a) ≡ 10 = length-take-le 10 a (omega arith) in
     let front : take 10 a ≡ zeros 10 = zero-zeros (take 10 a) both.0 ∙ ap zeros ten in
-    let ones : at16 a 10 ≡ 65535 = eq-true _ _ both.1 in
+    let ones : at16 a 10 ≡ 65535 = eqb-true _ _ both.1 in
     let low : get_or a 11 0 < 256 = bytes-get_or a 11 h in
     let high : get_or a 10 0 < 256 = bytes-get_or a 10 h in
     let p : get_or a 10 0 ≡ 255 = omega arith in

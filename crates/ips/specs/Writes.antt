@@ -1,7 +1,7 @@
 -- What the code does in its steps, said of the definitions: a law for each return and for each turn of a loop. Assumes nothing.
-use Rattle.std.specs.Prelude.{◌≡◌, refl, Bool, true, false, cond, List, [], ◌∷◌, ◌++◌, map, ℕ, zero, suc, ◌+◌, ◌-◌, ◌*◌, ◌/◌, ◌%◌, ◌^◌, ◌≤◌, ◌<◌, eq, length, get_or, take, drop}
+use Rattle.std.specs.Prelude.{◌≡◌, refl, Bool, true, false, cond, List, [], ◌∷◌, ◌++◌, map, ℕ, zero, suc, ◌+◌, ◌-◌, ◌*◌, ◌/◌, ◌%◌, ◌^◌, ◌≤◌, ◌<◌, eqb, length, get_or, take, drop}
 use Rattle.std.proofs.Common.{sym, ap, ◌∙◌, append_assoc, append-nil, add-zero, add-one, arith, length-append, take-append-drop, drop_of_length-le, drop-cons, get_or-drop, take-suc, take_all}
-use borrow.Author.Tests.{lt-ltb, le-ltb, eq-eq, ne_eqb}
+use borrow.Author.Tests.{lt-ltb, le-ltb, eq-eqb, ne_eqb}
 use Rattle.octets.specs.Numbers.{at16, words, all_zero}
 use Rattle.octets.specs.Over.{Wrote}
 use Rattle.octets.specs.OverLaws.{then}
@@ -64,10 +64,10 @@ shortening-none r h = rw (lt-ltb r.count 2 h)
 pub shortening-some : (r : Run) → 2 ≤ r.count → r ≡ shortening r
 shortening-some r h = rw (le-ltb r.count 2 h)
 
-pub one-zero : (f n : ℕ) → f ≡ 0 → n + 1 ≡ cond (eq f 0) (n + 1) 0
-one-zero f n e = rw (eq-eq f 0 e)
+pub one-zero : (f n : ℕ) → f ≡ 0 → n + 1 ≡ cond (eqb f 0) (n + 1) 0
+one-zero f n e = rw (eq-eqb f 0 e)
 
-pub no_zero : (f n : ℕ) → (f ≡ 0 → ⊥) → 0 ≡ cond (eq f 0) (n + 1) 0
+pub no_zero : (f n : ℕ) → (f ≡ 0 → ⊥) → 0 ≡ cond (eqb f 0) (n + 1) 0
 no_zero f n h = rw (ne_eqb f 0 h)
 
 pub fields-of-drop : (k : ℕ) (a : List ℕ) → words (drop (2 * k) a) ≡ drop k (words a)
@@ -85,7 +85,7 @@ field_at a i h =
 
 -- one field more, from the last back
 pub zeros-turn : (a : List ℕ) (i z g : ℕ) → 2 * i + 1 < length a → g ≡ at16 a (2 * i) → z ≡ zeros_ahead (drop (i + 1) (words a))
-    → cond (eq g 0) (z + 1) 0 ≡ zeros_ahead (drop i (words a))
+    → cond (eqb g 0) (z + 1) 0 ≡ zeros_ahead (drop i (words a))
 unfolding zeros_ahead
 zeros-turn a i z g h e q =
     let k : i < length (words a) = omega (arith, words-length a) in
@@ -179,7 +179,7 @@ wrote-around a s n before one two after = rw (around-octets a s n) (then before 
 module _ (fs : List ℕ) (r : Run) (e : r ≡ run_of fs) where
   pub shortened-whole : r.count ≡ 0 → shortened (run_of fs) fs ≡ colons fs
   unfolding shortened
-  shortened-whole z = rw (← e, eq-eq r.count 0 z)
+  shortened-whole z = rw (← e, eq-eqb r.count 0 z)
 
   pub shortened-around : (r.count ≡ 0 → ⊥) → shortened (run_of fs) fs ≡ around r fs
   unfolding shortened
@@ -206,7 +206,7 @@ four-length a e = ap length (four-octets a e) ∙ simp length-append (omega arit
 
 -- ---- mapped addresses
 
-pub is_mapped : (a : List ℕ) (z : Bool) (n : ℕ) → z ≡ all_zero (take 10 a) → z ≡ true → n ≡ at16 a 10 → eq n 65535 ≡ mapped a
+pub is_mapped : (a : List ℕ) (z : Bool) (n : ℕ) → z ≡ all_zero (take 10 a) → z ≡ true → n ≡ at16 a 10 → eqb n 65535 ≡ mapped a
 unfolding mapped
 is_mapped a z n e t q = rw (← e, t, q)
 

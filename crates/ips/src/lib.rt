@@ -1,7 +1,7 @@
 // Ips: IP addresses as text, written into a lent buffer: IPv4 in dotted decimal, IPv6 as RFC 5952 §4 recommends, with the mixed
 // notation of its §5 for IPv4-mapped addresses and for no others. An address has one text, and a text is of one address.
 // Nothing here reads a text, or judges an address.
-ghost use Rattle.std.specs.Prelude.{◌≡◌, cond, [], ◌∷◌, map, ◌+◌, ◌*◌, ◌^◌, ◌≤◌, ◌<◌, eq, length};
+ghost use Rattle.std.specs.Prelude.{◌≡◌, cond, [], ◌∷◌, map, ◌+◌, ◌*◌, ◌^◌, ◌≤◌, ◌<◌, eqb, length};
 ghost use Rattle.octets.specs.Numbers.{words};
 ghost use Rattle.octets.specs.Over.{Wrote};
 ghost use Rattle.ips.specs.Ips.{digit, numeral, decimal, hex, led, text4, run, longer, shortening, run_of, colons, around, shortened, mapped, mixed, text6};
@@ -94,7 +94,7 @@ struct Run {
 // How many zero fields stand from a field on, where `after` stand after it.
 fn zeros_from(field: usize, after: usize) -> usize
     requires { after < 8 }
-    ensures { result ≡ cond (eq field 0) (after + 1) 0 }
+    ensures { result ≡ cond (eqb field 0) (after + 1) 0 }
 {
     if field == 0 { after + 1 } else { 0 }
 }

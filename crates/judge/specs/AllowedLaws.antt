@@ -1,14 +1,14 @@
 -- The judge finds no fault exactly in fields that are allowed, and the fault that it finds is the number of the first broken rule.
 -- Assumes nothing.
 use Rattle.std.proofs.Math.Path.{◌≡◌, refl, sym}
-use Rattle.std.proofs.Common.{ap, ◌∙◌, subst, true≢false, eq-true, eq-eq, ne_eqb, ltb-false, le-ltb}
+use Rattle.std.proofs.Common.{ap, ◌∙◌, subst, true≢false, eqb-true, eq-eqb, ne_eqb, ltb-false, le-ltb}
 use Rattle.std.specs.Prelude.{Bool, cond, not, ◌↔◌, List, [], ◌∷◌, ℕ, ◌/◌, ◌%◌, ◌≤◌, ◌<◌, ltb, length}
 use Rattle.std.proofs.Math.Bool.{true, false}
 use Rattle.std.specs.Bool.{beq}
 use Rattle.std.proofs.Math.Logic.{inl, inr, Iff·rfl, Iff·trans, Iff·and}
 use native.Mathlib.Omega.{arith}
-use Rattle.std.proofs.Math.Dec.{eq}
-use Rattle.std.proofs.lemmas.Bool.{eq-false, not-true, not-false}
+use Rattle.std.proofs.Math.Dec.{eqb}
+use Rattle.std.proofs.lemmas.Bool.{eqb-false, not-true, not-false}
 use Rattle.octets.specs.Lists.{All}
 use Rattle.octets.specs.Numbers.{Bytes}
 use Rattle.numbers.specs.Fault as fault
@@ -214,11 +214,11 @@ parameters-told p octets k q = subst (ParametersBroken p) q (go (verdict p octet
         let w = a.ordered in
         inr ((a.params, w), inr (none-hinted a.params w a.unhinted, inr (all-allowed a.params w a.values, e)))
 
-some-there : (n : ℕ) → (eq n 0 ≡ false) ↔ (0 < n)
-some-there n = (λ e. let z : n ≡ 0 → ⊥ = eq-false _ _ e in omega arith, λ h. ne_eqb n 0 (λ (z : n ≡ 0). omega arith))
+some-there : (n : ℕ) → (eqb n 0 ≡ false) ↔ (0 < n)
+some-there n = (λ e. let z : n ≡ 0 → ⊥ = eqb-false _ _ e in omega arith, λ h. ne_eqb n 0 (λ (z : n ≡ 0). omega arith))
 
-whole-number : (n : ℕ) → (not (eq n 0) ≡ false) ↔ (n ≡ 0)
-whole-number n = (λ e. eq-true _ _ (not-false _ e), λ e. ap not (eq-eq _ _ e))
+whole-number : (n : ℕ) → (not (eqb n 0) ≡ false) ↔ (n ≡ 0)
+whole-number n = (λ e. eqb-true _ _ (not-false _ e), λ e. ap not (eq-eqb _ _ e))
 
 at_most : (most n : ℕ) → (ltb most n ≡ false) ↔ (n ≤ most)
 at_most most n = (ltb-false _ _, le-ltb _ _)
@@ -240,15 +240,15 @@ module _ (side : Side) (c : Carrier) (f : Fields) (octets : f.full ≡ true → 
 
   fault-told : Tells (fault_of side c f) (FirstBroken side c f)
   unfolding judged_of
-  fault-told = go (eq f.priority 0) (name_of side c f.name) refl refl
+  fault-told = go (eqb f.priority 0) (name_of side c f.name) refl refl
     where
-      go : (zero : Bool) (n : Name) → eq f.priority 0 ≡ zero → name_of side c f.name ≡ n
+      go : (zero : Bool) (n : Name) → eqb f.priority 0 ≡ zero → name_of side c f.name ≡ n
           → Tells (cond zero (judged fault.priority 0)
           (on_name n (λ place. judged fault.name place) (judged (cond f.full tail (name_only_fault c)) 0))).fault (FirstBroken side c f)
-      go true n z m k q = inl (λ s. s (eq-true _ _ z), sym q)
+      go true n z m k q = inl (λ s. s (eqb-true _ _ z), sym q)
       go false (Bad place) z m k q =
-          inr (eq-false _ _ z, inl (λ h. let good = (name-exactly side c f.name).1 h in let apart : ◌≡◌ {A = ℕ} 0 1 = cc in omega arith, sym q))
-      go false Good z m k q = inr (eq-false _ _ z, inr ((name-exactly side c f.name).0 m, form-told f.full refl k q))
+          inr (eqb-false _ _ z, inl (λ h. let good = (name-exactly side c f.name).1 h in let apart : ◌≡◌ {A = ℕ} 0 1 = cc in omega arith, sym q))
+      go false Good z m k q = inr (eqb-false _ _ z, inr ((name-exactly side c f.name).0 m, form-told f.full refl k q))
 
 -- the fault of fields is the first rule that they break
 pub broken-exactly : (side : Side) (c : Carrier) (f : Fields) (k : ℕ) → (f.full ≡ true → Bytes f.parameters)

@@ -1,6 +1,6 @@
 -- The first fault of a record's fields, 21 to 28 in that order (RULES T2); a name only skips 24 to 28, and in carriers 1 to 3 also 23
 -- (RULES T4). Of 22 also the place of the name's first bad octet (RULES N5). Assumes nothing: these are definitions.
-use Rattle.std.specs.Prelude.{Bool, cond, not, List, ℕ, ◌/◌, ◌%◌, ltb, eq, length}
+use Rattle.std.specs.Prelude.{Bool, cond, not, List, ℕ, ◌/◌, ◌%◌, ltb, eqb, length}
 use Rattle.numbers.specs.Fault as fault
 use Rattle.numbers.specs.Limit as limit
 use Rattle.carriers.specs.declared.Carrier.{Carrier}
@@ -30,8 +30,8 @@ refused_of Writing w addresses = any_of w addresses
 -- 23 to 28 of a record in full form, with addresses of w octets; 24 counts the addresses as carried
 unfoldable pub tail_fault : Side → ℕ → List ℕ → List ℕ → ℕ
 tail_fault side w addresses parameters =
-    cond (eq (length addresses) 0) fault.addresses
-    (cond (not (eq (length addresses % w) 0)) fault.addresses
+    cond (eqb (length addresses) 0) fault.addresses
+    (cond (not (eqb (length addresses % w) 0)) fault.addresses
     (cond (ltb limit.addresses (length addresses / w)) fault.limit
     (cond (ltb limit.parameters (length parameters)) fault.limit
     (cond (refused_of side w (list_of w addresses)) fault.dropped
@@ -48,7 +48,7 @@ on_name (Bad place) bad good = bad place
 -- 21, 22 with its place in the name, and what follows by the form
 unfoldable pub judged_of : Side → Carrier → ℕ → List ℕ → Bool → List ℕ → List ℕ → Judged
 judged_of side c priority name full addresses parameters =
-    cond (eq priority 0) (judged fault.priority 0)
+    cond (eqb priority 0) (judged fault.priority 0)
     (on_name (name_of side c name) (λ place. judged fault.name place)
     (judged (cond full (tail_fault side (address_width c) addresses parameters) (name_only_fault c)) 0))
 

@@ -4,9 +4,9 @@ use Rattle.std.proofs.Math.Path.{refl}
 use Rattle.std.proofs.Common.{sym, ap, ◌∙◌, true≢false, arith}
 use Rattle.std.proofs.Math.Bool.{true, false, cond}
 use Rattle.std.proofs.lemmas.Bool.{false≢true}
-use Rattle.std.proofs.Math.Dec.{ltb, eq}
+use Rattle.std.proofs.Math.Dec.{ltb, eqb}
 use Rattle.std.proofs.Math.ListN.{length}
-use borrow.Author.Tests.{eq-true, eq-false, ltb-false}
+use borrow.Author.Tests.{eqb-true, eqb-false, ltb-false}
 use Rattle.numbers.specs.Fault as fault
 use Rattle.numbers.specs.Limit as limit
 use Rattle.carriers.specs.declared.Carrier.{Carrier}
@@ -39,10 +39,10 @@ module _ (side : Side) (w : ℕ) (a p : List ℕ) where
   pub tail-passed : tail_fault side w a p ≡ 0 → PassedTail side w a p
   unfolding tail_fault
   tail-passed =
-      go (eq (length a) 0) (eq (length a % w) 0) (ltb limit.addresses (length a / w)) (ltb limit.parameters (length p))
+      go (eqb (length a) 0) (eqb (length a % w) 0) (ltb limit.addresses (length a / w)) (ltb limit.parameters (length p))
       (refused_of side w (list_of w a)) refl refl refl refl refl
     where
-      go : (none whole many long refused : Bool) → eq (length a) 0 ≡ none → eq (length a % w) 0 ≡ whole
+      go : (none whole many long refused : Bool) → eqb (length a) 0 ≡ none → eqb (length a % w) 0 ≡ whole
           → ltb limit.addresses (length a / w) ≡ many → ltb limit.parameters (length p) ≡ long → refused_of side w (list_of w a) ≡ refused
           → cond none fault.addresses
           (cond (not whole) fault.addresses (cond many fault.limit (cond long fault.limit (cond refused fault.dropped (params_fault p))))) ≡ 0
@@ -53,10 +53,10 @@ module _ (side : Side) (w : ℕ) (a p : List ℕ) where
       go false true false true refused n h m l r e = absurd (omega arith)
       go false true false false true n h m l r e = absurd (omega arith)
       go false true false false false n h m l r e =
-          let some : length a ≡ 0 → ⊥ = eq-false _ _ n in
+          let some : length a ≡ 0 → ⊥ = eqb-false _ _ n in
           record {
             some = omega arith;
-            whole = eq-true _ _ h;
+            whole = eqb-true _ _ h;
             few = ltb-false _ _ m;
             short = ltb-false _ _ l;
             usable = r;
@@ -80,9 +80,9 @@ name-only-passed c = go (as_text c) refl
 module _ (side : Side) (c : Carrier) (f : Fields) where
   pub fault-passed : fault_of side c f ≡ 0 → Passed side c f
   unfolding judged_of
-  fault-passed = go (eq f.priority 0) (name_of side c f.name) f.full refl refl refl
+  fault-passed = go (eqb f.priority 0) (name_of side c f.name) f.full refl refl refl
     where
-      go : (zero : Bool) (n : Name) (full : Bool) → eq f.priority 0 ≡ zero → name_of side c f.name ≡ n → f.full ≡ full
+      go : (zero : Bool) (n : Name) (full : Bool) → eqb f.priority 0 ≡ zero → name_of side c f.name ≡ n → f.full ≡ full
           → (cond zero (judged fault.priority 0)
           (on_name n (λ place. judged fault.name place)
           (judged (cond full (tail_fault side (address_width c) f.addresses f.parameters) (name_only_fault c)) 0))).fault ≡ 0
@@ -91,14 +91,14 @@ module _ (side : Side) (c : Carrier) (f : Fields) where
       go false (Bad place) full p m u e = absurd (omega arith)
       go false Good true p m u e =
           record {
-            service = eq-false _ _ p;
+            service = eqb-false _ _ p;
             named = m;
             tail = λ _. tail-passed side (address_width c) f.addresses f.parameters e;
             name_only = λ v. absurd (true≢false (sym u ∙ v));
           }
       go false Good false p m u e =
           record {
-            service = eq-false _ _ p;
+            service = eqb-false _ _ p;
             named = m;
             tail = λ v. absurd (false≢true (sym u ∙ v));
             name_only = λ _. name-only-passed c e;

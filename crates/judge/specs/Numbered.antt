@@ -1,5 +1,5 @@
 -- Which numbers the judge gives: 0, or 21 to 28 (RULES R21 to R28). Assumes nothing.
-use Rattle.std.specs.Prelude.{refl, Bool, true, false, cond, not, List, ℕ, ◌/◌, ◌%◌, ◌≤◌, ltb, eq, length}
+use Rattle.std.specs.Prelude.{refl, Bool, true, false, cond, not, List, ℕ, ◌/◌, ◌%◌, ◌≤◌, ltb, eqb, length}
 use Rattle.std.proofs.Common.{inl, inr, arith}
 use Rattle.numbers.specs.Fault as fault
 use Rattle.numbers.specs.Limit as limit
@@ -28,7 +28,7 @@ of_params k (inr (inr (inr e))) = within k (omega arith) (omega arith)
 tail-number : (side : Side) (w : ℕ) (a p : List ℕ) → FaultNumber (tail_fault side w a p)
 unfolding tail_fault
 tail-number side w a p =
-    go (eq (length a) 0) (eq (length a % w) 0) (ltb limit.addresses (length a / w)) (ltb limit.parameters (length p)) (refused_of side w (list_of w a))
+    go (eqb (length a) 0) (eqb (length a % w) 0) (ltb limit.addresses (length a / w)) (ltb limit.parameters (length p)) (refused_of side w (list_of w a))
   where
     go : (none whole many long refused : Bool)
         → FaultNumber (cond none fault.addresses
@@ -49,7 +49,7 @@ name-only-number c = go (as_text c)
 
 pub fault-number : (side : Side) (c : Carrier) (f : Fields) → FaultNumber (fault_of side c f)
 unfolding judged_of
-fault-number side c f = go (eq f.priority 0) (name_of side c f.name) f.full
+fault-number side c f = go (eqb f.priority 0) (name_of side c f.name) f.full
   where
     tail : ℕ
     tail = tail_fault side (address_width c) f.addresses f.parameters

@@ -2,7 +2,7 @@
 use Rattle.std.specs.Prelude.{◌≡◌, Bool, true, false, List, ℕ, ◌/◌, ◌%◌, ◌≤◌, ◌<◌, length}
 use Rattle.std.proofs.Math.Path.{sym}
 use Rattle.std.proofs.Common.{◌∙◌}
-use borrow.Author.Tests.{eq-eq, ne_eqb, lt-ltb, le-ltb}
+use borrow.Author.Tests.{eq-eqb, ne_eqb, lt-ltb, le-ltb}
 use Rattle.numbers.specs.Fault as fault
 use Rattle.numbers.specs.Limit as limit
 use Rattle.carriers.specs.declared.Carrier.{Carrier}
@@ -38,7 +38,7 @@ module _ (side : Side) (w : ℕ) (l : List (List ℕ)) where
 module _ (side : Side) (w : ℕ) (a p : List ℕ) where
   pub tail_none : length a ≡ 0 → fault.addresses ≡ tail_fault side w a p
   unfolding tail_fault
-  tail_none e = simp (eq-eq _ _ e)
+  tail_none e = simp (eq-eqb _ _ e)
 
   pub tail-odd : (length a ≡ 0 → ⊥) → (length a % w ≡ 0 → ⊥) → fault.addresses ≡ tail_fault side w a p
   unfolding tail_fault
@@ -47,26 +47,26 @@ module _ (side : Side) (w : ℕ) (a p : List ℕ) where
   module _ (e : length a ≡ 0 → ⊥) (m : length a % w ≡ 0) where
     pub tail-many : limit.addresses < length a / w → fault.limit ≡ tail_fault side w a p
     unfolding tail_fault
-    tail-many h = simp (ne_eqb _ _ e, eq-eq _ _ m, lt-ltb _ _ h)
+    tail-many h = simp (ne_eqb _ _ e, eq-eqb _ _ m, lt-ltb _ _ h)
 
     module _ (h : length a / w ≤ limit.addresses) where
       pub tail-long : limit.parameters < length p → fault.limit ≡ tail_fault side w a p
       unfolding tail_fault
-      tail-long k = simp (ne_eqb _ _ e, eq-eq _ _ m, le-ltb _ _ h, lt-ltb _ _ k)
+      tail-long k = simp (ne_eqb _ _ e, eq-eqb _ _ m, le-ltb _ _ h, lt-ltb _ _ k)
 
       module _ (k : length p ≤ limit.parameters) (b : Bool) (q : b ≡ refused_of side w (list_of w a)) where
         pub tail-dropped : b ≡ true → fault.dropped ≡ tail_fault side w a p
         unfolding tail_fault
-        tail-dropped t = simp (ne_eqb _ _ e, eq-eq _ _ m, le-ltb _ _ h, le-ltb _ _ k, sym q ∙ t)
+        tail-dropped t = simp (ne_eqb _ _ e, eq-eqb _ _ m, le-ltb _ _ h, le-ltb _ _ k, sym q ∙ t)
 
         pub tail-parameters : (r : ℕ) → b ≡ false → r ≡ params_fault p → r ≡ tail_fault side w a p
         unfolding tail_fault
-        tail-parameters r t s = simp (ne_eqb _ _ e, eq-eq _ _ m, le-ltb _ _ h, le-ltb _ _ k, sym q ∙ t) s
+        tail-parameters r t s = simp (ne_eqb _ _ e, eq-eqb _ _ m, le-ltb _ _ h, le-ltb _ _ k, sym q ∙ t) s
 
 module _ (side : Side) (c : Carrier) (priority : ℕ) (name : List ℕ) (full : Bool) (a p : List ℕ) where
   pub judged-priority : priority ≡ 0 → judged fault.priority 0 ≡ judged_of side c priority name full a p
   unfolding judged_of
-  judged-priority e = simp (eq-eq _ _ e)
+  judged-priority e = simp (eq-eqb _ _ e)
 
   module _ (e : priority ≡ 0 → ⊥) where
     pub judged-name : (place : ℕ) → Bad place ≡ name_of side c name → judged fault.name place ≡ judged_of side c priority name full a p

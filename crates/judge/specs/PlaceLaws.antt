@@ -1,9 +1,9 @@
 -- Of fault 22 the judge's place is that of the name's first bad octet, and no other fault has one (RULES N5, W11, T8). Assumes nothing.
-use Rattle.std.specs.Prelude.{◌≡◌, Bool, true, false, cond, not, ◌↔◌, List, ltb, eq, length}
+use Rattle.std.specs.Prelude.{◌≡◌, Bool, true, false, cond, not, ◌↔◌, List, ltb, eqb, length}
 use Rattle.std.proofs.Math.Path.{refl}
-use Rattle.std.proofs.Common.{sym, ap, ◌∙◌, subst, inl, inr, arith, add_assoc, eq-eq, ne_eqb, eq-true}
+use Rattle.std.proofs.Common.{sym, ap, ◌∙◌, subst, inl, inr, arith, add_assoc, eq-eqb, ne_eqb, eqb-true}
 use Prim.Native.Nat.{ℕ, ◌+◌, ◌/◌, ◌%◌, ◌≤◌}
-use Rattle.std.proofs.lemmas.Bool.{eq-false}
+use Rattle.std.proofs.lemmas.Bool.{eqb-false}
 use Rattle.octets.specs.Cases.{by-test}
 use Rattle.numbers.specs.Fault as fault
 use Rattle.numbers.specs.Limit as limit
@@ -50,7 +50,7 @@ no_name k (inr (inr (inr e))) h = omega arith
 tail-no-name : (side : Side) (w : ℕ) (a p : List ℕ) → tail_fault side w a p ≡ fault.name → ⊥
 unfolding tail_fault
 tail-no-name side w a p =
-    go (eq (length a) 0) (eq (length a % w) 0) (ltb limit.addresses (length a / w)) (ltb limit.parameters (length p)) (refused_of side w (list_of w a))
+    go (eqb (length a) 0) (eqb (length a % w) 0) (ltb limit.addresses (length a / w)) (ltb limit.parameters (length p)) (refused_of side w (list_of w a))
   where
     go : (no whole many long refused : Bool)
         → cond no fault.addresses
@@ -79,7 +79,7 @@ module _ (side : Side) (c : Carrier) (f : Fields) where
   judged-place : (fault_of side c f ≡ fault.name → name_of side c f.name ≡ Bad (judged_by side c f).place)
       × ((fault_of side c f ≡ fault.name → ⊥) → (judged_by side c f).place ≡ 0)
   unfolding judged_of
-  judged-place = go (eq f.priority 0) (name_of side c f.name) f.full refl
+  judged-place = go (eqb f.priority 0) (name_of side c f.name) f.full refl
     where
       tail : ℕ
       tail = tail_fault side (address_width c) f.addresses f.parameters
@@ -100,17 +100,17 @@ module _ (side : Side) (c : Carrier) (f : Fields) where
 
   -- it is no more than the name is long
   pub place-within : (judged_by side c f).place ≤ length f.name
-  place-within = go (eq (fault_of side c f) fault.name) refl
+  place-within = go (eqb (fault_of side c f) fault.name) refl
     where
-      go : (t : Bool) → eq (fault_of side c f) fault.name ≡ t → (judged_by side c f).place ≤ length f.name
-      go true t = ((bad-exactly side c f.name (judged_by side c f).place).0 (judged-bad (eq-true _ _ t))).within
-      go false t = let z = judged-place.1 (eq-false _ _ t) in omega arith
+      go : (t : Bool) → eqb (fault_of side c f) fault.name ≡ t → (judged_by side c f).place ≤ length f.name
+      go true t = ((bad-exactly side c f.name (judged_by side c f).place).0 (judged-bad (eqb-true _ _ t))).within
+      go false t = let z = judged-place.1 (eqb-false _ _ t) in omega arith
 
 -- ---- places that are counted from further back
 
 module _ (n k p : ℕ) where
   pub place-name : k ≡ fault.name → n + p ≡ place_from n k p
-  place-name e = simp (eq-eq _ _ e)
+  place-name e = simp (eq-eqb _ _ e)
 
   pub place_none : (k ≡ fault.name → ⊥) → 0 ≡ place_from n k p
   place_none h = simp (ne_eqb _ _ h)
@@ -133,15 +133,15 @@ module _ {A : List ℕ → Type 0} {name : List ℕ} {at : ℕ} where
 
 module _ (side : Side) (c : Carrier) (f : Fields) (at : ℕ) where
   is-placed : PlaceOf (NameAllowed side c) f.name at (fault_of side c f) (from at (judged_by side c f)).place
-  is-placed = go (eq (fault_of side c f) fault.name) refl
+  is-placed = go (eqb (fault_of side c f) fault.name) refl
     where
-      go : (t : Bool) → eq (fault_of side c f) fault.name ≡ t
+      go : (t : Bool) → eqb (fault_of side c f) fault.name ≡ t
           → PlaceOf (NameAllowed side c) f.name at (fault_of side c f) (cond t (at + (judged_by side c f).place) 0)
       go true t =
-          let e : fault_of side c f ≡ fault.name = eq-true _ _ t in
+          let e : fault_of side c f ≡ fault.name = eqb-true _ _ t in
           subst (λ (k : ℕ). PlaceOf (NameAllowed side c) f.name at k (at + (judged_by side c f).place)) (sym e)
           (in_name ((bad-exactly side c f.name (judged_by side c f).place).0 (judged-bad side c f e)))
-      go false t = nowhere (eq-false _ _ t)
+      go false t = nowhere (eqb-false _ _ t)
 
   -- the judge's place, where the name stands at an index, is the place of its fault and nothing else
   pub placed-exactly : (p : ℕ) → ((from at (judged_by side c f)).place ≡ p) ↔ PlaceOf (NameAllowed side c) f.name at (fault_of side c f) p

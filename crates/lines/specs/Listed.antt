@@ -1,6 +1,6 @@
 -- What the command lists of an area that is not taken whole (docs/COMMAND.md, "Less than all"): a block that is discarded, an address that is dropped; each
 -- line whole. Assumes nothing: these are definitions.
-use Rattle.std.specs.Prelude.{cond, List, [], ◌++◌, ℕ, ltb, eq}
+use Rattle.std.specs.Prelude.{cond, List, [], ◌++◌, ℕ, ltb, eqb}
 use Rattle.chars.specs.Ascii.{ascii}
 use Rattle.reasons.specs.Params.{none}
 use Rattle.words.specs.Words.{words_in, reasons}
@@ -11,7 +11,7 @@ use Rattle.lines.specs.Messages.{count_of, worded_of, about_of}
 
 -- why a name is bad (RULES R22); 0 is no reason
 abbrev pub reason_part : ℕ → List ℕ
-reason_part r = cond (eq r 0) [] (ascii "; " ++ words_in reasons r)
+reason_part r = cond (eqb r 0) [] (ascii "; " ++ words_in reasons r)
 
 -- the key of a parameter, if there is one
 abbrev pub key_part : ℕ → List ℕ

@@ -1,6 +1,6 @@
 -- What the command says, as JSON (docs/COMMAND.md, "JSON"): one object a line, of a message and of octets printed or saved. Assumes nothing: these are
 -- definitions.
-use Rattle.std.specs.Prelude.{cond, List, [], ◌∷◌, ◌++◌, map, ℕ, ◌-◌, ◌≤◌, ltb, eq, length, take, drop}
+use Rattle.std.specs.Prelude.{cond, List, [], ◌∷◌, ◌++◌, map, ℕ, ◌-◌, ◌≤◌, ltb, eqb, length, take, drop}
 use Rattle.octets.specs.Lists.{flat}
 use Rattle.chars.specs.Ascii.{ascii}
 use Rattle.hexes.specs.Hexes.{two, hex_of}
@@ -18,8 +18,8 @@ unfoldable pub letter_of : ℕ → List ℕ
 letter_of x =
     cond (ltb x 32) (unit_of x)
     (cond (ltb 126 x) (unit_of x)
-    (cond (eq x 34) (ascii "\\\"")
-    (cond (eq x 92) (ascii "\\\\")
+    (cond (eqb x 34) (ascii "\\\"")
+    (cond (eqb x 92) (ascii "\\\\")
     (x ∷ []))))
 
 -- between quotation marks
@@ -34,7 +34,7 @@ Printable x = (32 ≤ x) × (x ≤ 126)
 
 -- a member that is a number; 0 is left out
 abbrev pub member_of : List ℕ → ℕ → List ℕ
-member_of before n = cond (eq n 0) [] (count_of before n)
+member_of before n = cond (eqb n 0) [] (count_of before n)
 
 -- what goes with a message, and the end of its object
 unfoldable pub members_of : Note → List ℕ

@@ -1,9 +1,9 @@
 -- The laws of strings: by cases of an octet; every character of a string is printable, and no two texts have the same string. Assumes nothing.
-use Rattle.std.specs.Prelude.{◌≡◌, refl, Bool, true, false, cond, ℕ, ◌+◌, ◌-◌, ◌*◌, ◌/◌, ◌%◌, ◌≤◌, ◌<◌, min, leb, ltb, eq, length, get_or, take, drop}
+use Rattle.std.specs.Prelude.{◌≡◌, refl, Bool, true, false, cond, ℕ, ◌+◌, ◌-◌, ◌*◌, ◌/◌, ◌%◌, ◌≤◌, ◌<◌, min, leb, ltb, eqb, length, get_or, take, drop}
 use Rattle.std.proofs.Common.{sym, ap, ◌∙◌, length-take, drop_of_length-le}
 use mathlib.Core.List.{List, [], ◌∷◌, ◌++◌}
 use native.Mathlib.Omega.{arith}
-use borrow.Author.Tests.{leb-true, leb-false, ltb-false, eq-true, eq-false, lt-ltb, le-ltb, ne_eqb}
+use borrow.Author.Tests.{leb-true, leb-false, ltb-false, eqb-true, eqb-false, lt-ltb, le-ltb, ne_eqb}
 use Rattle.octets.specs.Lists.{All}
 use Rattle.octets.specs.ListsLaws.{drop-take, all_append}
 use Rattle.octets.specs.Numbers.{Bytes}
@@ -59,15 +59,15 @@ inner-is line {end} {from} e f = go (leb 5 end) refl
 by-letter : (x : ℕ) (P : List ℕ → Type 0) → P (unit_of x) → (x ≡ 34 → P (ascii "\\\"")) → (x ≡ 92 → P (ascii "\\\\"))
     → (32 ≤ x → x ≤ 126 → (x ≡ 92 → ⊥) → P (x ∷ [])) → P (letter_of x)
 unfolding letter_of
-by-letter x P unit mark slash plain = go (ltb x 32) refl (ltb 126 x) refl (eq x 34) refl (eq x 92) refl
+by-letter x P unit mark slash plain = go (ltb x 32) refl (ltb 126 x) refl (eqb x 34) refl (eqb x 92) refl
   where
-    go : (a : Bool) → ltb x 32 ≡ a → (b : Bool) → ltb 126 x ≡ b → (c : Bool) → eq x 34 ≡ c → (d : Bool) → eq x 92 ≡ d
+    go : (a : Bool) → ltb x 32 ≡ a → (b : Bool) → ltb 126 x ≡ b → (c : Bool) → eqb x 34 ≡ c → (d : Bool) → eqb x 92 ≡ d
         → P (cond a (unit_of x) (cond b (unit_of x) (cond c (ascii "\\\"") (cond d (ascii "\\\\") (x ∷ [])))))
     go true p b q c r d s = unit
     go false p true q c r d s = unit
-    go false p false q true r d s = mark (eq-true x 34 r)
-    go false p false q false r true s = slash (eq-true x 92 s)
-    go false p false q false r false s = plain (ltb-false x 32 p) (ltb-false 126 x q) (eq-false x 92 s)
+    go false p false q true r d s = mark (eqb-true x 34 r)
+    go false p false q false r true s = slash (eqb-true x 92 s)
+    go false p false q false r false s = plain (ltb-false x 32 p) (ltb-false 126 x q) (eqb-false x 92 s)
 
 -- a digit written is printable and has its value
 digit-of : (v : ℕ) → v < 16 → Printable (digit_of v) × (value (digit_of v) ≡ v)
@@ -103,10 +103,10 @@ string-plain (x ∷ s) h = all_append Printable (letter_of x) (string_of s) (let
 
 -- the octet that a string begins with, and what follows it
 first_of : List ℕ → ℕ
-first_of l = cond (eq (get_or l 0 0) 92) (cond (eq (get_or l 1 0) 117) (value (get_or l 4 0) * 16 + value (get_or l 5 0)) (get_or l 1 0)) (get_or l 0 0)
+first_of l = cond (eqb (get_or l 0 0) 92) (cond (eqb (get_or l 1 0) 117) (value (get_or l 4 0) * 16 + value (get_or l 5 0)) (get_or l 1 0)) (get_or l 0 0)
 
 rest_of : List ℕ → List ℕ
-rest_of l = cond (eq (get_or l 0 0) 92) (cond (eq (get_or l 1 0) 117) (drop 6 l) (drop 2 l)) (drop 1 l)
+rest_of l = cond (eqb (get_or l 0 0) 92) (cond (eqb (get_or l 1 0) 117) (drop 6 l) (drop 2 l)) (drop 1 l)
 
 module _ (x : ℕ) (r : List ℕ) where
   letter-read : x < 256 → (first_of (letter_of x ++ r) ≡ x) × (rest_of (letter_of x ++ r) ≡ r)

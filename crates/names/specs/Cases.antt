@@ -1,7 +1,7 @@
 -- To show something of what a step gives, show it of each outcome, with what the tests on the way there say. Assumes nothing.
-use Rattle.std.specs.Prelude.{◌≡◌, Bool, true, false, cond, ◌&&◌, ℕ, ◌+◌, ◌-◌, ◌≤◌, ◌<◌, leb, ltb, eq}
-use Rattle.std.proofs.Common.{eq-true, leb-true, ltb-true}
-use Rattle.std.proofs.lemmas.Bool.{eq-false}
+use Rattle.std.specs.Prelude.{◌≡◌, Bool, true, false, cond, ◌&&◌, ℕ, ◌+◌, ◌-◌, ◌≤◌, ◌<◌, leb, ltb, eqb}
+use Rattle.std.proofs.Common.{eqb-true, leb-true, ltb-true}
+use Rattle.std.proofs.lemmas.Bool.{eqb-false}
 use Rattle.octets.specs.Cases.{by-test}
 use Rattle.names.specs.Names.{alnum}
 use Rattle.names.specs.Automaton.{Move, stop, go}
@@ -17,9 +17,9 @@ pub by-inside : (left x : ℕ) (P : Move State → Type 0)
     → P stop
     → P (inside left x)
 by-inside left x P f g h =
-    by-test (alnum x) (λ b. P (cond b (go (letter (left - 1))) (cond (eq x 45 && ltb 1 left) (go (hyphen (left - 1))) stop)))
+    by-test (alnum x) (λ b. P (cond b (go (letter (left - 1))) (cond (eqb x 45 && ltb 1 left) (go (hyphen (left - 1))) stop)))
     f
-    (λ _. by_both (eq x 45) (ltb 1 left) (λ b. P (cond b (go (hyphen (left - 1))) stop)) (λ e l. g (eq-true x 45 e) (ltb-true 1 left l)) h)
+    (λ _. by_both (eqb x 45) (ltb 1 left) (λ b. P (cond b (go (hyphen (left - 1))) stop)) (λ e l. g (eqb-true x 45 e) (ltb-true 1 left l)) h)
 
 pub by_length : (at x : ℕ) (P : Move State → Type 0)
     → (x ≡ 0 → (at ≡ 0 → ⊥) → P (go root))
@@ -27,10 +27,10 @@ pub by_length : (at x : ℕ) (P : Move State → Type 0)
     → P stop
     → P (length_octet at x)
 by_length at x P f g h =
-    by-test (eq x 0) (λ b. P (cond b (cond (eq at 0) stop (go root)) (cond (leb x 63 && leb (at + x) 253) (go (first (x - 1))) stop)))
-    (λ e. by-test (eq at 0) (λ b. P (cond b stop (go root))) (λ _. h) (λ n. f (eq-true x 0 e) (eq-false at 0 n)))
+    by-test (eqb x 0) (λ b. P (cond b (cond (eqb at 0) stop (go root)) (cond (leb x 63 && leb (at + x) 253) (go (first (x - 1))) stop)))
+    (λ e. by-test (eqb at 0) (λ b. P (cond b stop (go root))) (λ _. h) (λ n. f (eqb-true x 0 e) (eqb-false at 0 n)))
     (λ n. by_both (leb x 63) (leb (at + x) 253) (λ b. P (cond b (go (first (x - 1))) stop))
-    (λ l m. g (eq-false x 0 n) (leb-true x 63 l) (leb-true (at + x) 253 m))
+    (λ l m. g (eqb-false x 0 n) (leb-true x 63 l) (leb-true (at + x) 253 m))
     h)
 
 pub by-letter : (left at x : ℕ) (P : Move State → Type 0)
@@ -38,7 +38,7 @@ pub by-letter : (left at x : ℕ) (P : Move State → Type 0)
     → ((left ≡ 0 → ⊥) → P (inside left x))
     → P (step (letter left) at x)
 by-letter left at x P f g =
-    by-test (eq left 0) (λ b. P (cond b (length_octet at x) (inside left x))) (λ e. f (eq-true left 0 e)) (λ n. g (eq-false left 0 n))
+    by-test (eqb left 0) (λ b. P (cond b (length_octet at x) (inside left x))) (λ e. f (eqb-true left 0 e)) (λ n. g (eqb-false left 0 n))
 
 pub by_first : (left at x : ℕ) (P : Move State → Type 0)
     → (alnum x ≡ true → P (go (letter left)))

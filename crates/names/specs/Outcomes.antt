@@ -1,6 +1,6 @@
 -- What the walk answers with so many of the first n octets of a buffer left, one lemma for each way through a step, in the form in which
 -- the code's returns ask it. Assumes nothing.
-use Rattle.std.specs.Prelude.{◌≡◌, refl, List, Bool, true, false, ℕ, ◌+◌, ◌-◌, ◌≤◌, ◌<◌, min, ltb, eq, length, get_or}
+use Rattle.std.specs.Prelude.{◌≡◌, refl, List, Bool, true, false, ℕ, ◌+◌, ◌-◌, ◌≤◌, ◌<◌, min, ltb, eqb, length, get_or}
 use Rattle.std.proofs.Common.{sym, ap, ◌∙◌, arith, ltb-true}
 use Rattle.std.proofs.Math.Seq.{take-length}
 use Rattle.names.specs.declared.Name.{Name}
@@ -116,7 +116,7 @@ after-label left size octet z w e r = ap (λ (k : ℕ). left - 1 - k) r ∙ beyo
 -- a hyphen that fits is not the last octet of its label
 pub hyphen-more : {b : Bool} (label x : ℕ) → b ≡ hyphen_fits label x → b ≡ true → 1 ≤ label - 1
 hyphen-more label x e f =
-    by_both (eq x 45) (ltb 1 label) (λ c. c ≡ true → 1 ≤ label - 1)
+    by_both (eqb x 45) (ltb 1 label) (λ c. c ≡ true → 1 ≤ label - 1)
     (λ _ l _. let h = ltb-true 1 label l in omega arith)
     (λ z. let n : ◌≡◌ {A = ℕ} 0 1 = cc in absurd (omega arith))
     (told e f)

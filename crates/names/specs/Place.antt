@@ -1,8 +1,8 @@
 -- Wherever the check of a name stops, something else could follow: the letter a to the end of the label, and the root octet. Assumes nothing.
-use Rattle.std.specs.Prelude.{◌≡◌, refl, List, [], ◌∷◌, ◌++◌, true, ℕ, zero, suc, ◌+◌, eq, replicate}
-use Rattle.std.proofs.Common.{◌∙◌, inl, arith, eq-true}
+use Rattle.std.specs.Prelude.{◌≡◌, refl, List, [], ◌∷◌, ◌++◌, true, ℕ, zero, suc, ◌+◌, eqb, replicate}
+use Rattle.std.proofs.Common.{◌∙◌, inl, arith, eqb-true}
 use Rattle.std.proofs.lemmas.List.{length-replicate}
-use Rattle.std.proofs.lemmas.Bool.{eq-false}
+use Rattle.std.proofs.lemmas.Bool.{eqb-false}
 use Rattle.octets.specs.Lists.{All}
 use Rattle.octets.specs.Cases.{by-test}
 use Rattle.names.specs.declared.Name.TheVariants.{Bad}
@@ -43,9 +43,9 @@ end-start k at z =
 
 ending : (st : State) (y at : ℕ) → Valid st y at → Ending name_automaton st at
 ending (letter k) y at v =
-    by-test (eq (at + k) 0) (λ b. Ending name_automaton (letter k) at)
-    (λ e. end-start k at (eq-true (at + k) 0 e))
-    (λ n. end-letter k y at v.0 (eq-false (at + k) 0 n))
+    by-test (eqb (at + k) 0) (λ b. Ending name_automaton (letter k) at)
+    (λ e. end-start k at (eqb-true (at + k) 0 e))
+    (λ n. end-letter k y at v.0 (eqb-false (at + k) 0 n))
 ending (hyphen zero) y at v = absurd (omega arith)
 ending (hyphen (suc k)) y at v = (
   replicate (suc k) 97 ++ (0 ∷ []),

@@ -1,5 +1,5 @@
 -- The check of a name in wire form, octet by octet. Assumes nothing: these are definitions.
-use Rattle.std.specs.Prelude.{ℕ, ◌+◌, ◌-◌, List, Bool, true, false, cond, ◌&&◌, leb, ltb, eq}
+use Rattle.std.specs.Prelude.{ℕ, ◌+◌, ◌-◌, List, Bool, true, false, cond, ◌&&◌, leb, ltb, eqb}
 use Rattle.names.specs.declared.Name.{Name}
 use Rattle.names.specs.Names.{alnum}
 use Rattle.names.specs.Automaton.{Move, stop, go, Automaton, walk}
@@ -19,13 +19,13 @@ label_fits at x = leb x 63 && leb (at + x) 253
 -- A length octet x at a place. RFC 1035 §3.1: 0 is the root octet, which ends a name; RULES N1: not at the place 0, since a name has 3 octets or more
 abbrev pub length_octet : ℕ → ℕ → Move State
 length_octet at x =
-    cond (eq x 0)
-    (cond (eq at 0) stop (go root))
+    cond (eqb x 0)
+    (cond (eqb at 0) stop (go root))
     (cond (label_fits at x) (go (first (x - 1))) stop)
 
 -- House rule (RULES N2): x is a hyphen, and is not the last of the `left` octets of its label that are to come
 abbrev pub hyphen_fits : ℕ → ℕ → Bool
-hyphen_fits left x = eq x 45 && ltb 1 left
+hyphen_fits left x = eqb x 45 && ltb 1 left
 
 -- House rule (RULES N2): an octet x in a label, not its first, with `left` octets to come, x among them, is a letter, a digit, or a
 -- hyphen that is not the last
@@ -37,7 +37,7 @@ inside left x =
 
 -- House rule (RULES N2): a label's first octet is a letter or a digit. RULES N1: nothing stands after the root octet
 abbrev pub step : State → ℕ → ℕ → Move State
-step (letter left) at x = cond (eq left 0) (length_octet at x) (inside left x)
+step (letter left) at x = cond (eqb left 0) (length_octet at x) (inside left x)
 step (hyphen left) at x = inside left x
 step (first left) at x = cond (alnum x) (go (letter left)) stop
 step root at x = stop

@@ -1,5 +1,5 @@
 -- Lists that several layers speak of: no rule is stated here. Assumes nothing: these are definitions.
-use Rattle.std.specs.Prelude.{◌≡◌, Bool, true, false, ◌&&◌, List, [], ◌∷◌, ◌++◌, ℕ, eq, length, take, drop}
+use Rattle.std.specs.Prelude.{◌≡◌, Bool, true, false, ◌&&◌, List, [], ◌∷◌, ◌++◌, ℕ, eqb, length, take, drop}
 
 -- P holds of each element
 abbrev pub All : {A : Type 0} → (A → Type 0) → List A → Type 0
@@ -16,7 +16,7 @@ unfoldable pub same : List ℕ → List ℕ → Bool
 same [] [] = true
 same [] (y ∷ ys) = false
 same (x ∷ xs) [] = false
-same (x ∷ xs) (y ∷ ys) = eq x y && same xs ys
+same (x ∷ xs) (y ∷ ys) = eqb x y && same xs ys
 
 -- x stands in l from an index on
 abbrev pub Stands : List ℕ → ℕ → List ℕ → Type 0

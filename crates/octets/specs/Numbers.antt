@@ -1,5 +1,5 @@
 -- Numbers as octets, the most significant first (RULES C2), over the width in octets. Assumes nothing: these are definitions.
-use Rattle.std.specs.Prelude.{Bool, true, ◌&&◌, List, [], ◌∷◌, ◌++◌, map, ℕ, zero, suc, ◌+◌, ◌*◌, ◌/◌, ◌%◌, ◌<◌, eq, leb, get_or, take, drop, replicate}
+use Rattle.std.specs.Prelude.{Bool, true, ◌&&◌, List, [], ◌∷◌, ◌++◌, map, ℕ, zero, suc, ◌+◌, ◌*◌, ◌/◌, ◌%◌, ◌<◌, eqb, leb, get_or, take, drop, replicate}
 use Rattle.octets.specs.Lists.{All, flat}
 
 -- x is from lo to hi
@@ -53,4 +53,4 @@ zeros n = replicate n 0
 
 unfoldable pub all_zero : List ℕ → Bool
 all_zero [] = true
-all_zero (x ∷ xs) = eq x 0 && all_zero xs
+all_zero (x ∷ xs) = eqb x 0 && all_zero xs

@@ -1,6 +1,6 @@
 -- The laws of numbers as octets, over the width: what is written is read, and what is read is written. Assumes nothing.
-use Rattle.std.specs.Prelude.{◌≡◌, refl, true, false, ◌↔◌, List, [], ◌∷◌, ◌++◌, ℕ, zero, suc, ◌+◌, ◌*◌, ◌/◌, ◌%◌, ◌^◌, ◌≤◌, ◌<◌, eq, length, get_or, take, drop}
-use Rattle.std.proofs.Common.{sym, ap, ap₂, ◌∙◌, append-nil, mul_comm, mul_assoc, pow-suc, add-zero, zero-add, one-mul, add-suc, suc-add, add_assoc, add-one, arith, eq-true, ne_eqb, length-append, length-drop, drop_of_length-le, take-suc, drop-cons, get_or-drop, take_at, drop_at}
+use Rattle.std.specs.Prelude.{◌≡◌, refl, true, false, ◌↔◌, List, [], ◌∷◌, ◌++◌, ℕ, zero, suc, ◌+◌, ◌*◌, ◌/◌, ◌%◌, ◌^◌, ◌≤◌, ◌<◌, eqb, length, get_or, take, drop}
+use Rattle.std.proofs.Common.{sym, ap, ap₂, ◌∙◌, append-nil, mul_comm, mul_assoc, pow-suc, add-zero, zero-add, one-mul, add-suc, suc-add, add_assoc, add-one, arith, eqb-true, ne_eqb, length-append, length-drop, drop_of_length-le, take-suc, drop-cons, get_or-drop, take_at, drop_at}
 use Rattle.std.proofs.Math.Bool.{and-eq-true_iff}
 use Rattle.std.proofs.Math.Seq.{append_snoc}
 use Rattle.std.proofs.lemmas.List.{take-append-le, drop-append-le}
@@ -186,9 +186,9 @@ pub zero-exactly : (l : List ℕ) → (all_zero l ≡ true) ↔ All (λ x. x ≡
 unfolding all_zero
 zero-exactly [] = (λ _. tt, λ _. refl)
 zero-exactly (x ∷ xs) =
-    let both = and-eq-true_iff (eq x 0) (all_zero xs) in
+    let both = and-eq-true_iff (eqb x 0) (all_zero xs) in
     let rest = zero-exactly xs in
-    (λ e. (eq-true x 0 (both.0 e).0, rest.0 (both.0 e).1), λ h. both.1 (rw h.0, rest.1 h.1))
+    (λ e. (eqb-true x 0 (both.0 e).0, rest.0 (both.0 e).1), λ h. both.1 (rw h.0, rest.1 h.1))
 
 -- so they are as many zeros
 pub zero-zeros : (l : List ℕ) → all_zero l ≡ true → l ≡ zeros (length l)

@@ -1,9 +1,9 @@
 -- The laws of `same`: it is true exactly of equal lists, and two lists are compared octet by octet. Assumes nothing.
-use Rattle.std.specs.Prelude.{◌≡◌, refl, ◌↔◌, Bool, true, false, ◌&&◌, List, [], ◌∷◌, ℕ, suc, ◌+◌, ◌≤◌, ◌<◌, eq, get_or, drop}
+use Rattle.std.specs.Prelude.{◌≡◌, refl, ◌↔◌, Bool, true, false, ◌&&◌, List, [], ◌∷◌, ℕ, suc, ◌+◌, ◌≤◌, ◌<◌, eqb, get_or, drop}
 use Rattle.std.proofs.Common.{ap, subst, add-one}
 use Rattle.std.proofs.lemmas.Bool.{false≢true}
 use native.Mathlib.Omega.{arith}
-use borrow.Author.Tests.{eq-true, eq-eq, ne_eqb}
+use borrow.Author.Tests.{eqb-true, eq-eqb, ne_eqb}
 use Rattle.std.proofs.Math.ListN.{length, drop_of_length-le}
 use Rattle.std.proofs.Math.Seq.{drop-cons}
 use Rattle.octets.specs.Lists.{same}
@@ -15,16 +15,16 @@ unfolding same
 same_true [] [] e = refl
 same_true [] (y ∷ ys) e = absurd (false≢true e)
 same_true (x ∷ xs) [] e = absurd (false≢true e)
-same_true (x ∷ xs) (y ∷ ys) e = go (eq x y) refl e (same_true xs ys)
+same_true (x ∷ xs) (y ∷ ys) e = go (eqb x y) refl e (same_true xs ys)
   where
-    go : (b : Bool) → eq x y ≡ b → b && same xs ys ≡ true → (same xs ys ≡ true → xs ≡ ys) → x ∷ xs ≡ y ∷ ys
-    go true t e ih = let p : x ≡ y = eq-true x y t in let q : xs ≡ ys = ih e in cc
+    go : (b : Bool) → eqb x y ≡ b → b && same xs ys ≡ true → (same xs ys ≡ true → xs ≡ ys) → x ∷ xs ≡ y ∷ ys
+    go true t e ih = let p : x ≡ y = eqb-true x y t in let q : xs ≡ ys = ih e in cc
     go false t e ih = absurd (false≢true e)
 
 pub same_self : (a : List ℕ) → same a a ≡ true
 unfolding same
 same_self [] = refl
-same_self (x ∷ xs) = rw (eq-eq x x refl) (same_self xs)
+same_self (x ∷ xs) = rw (eq-eqb x x refl) (same_self xs)
 
 pub same-exactly : (a b : List ℕ) → (same a b ≡ true) ↔ (a ≡ b)
 same-exactly a b = (same_true a b, λ e. subst (λ (x : List ℕ). same a x ≡ true) e (same_self a))
@@ -36,7 +36,7 @@ unfolding same
 same_length [] [] h = absurd (h refl)
 same_length [] (y ∷ ys) h = refl
 same_length (x ∷ xs) [] h = refl
-same_length (x ∷ xs) (y ∷ ys) h = go (eq x y) (same_length xs ys (λ e. h (ap suc e)))
+same_length (x ∷ xs) (y ∷ ys) h = go (eqb x y) (same_length xs ys (λ e. h (ap suc e)))
   where
     go : (b : Bool) → false ≡ same xs ys → false ≡ (b && same xs ys)
     go true e = e
@@ -47,7 +47,7 @@ module _ (a b : List ℕ) (i : ℕ) (even : length a ≡ length b) where
   unfolding same
   same_turn h e =
       let k : i < length b = omega arith in
-      rw (add-one, drop-cons a i 0 h, drop-cons b i 0 k, eq-eq (get_or a i 0) (get_or b i 0) e)
+      rw (add-one, drop-cons a i 0 h, drop-cons b i 0 k, eq-eqb (get_or a i 0) (get_or b i 0) e)
 
   pub same_not : i < length a → (get_or a i 0 ≡ get_or b i 0 → ⊥) → false ≡ same (drop i a) (drop i b)
   unfolding same

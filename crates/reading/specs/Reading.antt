@@ -1,6 +1,6 @@
 -- Reading (RULES W9 to W11, T1): what an area yields under a carrier, the answer of the call, and the sheet it writes.
 -- Assumes nothing: these are definitions.
-use Rattle.std.specs.Prelude.{cond, List, [], ◌∷◌, map, ℕ, zero, suc, ◌+◌, ◌-◌, ltb, eq, length, take, drop}
+use Rattle.std.specs.Prelude.{cond, List, [], ◌∷◌, map, ℕ, zero, suc, ◌+◌, ◌-◌, ltb, eqb, length, take, drop}
 use Rattle.octets.specs.Numbers.{at16}
 use Rattle.numbers.specs.Refusal as refusal
 use Rattle.numbers.specs.Fault as fault
@@ -47,7 +47,7 @@ instances_from (suc k) at (x ∷ xs) = instances_from k (at + 1) xs
 
 -- in carrier 1 a block is one or more instances, and places are counted in the joined data (RULES W11)
 unfoldable pub joined_yield : List ℕ → Yield
-joined_yield b = cond (eq (length b) 0) (discarded (judged fault.field 0)) (instances_from 0 0 b)
+joined_yield b = cond (eqb (length b) 0) (discarded (judged fault.field 0)) (instances_from 0 0 b)
 
 -- else it is one body, and places are counted from the first octet of its header (RULES W11)
 abbrev pub alone : Carrier → List ℕ → Yield

@@ -4,7 +4,7 @@ use Rattle.std.proofs.Math.Path.{refl, sym, ap₂}
 use Rattle.std.proofs.Common.{ap, ◌∙◌, add-one, drop_of_length-le, drop-cons}
 use Prim.Native.Nat.{ℕ, zero, suc, ◌+◌, ◌-◌, ◌≤◌, ◌<◌}
 use native.Mathlib.Omega.{arith}
-use borrow.Author.Tests.{eq-eq, ne_eqb, le-leb, lt-leb}
+use borrow.Author.Tests.{eq-eqb, ne_eqb, le-leb, lt-leb}
 use Rattle.names.specs.Names.{alnum, head, last}
 use Rattle.reasons.specs.declared.Mark.{Mark}
 use Rattle.reasons.specs.declared.Mark.TheVariants.{Length, Label, After}
@@ -32,11 +32,11 @@ last-append d y (x ∷ l) t = last-append x y l t
 -- an octet between two others, by each test in turn
 module _ (b n at x : ℕ) (e : x ≡ 95 → ⊥) where
   pub octet-dot : {r : ℕ} → x ≡ 46 → r ≡ dot_reason b n → r ≡ text_octet b n at x
-  octet-dot d q = q ∙ simp (ne_eqb _ _ e, eq-eq _ _ d)
+  octet-dot d q = q ∙ simp (ne_eqb _ _ e, eq-eqb _ _ d)
 
   module _ (d : x ≡ 46 → ⊥) where
     pub octet-hyphen : {r : ℕ} → x ≡ 45 → r ≡ hyphen_reason b n at → r ≡ text_octet b n at x
-    octet-hyphen h q = q ∙ simp (ne_eqb _ _ e, ne_eqb _ _ d, eq-eq _ _ h)
+    octet-hyphen h q = q ∙ simp (ne_eqb _ _ e, ne_eqb _ _ d, eq-eqb _ _ h)
 
     module _ (h : x ≡ 45 → ⊥) {a : Bool} (f : a ≡ alnum x) where
       pub octet-letter : {r : ℕ} → a ≡ true → r ≡ letter_reason at → r ≡ text_octet b n at x
@@ -48,7 +48,7 @@ module _ (b n at x : ℕ) (e : x ≡ 95 → ⊥) where
 module _ (s : List ℕ) (at : ℕ) (h : length s ≡ 0 → ⊥) {b : ℕ} (e : b ≡ before s at) where
   pub text-dot : length s ≤ at → b ≡ 46 → reason.dot ≡ text_reason s at
   unfolding text_reason
-  text-dot l d = simp (ne_eqb _ _ h, le-leb _ _ l, sym e, eq-eq _ _ d)
+  text-dot l d = simp (ne_eqb _ _ h, le-leb _ _ l, sym e, eq-eqb _ _ d)
 
   pub text-hyphen : length s ≤ at → (b ≡ 46 → ⊥) → reason.hyphen ≡ text_reason s at
   unfolding text_reason
@@ -81,7 +81,7 @@ module _ (x : ℕ) (xs : List ℕ) where
   pub mark-after : (left at : ℕ) → left ≡ 0 → (at ≡ 0 → ⊥) → x ≡ 0 → mark_from left at (x ∷ xs) ≡ After
   unfolding mark_from
   mark-after zero zero e f z = absurd (f refl)
-  mark-after zero (suc at) e f z = simp (eq-eq x 0 z)
+  mark-after zero (suc at) e f z = simp (eq-eqb x 0 z)
   mark-after (suc left) at e f z = absurd (omega arith)
 
   pub mark-opens : (left at : ℕ) → left ≡ 0 → (at ≡ 0 → ⊥) → (x ≡ 0 → ⊥) → mark_from left at (x ∷ xs) ≡ mark_from x (at - 1) xs

@@ -1,10 +1,10 @@
 -- Which parameter is the first that breaks the order of a field: along the field, what stands before it. Assumes nothing.
-use Rattle.std.specs.Prelude.{◌≡◌, refl, cond, ◌||◌, ℕ, zero, suc, ◌+◌, ◌-◌, ◌≤◌, ◌<◌, ltb, eq, length, drop}
+use Rattle.std.specs.Prelude.{◌≡◌, refl, cond, ◌||◌, ℕ, zero, suc, ◌+◌, ◌-◌, ◌≤◌, ◌<◌, ltb, eqb, length, drop}
 use Rattle.std.proofs.Math.Path.{sym, ap}
-use Rattle.std.proofs.Common.{◌∙◌, subst, arith, length-drop, eq-true, ltb-true, ltb-false}
+use Rattle.std.proofs.Common.{◌∙◌, subst, arith, length-drop, eqb-true, ltb-true, ltb-false}
 use mathlib.Core.List.{List, [], ◌∷◌, ◌++◌, append_assoc}
 use Rattle.std.proofs.Math.ListN.{length-append}
-use Rattle.std.proofs.lemmas.Bool.{eq-false}
+use Rattle.std.proofs.lemmas.Bool.{eqb-false}
 use Rattle.octets.specs.Cases.{by-test}
 use Rattle.octets.specs.Lists.{All}
 use Rattle.octets.specs.ListsLaws.{all_drop, all_map}
@@ -127,12 +127,12 @@ broken zero [] at least h o d = absurd (d [] refl (none-ordered least))
 broken (suc f) [] at least h o d = absurd (d [] refl (none-ordered least))
 broken zero (x ∷ xs) at least h o d = absurd (omega arith)
 broken (suc f) (x ∷ xs) at least h o d =
-    by-test (eq (size_of (x ∷ xs)) 0) (λ _. Broken at least (x ∷ xs) (unordered_from 0 at least (x ∷ xs)))
-    (λ t. let z : size_of (x ∷ xs) ≡ 0 = eq-true _ _ t in
+    by-test (eqb (size_of (x ∷ xs)) 0) (λ _. Broken at least (x ∷ xs) (unordered_from 0 at least (x ∷ xs)))
+    (λ t. let z : size_of (x ∷ xs) ≡ 0 = eqb-true _ _ t in
     subst (Broken at least (x ∷ xs)) (sym (short-unordered at least (x ∷ xs) (omega arith) z))
     (broken-here at least (x ∷ xs) none
     (short refl (omega arith) (λ kv l g e. let q = put-size kv l g in let y = ap size_of e in omega arith))))
-    (λ t. go (eq-false _ _ t) (λ j. broken f (later x xs) (at + size_of (x ∷ xs)) j))
+    (λ t. go (eqb-false _ _ t) (λ j. broken f (later x xs) (at + size_of (x ∷ xs)) j))
   where
     go : (size_of (x ∷ xs) ≡ 0 → ⊥)
         → ((j : ℕ) → length (later x xs) ≤ f → Bytes (later x xs) → Disordered j (later x xs)
@@ -144,13 +144,13 @@ broken (suc f) (x ∷ xs) at least h o d =
         let t : List ℕ = later x xs in
         let r : told.Param = unordered_from 0 (at + size_of (x ∷ xs)) (kv.key + 1) t in
         subst (Broken at least (x ∷ xs)) (sym (whole-unordered at least (x ∷ xs) z))
-        (by-test (ltb kv.key least) (λ b. Broken at least (x ∷ xs) (cond (b || eq kv.key key.invalid) (param at kv.key) r))
+        (by-test (ltb kv.key least) (λ b. Broken at least (x ∷ xs) (cond (b || eqb kv.key key.invalid) (param at kv.key) r))
         (λ u. let g : kv.key < least = ltb-true _ _ u in
         broken-here at least (x ∷ xs) kv.key (low kv t l.1 l.0 refl (λ m _. omega arith)))
         (λ u. let g : least ≤ kv.key = ltb-false _ _ u in
-        by-test (eq kv.key key.invalid) (λ b. Broken at least (x ∷ xs) (cond b (param at kv.key) r))
-        (λ v. broken-here at least (x ∷ xs) kv.key (invalid kv t l.1 l.0 refl (eq-true _ _ v)))
-        (λ v. let n : kv.key ≡ key.invalid → ⊥ = eq-false _ _ v in
+        by-test (eqb kv.key key.invalid) (λ b. Broken at least (x ∷ xs) (cond b (param at kv.key) r))
+        (λ v. broken-here at least (x ∷ xs) kv.key (invalid kv t l.1 l.0 refl (eqb-true _ _ v)))
+        (λ v. let n : kv.key ≡ key.invalid → ⊥ = eqb-false _ _ v in
         broken-later at least (x ∷ xs) o z r g n
         (ih (kv.key + 1) (simp length-drop (omega arith)) (all_drop Octet (size_of (x ∷ xs)) (x ∷ xs) o)
         (λ kvs e i. d (kv ∷ kvs) (l.0 ∙ ap (put kv) e) (one_more least kv kvs l.1 g n i))))))

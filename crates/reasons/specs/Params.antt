@@ -1,5 +1,5 @@
 -- Which service parameter is at fault, and where in their field it begins (RULES R26 to R28, T3). Assumes nothing: these are definitions.
-use Rattle.std.specs.Prelude.{Bool, true, false, cond, not, ◌||◌, List, [], ◌∷◌, ℕ, zero, suc, ◌+◌, ◌-◌, ltb, eq, take, drop}
+use Rattle.std.specs.Prelude.{Bool, true, false, cond, not, ◌||◌, List, [], ◌∷◌, ℕ, zero, suc, ◌+◌, ◌-◌, ltb, eqb, take, drop}
 use Rattle.octets.specs.Numbers.{at16}
 use Rattle.numbers.specs.Fault as fault
 use Rattle.svcparams.specs.Key as key
@@ -28,7 +28,7 @@ unfoldable pub unordered_from : ℕ → ℕ → ℕ → List ℕ → Param
 unordered_from k at least [] = nothing
 unordered_from zero at least (x ∷ xs) =
     on (size_of (x ∷ xs)) (param at none) (λ k.
-    cond (ltb (at16 (x ∷ xs) 0) least || eq (at16 (x ∷ xs) 0) key.invalid) (param at (at16 (x ∷ xs) 0))
+    cond (ltb (at16 (x ∷ xs) 0) least || eqb (at16 (x ∷ xs) 0) key.invalid) (param at (at16 (x ∷ xs) 0))
     (unordered_from k (at + 1) (at16 (x ∷ xs) 0 + 1) xs))
 unordered_from (suc k) at least (x ∷ xs) = unordered_from k (at + 1) least xs
 
@@ -49,7 +49,7 @@ wrong_from hints ks (suc k) at (x ∷ xs) = wrong_from hints ks k (at + 1) xs
 -- by the field's fault
 unfoldable pub param_for : ℕ → List ℕ → Param
 param_for k p =
-    cond (eq k fault.parameters) (unordered_from 0 0 0 p)
-    (cond (eq k fault.hint) (wrong_from true (keys_in p) 0 0 p)
-    (cond (eq k fault.value) (wrong_from false (keys_in p) 0 0 p)
+    cond (eqb k fault.parameters) (unordered_from 0 0 0 p)
+    (cond (eqb k fault.hint) (wrong_from true (keys_in p) 0 0 p)
+    (cond (eqb k fault.value) (wrong_from false (keys_in p) 0 0 p)
     nothing))

@@ -1,7 +1,7 @@
 -- The two searches for a parameter at fault, each with the invariant of its loop. Assumes nothing.
-use Rattle.std.specs.Prelude.{◌≡◌, Bool, true, false, cond, ◌||◌, take, ltb, eq}
+use Rattle.std.specs.Prelude.{◌≡◌, Bool, true, false, cond, ◌||◌, take, ltb, eqb}
 use Rattle.std.proofs.Math.Path.{refl, sym, ap, ap₂}
-use Rattle.std.proofs.Common.{◌∙◌, length-drop, drop_of_length-le, drop-drop, lt-ltb, le-ltb, eq-eq, ne_eqb}
+use Rattle.std.proofs.Common.{◌∙◌, length-drop, drop_of_length-le, drop-drop, lt-ltb, le-ltb, eq-eqb, ne_eqb}
 use Rattle.std.proofs.Math.Bool.{or-true}
 use mathlib.Core.List.{List, [], ◌∷◌}
 use Prim.Native.Nat.{ℕ, zero, suc, ◌+◌, ◌-◌, ◌≤◌, ◌<◌}
@@ -42,7 +42,7 @@ skip-unordered (suc k) at least (x ∷ xs) h =
 
 -- what the search makes of a parameter with key k at a place, by what it makes of those after it
 abbrev pub keyed : ℕ → ℕ → ℕ → Param → Param
-keyed at least k after = cond (ltb k least || eq k key.invalid) (param at k) after
+keyed at least k after = cond (ltb k least || eqb k key.invalid) (param at k) after
 
 -- what the search makes of a parameter that stands first
 module _ (at least : ℕ) (s : List ℕ) where
@@ -98,7 +98,7 @@ module _ (p : List ℕ) (at least : ℕ) (i : Ordering p at least) where
       ordering-low h = sym (onward ∙ simp (lt-ltb _ _ h))
 
       pub ordering-invalid : k ≡ key.invalid → param at k ≡ unordered_from 0 0 0 p
-      ordering-invalid h = sym (onward ∙ simp (eq-eq _ _ h, or-true))
+      ordering-invalid h = sym (onward ∙ simp (eq-eqb _ _ h, or-true))
 
       pub ordering-next : least ≤ k → (k ≡ key.invalid → ⊥) → Ordering p (at + n) (k + 1)
       ordering-next h g =

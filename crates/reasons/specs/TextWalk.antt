@@ -1,9 +1,9 @@
 -- What stands before a place of a text, along the walk of the check. Assumes nothing.
-use Rattle.std.specs.Prelude.{◌≡◌, refl, ◌⊎◌, true, false, ℕ, ◌+◌, ◌-◌, ◌≤◌, ◌<◌, min, leb, eq, length}
-use Rattle.std.proofs.Common.{sym, ap, ap₂, ◌∙◌, subst, inl, inr, true≢false, arith, length-append, eq-true, leb-true, leb-false}
+use Rattle.std.specs.Prelude.{◌≡◌, refl, ◌⊎◌, true, false, ℕ, ◌+◌, ◌-◌, ◌≤◌, ◌<◌, min, leb, eqb, length}
+use Rattle.std.proofs.Common.{sym, ap, ap₂, ◌∙◌, subst, inl, inr, true≢false, arith, length-append, eqb-true, leb-true, leb-false}
 use Rattle.std.proofs.Math.Bool.{cond}
 use mathlib.Core.List.{List, [], ◌∷◌, ◌++◌, append_assoc}
-use Rattle.std.proofs.lemmas.Bool.{eq-false}
+use Rattle.std.proofs.lemmas.Bool.{eqb-false}
 use Rattle.octets.specs.Cases.{by-test}
 use Rattle.octets.specs.ListsLaws.{all_append}
 use Rattle.names.specs.declared.Name.TheVariants.{Good, Bad}
@@ -143,20 +143,20 @@ module _ (s : List ℕ) (p : ℕ) where
 
       inside-moved : (other : Move State) → ((alnum x ≡ true → ⊥) → (x ≡ 45 → ⊥) → Moved other) → Moved (inside k x other)
       inside-moved other f =
-          let lettered : Move State = cond (eq k 0) stop (go (letter (k - 1))) in
+          let lettered : Move State = cond (eqb k 0) stop (go (letter (k - 1))) in
           let hyphened : Move State = cond (leb k 1) stop (go (hyphen (k - 1))) in
-          by-test (alnum x) (λ b. Moved (cond b lettered (cond (eq x 45) hyphened other)))
-          (λ a. by-test (eq k 0) (λ b. Moved (cond b stop (go (letter (k - 1)))))
-          (λ z e. there at (full (λ d. absurd (dotless a d)) (λ q. both x a q) (λ _. eq-true _ _ z)) e)
-          (λ z e. ih (letter (k - 1)) (begun ++ (x ∷ []), further s at x xs begun k w (eq-false _ _ z) (inl a), ap alnum (ends x) ∙ a) e))
+          by-test (alnum x) (λ b. Moved (cond b lettered (cond (eqb x 45) hyphened other)))
+          (λ a. by-test (eqb k 0) (λ b. Moved (cond b stop (go (letter (k - 1)))))
+          (λ z e. there at (full (λ d. absurd (dotless a d)) (λ q. both x a q) (λ _. eqb-true _ _ z)) e)
+          (λ z e. ih (letter (k - 1)) (begun ++ (x ∷ []), further s at x xs begun k w (eqb-false _ _ z) (inl a), ap alnum (ends x) ∙ a) e))
           (λ a. let n : alnum x ≡ true → ⊥ = λ b. true≢false (sym b ∙ a) in
-          by-test (eq x 45) (λ b. Moved (cond b hyphened other))
-          (λ t. let q : x ≡ 45 = eq-true _ _ t in
+          by-test (eqb x 45) (λ b. Moved (cond b hyphened other))
+          (λ t. let q : x ≡ 45 = eqb-true _ _ t in
           by-test (leb k 1) (λ b. Moved (cond b stop (go (hyphen (k - 1)))))
           (λ u e. there at (full (λ d. absurd (omega arith)) (λ _. leb-true _ _ u) (λ b. absurd (n b))) e)
           (λ u e. let l : 1 < k = leb-false _ _ u in
           ih (hyphen (k - 1)) (begun ++ (x ∷ []), further s at x xs begun k w (λ z. omega arith) (inr q), ends x ∙ q, omega arith) e))
-          (λ t. f n (eq-false _ _ t)))
+          (λ t. f n (eqb-false _ _ t)))
         where
           dotless : alnum x ≡ true → x ≡ 46 → ⊥
           dotless a d = true≢false (sym a ∙ ap alnum d ∙ dot-not-alnum)
@@ -164,12 +164,12 @@ module _ (s : List ℕ) (p : ℕ) where
       letter-moved : alnum (last 0 begun) ≡ true → Moved (step (letter k) at x)
       letter-moved a =
           inside-moved (dot at x)
-          (λ na nh. by-test (eq x 46) (λ b. Moved (cond b (cond (leb at 251) (go start) stop) stop))
-          (λ t. let d : x ≡ 46 = eq-true _ _ t in
+          (λ na nh. by-test (eqb x 46) (λ b. Moved (cond b (cond (leb at 251) (go start) stop) stop))
+          (λ t. let d : x ≡ 46 = eqb-true _ _ t in
           by-test (leb at 251) (λ b. Moved (cond b (go start) stop))
           (λ u e. ih start (closed s at x xs begun k w a d) e)
           (λ u e. let l : 251 < at = leb-false _ _ u in there at (full (λ _ _. omega arith) (λ q. absurd (nh q)) (λ b. absurd (na b))) e))
-          (λ t e. there at (full (λ q. absurd (eq-false _ _ t q)) (λ q. absurd (nh q)) (λ b. absurd (na b))) e))
+          (λ t e. there at (full (λ q. absurd (eqb-false _ _ t q)) (λ q. absurd (nh q)) (λ b. absurd (na b))) e))
 
       hyphen-moved : last 0 begun ≡ 45 → Moved (step (hyphen k) at x)
       hyphen-moved q =

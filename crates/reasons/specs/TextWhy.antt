@@ -1,11 +1,11 @@
 -- Why a name as text is bad at its first bad place: along the walk of the check, what stands before the place. Assumes nothing.
-use Rattle.std.specs.Prelude.{◌≡◌, refl, ◌⊎◌, true, false, cond, ℕ, ◌+◌, ◌-◌, ◌≤◌, ◌<◌, leb, eq, get_or}
+use Rattle.std.specs.Prelude.{◌≡◌, refl, ◌⊎◌, true, false, cond, ℕ, ◌+◌, ◌-◌, ◌≤◌, ◌<◌, leb, eqb, get_or}
 use Rattle.std.proofs.Common.{sym, ap₂, ◌∙◌, subst, inl, inr, true≢false, arith, length-append, get_or-append-add}
 use Rattle.std.proofs.Math.Path.{ap}
 use mathlib.Core.List.{List, [], ◌∷◌, ◌++◌, append_assoc}
 use Rattle.std.proofs.Math.ListN.{length}
 use Rattle.std.proofs.lemmas.List.{get_or_at}
-use borrow.Author.Tests.{eq-true, eq-false, leb-true, leb-false, eq-eq, ne_eqb}
+use borrow.Author.Tests.{eqb-true, eqb-false, leb-true, leb-false, eq-eqb, ne_eqb}
 use Rattle.octets.specs.Cases.{by-test}
 use Rattle.octets.specs.Lists.{All}
 use Rattle.names.specs.Names.{alnum, head, last, Ldh}
@@ -38,7 +38,7 @@ last-pointed [] t = refl
 last-pointed (l ∷ ls) t = last-append 46 46 l (pointed ls t) ∙ last-pointed ls t
 
 before-is : (front rest : List ℕ) (n : ℕ) → n ≡ length front → before (front ++ rest) n ≡ last 46 front
-before-is [] rest n e = simp (eq-eq n 0 e)
+before-is [] rest n e = simp (eq-eqb n 0 e)
 before-is (y ∷ front) rest n e =
     let z : n - 1 ≡ length front = omega arith in
     simp (ne_eqb n 0 (λ q. omega arith)) (ap (λ (m : ℕ). get_or (y ∷ (front ++ rest)) m 46) z ∙ go y front)
@@ -135,24 +135,24 @@ module _ (s : List ℕ) (p : ℕ) (begun : List ℕ) (x : ℕ) (t : List ℕ) (i
 
   dot-why : x ≡ 46 → (1 ≤ length begun → (last 46 begun ≡ 45 → ⊥) → 252 ≤ p) → Says (dot_reason y n)
   dot-why e h =
-      by-test (eq y 46) (λ b. Says (cond b reason.dot (cond (eq y 45) reason.hyphen (cond (eq n 46) reason.dot reason.long))))
-      (λ a. claims.dot refl t (alone 46 e (eq-true _ _ a)))
-      (λ a. let some = begun-some (eq-false _ _ a) in
-      by-test (eq y 45) (λ b. Says (cond b reason.hyphen (cond (eq n 46) reason.dot reason.long)))
-      (λ b. claims.hyphen_last refl begun (46 ∷ t) (with-octet 46 e) (last-any 0 46 begun some ∙ eq-true _ _ b) (inr (t, refl)))
-      (λ b. by-test (eq n 46) (λ c. Says (cond c reason.dot reason.long))
-      (λ c. claims.dot_far refl begun t (with-octet 46 e) (ends_of t (eq-true _ _ c)))
-      (λ c. too_long (h some (eq-false _ _ b)) (eq-false _ _ c))))
+      by-test (eqb y 46) (λ b. Says (cond b reason.dot (cond (eqb y 45) reason.hyphen (cond (eqb n 46) reason.dot reason.long))))
+      (λ a. claims.dot refl t (alone 46 e (eqb-true _ _ a)))
+      (λ a. let some = begun-some (eqb-false _ _ a) in
+      by-test (eqb y 45) (λ b. Says (cond b reason.hyphen (cond (eqb n 46) reason.dot reason.long)))
+      (λ b. claims.hyphen_last refl begun (46 ∷ t) (with-octet 46 e) (last-any 0 46 begun some ∙ eqb-true _ _ b) (inr (t, refl)))
+      (λ b. by-test (eqb n 46) (λ c. Says (cond c reason.dot reason.long))
+      (λ c. claims.dot_far refl begun t (with-octet 46 e) (ends_of t (eqb-true _ _ c)))
+      (λ c. too_long (h some (eqb-false _ _ b)) (eqb-false _ _ c))))
 
   hyphen-why : x ≡ 45 → (1 ≤ length begun → (62 ≤ length begun) ⊎ (252 ≤ p)) → Says (hyphen_reason y n p)
   hyphen-why e h =
-      by-test (eq y 46) (λ b. Says (cond b reason.hyphen (cond (eq n 46) reason.hyphen (cond (leb 252 p) reason.long reason.label))))
-      (λ a. claims.hyphen refl t (alone 45 e (eq-true _ _ a)))
-      (λ a. by-test (eq n 46) (λ b. Says (cond b reason.hyphen (cond (leb 252 p) reason.long reason.label)))
-      (λ b. claims.hyphen_far refl begun t (with-octet 45 e) (ends_of t (eq-true _ _ b)))
+      by-test (eqb y 46) (λ b. Says (cond b reason.hyphen (cond (eqb n 46) reason.hyphen (cond (leb 252 p) reason.long reason.label))))
+      (λ a. claims.hyphen refl t (alone 45 e (eqb-true _ _ a)))
+      (λ a. by-test (eqb n 46) (λ b. Says (cond b reason.hyphen (cond (leb 252 p) reason.long reason.label)))
+      (λ b. claims.hyphen_far refl begun t (with-octet 45 e) (ends_of t (eqb-true _ _ b)))
       (λ b. by-test (leb 252 p) (λ c. Says (cond c reason.long reason.label))
-      (λ c. too_long (leb-true _ _ c) (eq-false _ _ b))
-      (λ c. full (h (begun-some (eq-false _ _ a))) (leb-false _ _ c) (goes_on t (eq-false _ _ b)))))
+      (λ c. too_long (leb-true _ _ c) (eqb-false _ _ b))
+      (λ c. full (h (begun-some (eqb-false _ _ a))) (leb-false _ _ c) (goes_on t (eqb-false _ _ b)))))
     where
       full : (62 ≤ length begun) ⊎ (252 ≤ p) → p < 252 → (z : ℕ) × (u : List ℕ) × (t ≡ z ∷ u) × (z ≡ 46 → ⊥) → Says reason.label
       full (inl q) l g =
@@ -187,19 +187,19 @@ module _ (s : List ℕ) (p : ℕ) (begun : List ℕ) (x : ℕ) (t : List ℕ) (i
       letters = cond (alnum x) (letter_reason p) reason.octet
 
       hyphens : ℕ
-      hyphens = cond (eq x 45) (hyphen_reason y n p) letters
+      hyphens = cond (eqb x 45) (hyphen_reason y n p) letters
 
       judged : Says (text_octet y n p x)
       judged =
-          by-test (eq x 95) (λ b. Says (cond b reason.underscore (cond (eq x 46) (dot_reason y n) hyphens)))
-          (λ u. claims.underscore refl begun t (with-octet 95 (eq-true _ _ u)))
-          (λ u. by-test (eq x 46) (λ b. Says (cond b (dot_reason y n) hyphens))
-          (λ d. let e : x ≡ 46 = eq-true _ _ d in dot-why e (hd e))
-          (λ d. by-test (eq x 45) (λ b. Says (cond b (hyphen_reason y n p) letters))
-          (λ h. let e : x ≡ 45 = eq-true _ _ h in hyphen-why e (hh e))
+          by-test (eqb x 95) (λ b. Says (cond b reason.underscore (cond (eqb x 46) (dot_reason y n) hyphens)))
+          (λ u. claims.underscore refl begun t (with-octet 95 (eqb-true _ _ u)))
+          (λ u. by-test (eqb x 46) (λ b. Says (cond b (dot_reason y n) hyphens))
+          (λ d. let e : x ≡ 46 = eqb-true _ _ d in dot-why e (hd e))
+          (λ d. by-test (eqb x 45) (λ b. Says (cond b (hyphen_reason y n p) letters))
+          (λ h. let e : x ≡ 45 = eqb-true _ _ h in hyphen-why e (hh e))
           (λ h. by-test (alnum x) (λ b. Says (cond b (letter_reason p) reason.octet))
-          (λ a. letter-why (eq-false _ _ d) (ha a))
-          (λ a. claims.octet refl x begun t i (other a (eq-false _ _ h)) (eq-false _ _ d) (eq-false _ _ u)))))
+          (λ a. letter-why (eqb-false _ _ d) (ha a))
+          (λ a. claims.octet refl x begun t i (other a (eqb-false _ _ h)) (eqb-false _ _ d) (eqb-false _ _ u)))))
 
 -- at the end
 module _ (s : List ℕ) (p : ℕ) (begun : List ℕ) (i : InText s p begun []) where
@@ -208,9 +208,9 @@ module _ (s : List ℕ) (p : ℕ) (begun : List ℕ) (i : InText s p begun []) w
   end-start z =
       let e = nil-of begun z in
       let w = whole s p begun [] i in
-      by-test (eq (length s) 0) (λ _. TextWhy s p (text_reason s p))
-      (λ t. let q : length s ≡ 0 = eq-true _ _ t in claims.empty (simp (eq-eq _ _ q)) q (omega arith))
-      (λ t. let q : length s ≡ 0 → ⊥ = eq-false _ _ t in
+      by-test (eqb (length s) 0) (λ _. TextWhy s p (text_reason s p))
+      (λ t. let q : length s ≡ 0 = eqb-true _ _ t in claims.empty (simp (eq-eqb _ _ q)) q (omega arith))
+      (λ t. let q : length s ≡ 0 → ⊥ = eqb-false _ _ t in
       claims.dot_last (sym (text-dot s p q {b = 46} (sym (prior s p begun [] i ∙ ap (last 46) e)) (omega arith) refl))
       (omega (arith, q))
       (subst (λ (b : List ℕ). InText s p b []) e i))

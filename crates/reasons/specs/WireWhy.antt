@@ -1,13 +1,13 @@
 -- Why a name in wire form is bad at its first bad place: along the walk of the check, what stands before the place. Assumes nothing.
-use Rattle.std.specs.Prelude.{◌≡◌, refl, ◌⊎◌, Bool, false, ◌&&◌, leb, ltb, eq}
+use Rattle.std.specs.Prelude.{◌≡◌, refl, ◌⊎◌, Bool, false, ◌&&◌, leb, ltb, eqb}
 use Rattle.std.proofs.Math.Path.{sym, ap}
-use Rattle.std.proofs.Common.{◌∙◌, subst, inl, inr, true≢false, eq-true, leb-true, leb-false, ltb-true, ltb-false, eq-eq, le-leb}
+use Rattle.std.proofs.Common.{◌∙◌, subst, inl, inr, true≢false, eqb-true, leb-true, leb-false, ltb-true, ltb-false, eq-eqb, le-leb}
 use Rattle.std.proofs.Math.Bool.{true, cond, and-eq-true_iff}
 use mathlib.Core.List.{List, [], ◌∷◌, ◌++◌, append_assoc, append-nil}
 use Prim.Native.Nat.{ℕ, ◌+◌, ◌-◌, ◌≤◌, ◌<◌}
 use native.Mathlib.Omega.{arith}
 use Rattle.std.proofs.Math.ListN.{length, length-append}
-use Rattle.std.proofs.lemmas.Bool.{eq-false}
+use Rattle.std.proofs.lemmas.Bool.{eqb-false}
 use Rattle.octets.specs.Cases.{by-test}
 use Rattle.octets.specs.Lists.{All}
 use Rattle.octets.specs.ListsLaws.{all_append, all_map}
@@ -170,14 +170,14 @@ module _ (s : List ℕ) (p x : ℕ) (xs : List ℕ) where
 
       judged : WireWhy s p (length_reason x)
       judged =
-          by-test (eq x 0) (λ b. WireWhy s p (cond b reason.empty (cond (leb 192 x) reason.pointer (cond (leb 64 x) reason.label reason.long))))
-          (λ t. let z : x ≡ 0 = eq-true _ _ t in let g = w.place in let y = e z in
+          by-test (eqb x 0) (λ b. WireWhy s p (cond b reason.empty (cond (leb 192 x) reason.pointer (cond (leb 64 x) reason.label reason.long))))
+          (λ t. let z : x ≡ 0 = eqb-true _ _ t in let g = w.place in let y = e z in
           claims.empty refl (inr (xs, w.is ∙ ap (λ (v : ℕ). labelled w.labels (v ∷ xs)) z ∙ bare w.labels (omega arith))) y)
           (λ t. by-test (leb 192 x) (λ b. WireWhy s p (cond b reason.pointer (cond (leb 64 x) reason.label reason.long)))
           (λ u. claims.pointer refl x here (leb-true _ _ u))
           (λ u. by-test (leb 64 x) (λ b. WireWhy s p (cond b reason.label reason.long))
           (λ v. claims.label refl x here (leb-true _ _ v) (leb-false _ _ u))
-          (λ v. let n : x ≡ 0 → ⊥ = eq-false _ _ t in
+          (λ v. let n : x ≡ 0 → ⊥ = eqb-false _ _ t in
           let h : x < 64 = leb-false _ _ v in
           let g : 253 < p + x = leb-false _ _ (either-false (leb x 63) (leb (p + x) 253) (f n) (le-leb x 63 (omega arith))) in
           claims.long refl x here (omega (arith, n)) (omega arith) (omega arith))))
@@ -212,11 +212,11 @@ module _ (s : List ℕ) (p x : ℕ) (xs : List ℕ) where
 
       judged : WireWhy s p (octet_reason x)
       judged =
-          by-test (eq x 95) (λ b. WireWhy s p (cond b reason.underscore (cond (eq x 45) reason.hyphen reason.octet)))
-          (λ t. claims.underscore refl w.size begun (here 95 (eq-true _ _ t)))
-          (λ t. by-test (eq x 45) (λ b. WireWhy s p (cond b reason.hyphen reason.octet))
-          (λ u. claims.hyphen refl w.size begun (here 45 (eq-true _ _ u)) (ends (e (eq-true _ _ u))))
-          (λ u. claims.octet refl x w.size begun (here x refl) (other (eq-false _ _ u)) (eq-false _ _ t)))
+          by-test (eqb x 95) (λ b. WireWhy s p (cond b reason.underscore (cond (eqb x 45) reason.hyphen reason.octet)))
+          (λ t. claims.underscore refl w.size begun (here 95 (eqb-true _ _ t)))
+          (λ t. by-test (eqb x 45) (λ b. WireWhy s p (cond b reason.hyphen reason.octet))
+          (λ u. claims.hyphen refl w.size begun (here 45 (eqb-true _ _ u)) (ends (e (eqb-true _ _ u))))
+          (λ u. claims.octet refl x w.size begun (here x refl) (other (eqb-false _ _ u)) (eqb-false _ _ t)))
 
   root-why : Rooted s p (x ∷ xs) → WireWhy s p (wire_reason s p)
   root-why w =
@@ -227,15 +227,15 @@ module _ (s : List ℕ) (p x : ℕ) (xs : List ℕ) where
 cut-why : (s : List ℕ) (p : ℕ) → p ≡ length s → WireWhy s p (wire_reason s p)
 unfolding wire_reason
 cut-why s p e =
-    by-test (eq (length s) 0) (λ _. WireWhy s p (wire_reason s p))
-    (λ t. let z : length s ≡ 0 = eq-true _ _ t in claims.empty (simp (eq-eq _ _ z)) (inl z) (omega arith))
-    (λ t. let z : length s ≡ 0 → ⊥ = eq-false _ _ t in claims.cut (sym (wire-cut s p z (omega arith))) (omega (arith, z)) e)
+    by-test (eqb (length s) 0) (λ _. WireWhy s p (wire_reason s p))
+    (λ t. let z : length s ≡ 0 = eqb-true _ _ t in claims.empty (simp (eq-eqb _ _ z)) (inl z) (omega arith))
+    (λ t. let z : length s ≡ 0 → ⊥ = eqb-false _ _ t in claims.cut (sym (wire-cut s p z (omega arith))) (omega (arith, z)) e)
 
 at_end : (s : List ℕ) (st : State) (at : ℕ) → Before s st at [] → name_automaton.ends st ≡ false → at ≡ length s
 at_end s (letter k) at v e =
-    by-test (eq k 0) (λ _. at ≡ length s)
-    (λ t. let w = v.0 (eq-true _ _ t) in w.place ∙ sym (ap length w.is))
-    (λ t. let w = (v.1 (eq-false _ _ t)).1 in
+    by-test (eqb k 0) (λ _. at ≡ length s)
+    (λ t. let w = v.0 (eqb-true _ _ t) in w.place ∙ sym (ap length w.is))
+    (λ t. let w = (v.1 (eqb-false _ _ t)).1 in
     w.place ∙ sym (ap length (w.is ∙ ap (λ (l : List ℕ). labelled w.labels (w.size ∷ l)) (append-nil _))))
 at_end s (hyphen k) at v e =
     let w = v.1.1 in
@@ -259,12 +259,12 @@ module _ (s : List ℕ) (p : ℕ) where
 
     length_moved : Whole s at (x ∷ xs) → Moved (length_octet at x)
     length_moved w =
-        by-test (eq x 0) (λ b. Moved (cond b (cond (eq at 0) stop (go root)) (cond (label_fits at x) (go (first (x - 1))) stop)))
-        (λ t. let z : x ≡ 0 = eq-true _ _ t in
-        by-test (eq at 0) (λ b. Moved (cond b stop (go root)))
-        (λ u e. there at (length-why s at x xs w (λ _. eq-true _ _ u) (λ n. absurd (n z))) e)
-        (λ u e. ih root (rooted s at x xs w z (eq-false _ _ u)) e))
-        (λ t. let n : x ≡ 0 → ⊥ = eq-false _ _ t in
+        by-test (eqb x 0) (λ b. Moved (cond b (cond (eqb at 0) stop (go root)) (cond (label_fits at x) (go (first (x - 1))) stop)))
+        (λ t. let z : x ≡ 0 = eqb-true _ _ t in
+        by-test (eqb at 0) (λ b. Moved (cond b stop (go root)))
+        (λ u e. there at (length-why s at x xs w (λ _. eqb-true _ _ u) (λ n. absurd (n z))) e)
+        (λ u e. ih root (rooted s at x xs w z (eqb-false _ _ u)) e))
+        (λ t. let n : x ≡ 0 → ⊥ = eqb-false _ _ t in
         by-test (label_fits at x) (λ b. Moved (cond b (go (first (x - 1))) stop))
         (λ u e. ih (first (x - 1)) (opened s at x xs w n (leb-true _ _ ((and-eq-true_iff (leb x 63) (leb (at + x) 253)).0 u).0)) e)
         (λ u e. there at (length-why s at x xs w (λ z. absurd (n z)) (λ _. u)) e))
@@ -278,17 +278,17 @@ module _ (s : List ℕ) (p : ℕ) where
         by-test (alnum x) (λ c. Moved (cond c (go (letter (k - 1))) (cond (hyphen_fits k x) (go (hyphen (k - 1))) stop)))
         (λ a e. ih (letter (k - 1)) (lettered s at x xs b k w n a h) e)
         (λ a. by-test (hyphen_fits k x) (λ c. Moved (cond c (go (hyphen (k - 1))) stop))
-        (λ t e. let q = (and-eq-true_iff (eq x 45) (ltb 1 k)).0 t in
+        (λ t e. let q = (and-eq-true_iff (eqb x 45) (ltb 1 k)).0 t in
         let l : 1 < k = ltb-true _ _ q.1 in
-        ih (hyphen (k - 1)) (omega arith, (b ++ (x ∷ []), further s at x xs b k w n (inr (eq-true _ _ q.0)), omega arith, h)) e)
+        ih (hyphen (k - 1)) (omega arith, (b ++ (x ∷ []), further s at x xs b k w n (inr (eqb-true _ _ q.0)), omega arith, h)) e)
         (λ t e. there at (octet-why s at x xs b k w (omega (arith, n)) a
-        (λ q. let l : k ≤ 1 = ltb-false _ _ (either-false (eq x 45) (ltb 1 k) t (eq-eq _ _ q)) in inr (omega (arith, n)))) e))
+        (λ q. let l : k ≤ 1 = ltb-false _ _ (either-false (eqb x 45) (ltb 1 k) t (eq-eqb _ _ q)) in inr (omega (arith, n)))) e))
 
     moved : (st : State) → Before s st at (x ∷ xs) → Moved (step st at x)
     moved (letter k) v =
-        by-test (eq k 0) (λ b. Moved (cond b (length_octet at x) (inside k x)))
-        (λ t. length_moved (v.0 (eq-true _ _ t)))
-        (λ t. inside-moved k (eq-false _ _ t) (v.1 (eq-false _ _ t)))
+        by-test (eqb k 0) (λ b. Moved (cond b (length_octet at x) (inside k x)))
+        (λ t. length_moved (v.0 (eqb-true _ _ t)))
+        (λ t. inside-moved k (eqb-false _ _ t) (v.1 (eqb-false _ _ t)))
     moved (hyphen k) v = inside-moved k (omega (arith, v.0)) v.1
     moved (first k) w =
         by-test (alnum x) (λ b. Moved (cond b (go (letter k)) stop))

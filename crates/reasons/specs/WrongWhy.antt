@@ -1,6 +1,6 @@
 -- Which parameter is the first hint, or the first with a value that its key does not allow: along the parameters of a field. Assumes nothing.
-use Rattle.std.specs.Prelude.{◌≡◌, refl, ◌⊎◌, Bool, true, false, cond, not, ◌||◌, List, [], ◌∷◌, ◌++◌, ℕ, ◌+◌, ◌-◌, eq, length}
-use Rattle.std.proofs.Common.{sym, ap, ap₂, ◌∙◌, subst, inl, inr, true≢false, arith, length-append, eq-true}
+use Rattle.std.specs.Prelude.{◌≡◌, refl, ◌⊎◌, Bool, true, false, cond, not, ◌||◌, List, [], ◌∷◌, ◌++◌, ℕ, ◌+◌, ◌-◌, eqb, length}
+use Rattle.std.proofs.Common.{sym, ap, ap₂, ◌∙◌, subst, inl, inr, true≢false, arith, length-append, eqb-true}
 use Rattle.std.proofs.lemmas.Bool.{not-true, not-false}
 use Rattle.octets.specs.Cases.{by-test}
 use Rattle.octets.specs.Lists.{All}
@@ -93,9 +93,9 @@ unhinted (kv ∷ kvs) a = simp a.0 (unhinted kvs a.1)
 
 which-hint : (k : ℕ) → is_hint k ≡ true → (k ≡ key.ipv4hint) ⊎ (k ≡ key.ipv6hint)
 which-hint k =
-    by-test (eq k key.ipv4hint) (λ b. b || eq k key.ipv6hint ≡ true → (k ≡ key.ipv4hint) ⊎ (k ≡ key.ipv6hint))
-    (λ t _. inl (eq-true _ _ t))
-    (λ t e. inr (eq-true _ _ e))
+    by-test (eqb k key.ipv4hint) (λ b. b || eqb k key.ipv6hint ≡ true → (k ≡ key.ipv4hint) ⊎ (k ≡ key.ipv6hint))
+    (λ t _. inl (eqb-true _ _ t))
+    (λ t e. inr (eqb-true _ _ e))
 
 pub hint-true : (p : List ℕ) → Bytes p → params_fault p ≡ fault.hint → FirstHint p (param_for fault.hint p)
 unfolding param_for

@@ -1,6 +1,6 @@
 -- What the places that `split` answers say on each way through `examine` and `put_record`. Assumes nothing.
-use Rattle.std.specs.Prelude.{◌≡◌, refl, Bool, true, false, cond, List, [], ℕ, ◌+◌, ◌-◌, ◌≤◌, ◌<◌, eq, length, take, drop}
-use Rattle.std.proofs.Common.{sym, ap, ◌∙◌, arith, length-take, length-drop, length-take-le, eq-true}
+use Rattle.std.specs.Prelude.{◌≡◌, refl, Bool, true, false, cond, List, [], ℕ, ◌+◌, ◌-◌, ◌≤◌, ◌<◌, eqb, length, take, drop}
+use Rattle.std.proofs.Common.{sym, ap, ◌∙◌, arith, length-take, length-drop, length-take-le, eqb-true}
 use Rattle.std.proofs.Math.Path.{subst⁻¹}
 use Rattle.std.proofs.lemmas.Bool.{false≢true}
 use Rattle.std.proofs.Math.Nat.{add-sub_cancel_left}
@@ -42,17 +42,17 @@ abbrev Bounded : ℕ → Examined → Type 0
 Bounded n r = (r.priority < 65536) × (r.size ≤ limit.record_size) × (r.place ≤ n)
 
 yield-bounds : (c : Carrier) (at : ℕ) (f : Fields) (clean : Bool) → f.priority < 65536 → Bounded (at + length f.name) (examined_of c (yield_of c at f) clean)
-yield-bounds c at f clean h = go (eq (fault_of Reading c f) 0) refl
+yield-bounds c at f clean h = go (eqb (fault_of Reading c f) 0) refl
   where
     place : (from at (judged_by Reading c f)).place ≤ at + length f.name
     place =
-        by-test (eq (fault_of Reading c f) fault.name) (λ t. cond t (at + (judged_by Reading c f).place) 0 ≤ at + length f.name)
+        by-test (eqb (fault_of Reading c f) fault.name) (λ t. cond t (at + (judged_by Reading c f).place) 0 ≤ at + length f.name)
         (λ _. omega (arith, place-within Reading c f))
         (λ _. omega arith)
 
-    go : (b : Bool) → eq (fault_of Reading c f) 0 ≡ b
+    go : (b : Bool) → eqb (fault_of Reading c f) 0 ≡ b
         → Bounded (at + length f.name) (examined_of c (cond b (kept (keep_of c f)) (faulty (from at (judged_by Reading c f)))) clean)
-    go true t = (h, kept_small c f (fault-passed Reading c f (eq-true _ _ t)), omega arith)
+    go true t = (h, kept_small c f (fault-passed Reading c f (eqb-true _ _ t)), omega arith)
     go false t = (omega arith, omega arith, place)
 
 -- what `examine` answers
@@ -82,14 +82,14 @@ module _ (c : Carrier) (b : List ℕ) (k : Kept (outcome_of c b)) where
 
   module _ (f : Fields) (e : fields f ≡ parse c b) where
     kept-fault : fault_of Reading c f ≡ 0
-    kept-fault = go (eq (fault_of Reading c f) 0) refl (rw (outcome-fields c b f (sym e)) at k)
+    kept-fault = go (eqb (fault_of Reading c f) 0) refl (rw (outcome-fields c b f (sym e)) at k)
       where
         at : ℕ
         at = name_at c (length f.addresses)
 
-        go : (b : Bool) → eq (fault_of Reading c f) 0 ≡ b → Kept (cond b (kept (keep_of c f)) (faulty (from at (judged_by Reading c f))))
+        go : (b : Bool) → eqb (fault_of Reading c f) 0 ≡ b → Kept (cond b (kept (keep_of c f)) (faulty (from at (judged_by Reading c f))))
             → fault_of Reading c f ≡ 0
-        go true t h = eq-true _ _ t
+        go true t h = eqb-true _ _ t
         go false t h = absurd h
 
     kept-octets : octets_in c (outcome_of c b) ≡ record_of c (keep_of c f)

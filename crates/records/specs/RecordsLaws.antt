@@ -1,8 +1,8 @@
 -- What a body's outcome says of its fields, and how many octets a record has. Assumes nothing.
-use Rattle.std.specs.Prelude.{◌≡◌, refl, Bool, true, false, cond, ◌⊎◌, List, ◌++◌, ℕ, ◌+◌, ◌*◌, ◌/◌, ◌≤◌, ◌<◌, ◌-◌, eq, length}
-use Rattle.std.proofs.Common.{sym, ap, ◌∙◌, inl, inr, arith, mul-div_cancel, mul-pos, pos_of_ne-zero, length-append, eq-eq, ne_eqb, eq-true}
+use Rattle.std.specs.Prelude.{◌≡◌, refl, Bool, true, false, cond, ◌⊎◌, List, ◌++◌, ℕ, ◌+◌, ◌*◌, ◌/◌, ◌≤◌, ◌<◌, ◌-◌, eqb, length}
+use Rattle.std.proofs.Common.{sym, ap, ◌∙◌, inl, inr, arith, mul-div_cancel, mul-pos, pos_of_ne-zero, length-append, eq-eqb, ne_eqb, eqb-true}
 use Rattle.std.proofs.Math.Nat.{mul-mod_left}
-use Rattle.std.proofs.lemmas.Bool.{eq-false}
+use Rattle.std.proofs.lemmas.Bool.{eqb-false}
 use Rattle.octets.specs.Numbers.{be}
 use Rattle.numbers.specs.Fault as fault
 use Rattle.numbers.specs.Limit as limit
@@ -37,24 +37,24 @@ module _ (c : Carrier) (at : ℕ) (f : Fields) where
   told = from at (judged_by Reading c f)
 
   pub yield-kept : fault_of Reading c f ≡ 0 → yield_of c at f ≡ kept (keep_of c f)
-  yield-kept e = simp (eq-eq _ _ e)
+  yield-kept e = simp (eq-eqb _ _ e)
 
   pub yield-faulty : (fault_of Reading c f ≡ 0 → ⊥) → yield_of c at f ≡ faulty told
   yield-faulty n = simp (ne_eqb _ _ n)
 
   yield-some : (j : Judged) → yield_of c at f ≡ faulty j → j.fault ≡ 0 → ⊥
-  yield-some j = go (eq (fault_of Reading c f) 0) refl
+  yield-some j = go (eqb (fault_of Reading c f) 0) refl
     where
-      go : (b : Bool) → eq (fault_of Reading c f) 0 ≡ b → cond b (kept (keep_of c f)) (faulty told) ≡ faulty j → j.fault ≡ 0 → ⊥
+      go : (b : Bool) → eqb (fault_of Reading c f) 0 ≡ b → cond b (kept (keep_of c f)) (faulty told) ≡ faulty j → j.fault ≡ 0 → ⊥
       go true t e z = let o : ◌≡◌ {A = ℕ} 0 1 = cc in omega arith
-      go false t e z = let q : told ≡ j = cc in eq-false _ _ t (ap (λ (j : Judged). j.fault) q ∙ z)
+      go false t e z = let q : told ≡ j = cc in eqb-false _ _ t (ap (λ (j : Judged). j.fault) q ∙ z)
 
   yield-says : (r : Fields) → yield_of c at f ≡ kept r → (fault_of Reading c f ≡ 0) × (r ≡ keep_of c f)
-  yield-says r = go (eq (fault_of Reading c f) 0) refl
+  yield-says r = go (eqb (fault_of Reading c f) 0) refl
     where
-      go : (b : Bool) → eq (fault_of Reading c f) 0 ≡ b → cond b (kept (keep_of c f)) (faulty told) ≡ kept r
+      go : (b : Bool) → eqb (fault_of Reading c f) 0 ≡ b → cond b (kept (keep_of c f)) (faulty told) ≡ kept r
           → (fault_of Reading c f ≡ 0) × (r ≡ keep_of c f)
-      go true t e = (eq-true _ _ t, (cc))
+      go true t e = (eqb-true _ _ t, (cc))
       go false t e = let o : ◌≡◌ {A = ℕ} 0 1 = cc in absurd (omega arith)
 
 -- ---- what a body yields
@@ -174,7 +174,7 @@ kept-tail w a q wide t =
     let ls : List (List ℕ) = kept_of w (list_of w a) in
     let some : 0 < w = wide-some wide in
     let s = staying-length w a in
-    let one : 0 < length ls = pos_of_ne-zero (eq-false _ _ t.usable) in
+    let one : 0 < length ls = pos_of_ne-zero (eqb-false _ _ t.usable) in
     record {
       some = rw s (mul-pos one some);
       whole = rw s (mul-mod_left (length ls) w);

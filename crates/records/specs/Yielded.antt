@@ -1,6 +1,6 @@
 -- What one body yields, computed (RULES T2): 20 and 29 by `parse`, then 21 to 28, or its record; and of 22 the place in the body (RULES W11).
 -- Assumes nothing: these are definitions.
-use Rattle.std.specs.Prelude.{cond, List, ℕ, eq, length}
+use Rattle.std.specs.Prelude.{cond, List, ℕ, eqb, length}
 use Rattle.carriers.specs.declared.Carrier.{Carrier}
 use Rattle.blocks.specs.Block.{Fields, name_at}
 use Rattle.blocks.specs.Parse.{Parsed, bad, fields, parse}
@@ -15,7 +15,7 @@ on_parsed (fields f) short next = next f
 
 -- 21 to 28 of fields whose name stands at offset `at` of the body, or their record
 abbrev pub yield_of : Carrier → ℕ → Fields → Outcome
-yield_of c at f = cond (eq (fault_of Reading c f) 0) (kept (keep_of c f)) (faulty (from at (judged_by Reading c f)))
+yield_of c at f = cond (eqb (fault_of Reading c f) 0) (kept (keep_of c f)) (faulty (from at (judged_by Reading c f)))
 
 -- 20 and 29 by `parse`, then 21 to 28
 unfoldable pub outcome_of : Carrier → List ℕ → Outcome

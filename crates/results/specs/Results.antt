@@ -1,6 +1,6 @@
 -- What a reading is printed as (docs/COMMAND.md, `read`): its sheet, what was found, what was discarded, and the first fault with its place. Assumes
 -- nothing: these are definitions.
-use Rattle.std.specs.Prelude.{Bool, true, false, cond, List, [], ◌++◌, ℕ, eq}
+use Rattle.std.specs.Prelude.{Bool, true, false, cond, List, [], ◌++◌, ℕ, eqb}
 use Rattle.numbers.specs.Fault as fault
 use Rattle.chars.specs.Ascii.{ascii}
 use Rattle.lines.specs.Messages.{count_of}
@@ -8,11 +8,11 @@ use Rattle.showing.specs.Showing.{shown_of}
 
 -- the place of fault 22 in its block, and of no other fault (RULES W11)
 abbrev pub place_part : ℕ → ℕ → List ℕ
-place_part k p = cond (eq k fault.name) (count_of (ascii " at octet ") p ++ ascii " of its block") []
+place_part k p = cond (eqb k fault.name) (count_of (ascii " at octet ") p ++ ascii " of its block") []
 
 -- the first fault; 0 is none
 abbrev pub first_part : ℕ → ℕ → List ℕ
-first_part k p = cond (eq k 0) [] (count_of (ascii ", fault ") k ++ place_part k p)
+first_part k p = cond (eqb k 0) [] (count_of (ascii ", fault ") k ++ place_part k p)
 
 -- as text: the sheet, and a line of its own
 unfoldable pub text_of : ℕ → ℕ → ℕ → ℕ → List ℕ → List ℕ

@@ -1,9 +1,9 @@
 -- The parameters of a field as a loop meets them from an index on, a whole one and the rest, or none; and what is shown of one by cases.
 -- Assumes nothing.
-use Rattle.std.specs.Prelude.{◌≡◌, refl, Bool, true, false, ◌&&◌, List, [], ◌∷◌, ℕ, ◌+◌, ◌-◌, ◌≤◌, ◌<◌, eq, length, take, drop}
+use Rattle.std.specs.Prelude.{◌≡◌, refl, Bool, true, false, ◌&&◌, List, [], ◌∷◌, ℕ, ◌+◌, ◌-◌, ◌≤◌, ◌<◌, eqb, length, take, drop}
 use Rattle.std.proofs.Math.Path.{ap}
 use Rattle.std.proofs.Common.{◌∙◌, arith, length-drop}
-use borrow.Author.Tests.{eq-true, ne_eqb}
+use borrow.Author.Tests.{eqb-true, ne_eqb}
 use Rattle.octets.specs.Numbers.{at16}
 use Rattle.octets.specs.ListsLaws.{take_rest}
 use Rattle.svcparams.specs.Entries.{entries}
@@ -35,11 +35,11 @@ module _ (p : List ℕ) (i : ℕ) where
 -- ---- a parameter
 
 -- of two tests the second fails where the first does not
-not-both : (n m : ℕ) {b : Bool} → (n ≡ m → b ≡ false) → (eq n m && b) ≡ false
-not-both n m {b} f = go (eq n m) refl
+not-both : (n m : ℕ) {b : Bool} → (n ≡ m → b ≡ false) → (eqb n m && b) ≡ false
+not-both n m {b} f = go (eqb n m) refl
   where
-    go : (t : Bool) → eq n m ≡ t → (t && b) ≡ false
-    go true e = f (eq-true n m e)
+    go : (t : Bool) → eqb n m ≡ t → (t && b) ≡ false
+    go true e = f (eqb-true n m e)
     go false e = refl
 
 module _ (json : Bool) {k : ℕ} (v : List ℕ) where
@@ -47,6 +47,6 @@ module _ (json : Bool) {k : ℕ} (v : List ℕ) where
   unfolding value_by
   value-port e h q = ap decimal_of q ∙ simp (e, h)
 
-  pub value-string : (k ≡ 0 → ⊥) → (k ≡ 1 → ⊥) → (k ≡ 2 → json ≡ false) → (k ≡ 3 → eq (length v) 2 ≡ false) → quoted json (value_of json v) ≡ value_by json k v
+  pub value-string : (k ≡ 0 → ⊥) → (k ≡ 1 → ⊥) → (k ≡ 2 → json ≡ false) → (k ≡ 3 → eqb (length v) 2 ≡ false) → quoted json (value_of json v) ≡ value_by json k v
   unfolding value_by
   value-string a b n m = simp (ne_eqb k 0 a, ne_eqb k 1 b, not-both k 2 n, not-both k 3 m)

@@ -1,7 +1,7 @@
 -- The laws of what is shown by cases: lifetimes, records and the head of a sheet; and addresses as a loop meets them. Assumes nothing.
 use Rattle.std.specs.Prelude.{◌≡◌, Bool, true, false, cond, List, [], ◌∷◌, ◌++◌, ℕ, ◌+◌, ◌-◌, ◌≤◌, ◌<◌, length, take, drop}
 use Rattle.std.proofs.Math.Path.{refl}
-use Rattle.std.proofs.Common.{sym, ap, ◌∙◌, length-drop, drop-drop, eq-eq, ne_eqb}
+use Rattle.std.proofs.Common.{sym, ap, ◌∙◌, length-drop, drop-drop, eq-eqb, ne_eqb}
 use Rattle.std.proofs.Math.Nat.{add-sub_cancel_left}
 use Rattle.carriers.specs.declared.Carrier.{Carrier}
 use Rattle.carriers.specs.Carriers.{number_of, address_width, lifetime_width}
@@ -31,7 +31,7 @@ module _ (c : Carrier) {n : ℕ} (e : n ≡ number_of c) where
 module _ (json : Bool) (c : Carrier) (n : ℕ) {w : ℕ} (e : w ≡ lifetime_width c) where
   pub lifetime-none : w ≡ 0 → [] ≡ lifetime_of json c n
   unfolding lifetime_of
-  lifetime-none z = simp (eq-eq (lifetime_width c) 0 (sym e ∙ z))
+  lifetime-none z = simp (eq-eqb (lifetime_width c) 0 (sym e ∙ z))
 
   pub lifetime-some : (w ≡ 0 → ⊥)
       → cond json (ascii ",\"lifetime\":") (ascii "\n    lifetime        ") ++ span_of json n ≡ lifetime_of json c n

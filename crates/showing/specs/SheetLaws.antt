@@ -1,5 +1,5 @@
 -- The laws of a sheet as it is shown: its records as a loop meets them, and what taking answers. Assumes nothing.
-use Rattle.std.specs.Prelude.{◌≡◌, Bool, true, cond, not, List, [], ◌∷◌, ◌++◌, map, ℕ, ◌<◌, ◌≤◌, min, eq, length}
+use Rattle.std.specs.Prelude.{◌≡◌, Bool, true, cond, not, List, [], ◌∷◌, ◌++◌, map, ℕ, ◌<◌, ◌≤◌, min, eqb, length}
 use Rattle.std.proofs.Common.{sym, ap, ◌∙◌}
 use Rattle.std.proofs.lemmas.Bool.{false≢true, not-true}
 use Rattle.carriers.specs.declared.Carrier.{Carrier}
@@ -25,7 +25,7 @@ use Rattle.showing.specs.Showing.{head_of, record_of, sheet_of, shown_as, shown_
 pub record Lined (json : Bool) (c : Carrier) (s : List ℕ) (i : ℕ) (rs : List Fields) (at : ℕ) (l : List ℕ) (r : ℕ) (l' : List ℕ) : Type 0 where
   pub left : List Fields
   pub standing : Standing c s i left
-  pub listed : Listed json (record_of json c) rs left (before_of json (eq i front_size)) at l r l'
+  pub listed : Listed json (record_of json c) rs left (before_of json (eqb i front_size)) at l r l'
 
 module _ (json : Bool) (c : Carrier) (s : List ℕ) {at : ℕ} {l : List ℕ} where
   pub lined-start : {r : ℕ} → r ≡ min at (length l) → (rs : List Fields) → Standing c s front_size rs → Lined json c s front_size rs at l r l
@@ -40,7 +40,7 @@ module _ (json : Bool) (c : Carrier) (s : List ℕ) {at : ℕ} {l : List ℕ} wh
       pub lined-good : not p.good ≡ true → ⊥
       lined-good t = false≢true (sym (not-true _ t) ∙ turn.stands.good)
 
-      pub lined-next : {r' : ℕ} {l'' : List ℕ} → front_size < p.next → Puts r (before_of json (eq i front_size) ++ record_of json c (fields_at s p)) l' r' l''
+      pub lined-next : {r' : ℕ} {l'' : List ℕ} → front_size < p.next → Puts r (before_of json (eqb i front_size) ++ record_of json c (fields_at s p)) l' r' l''
           → Lined json c s p.next rs at l r' l''
       lined-next n q =
           let are : d.left ≡ fields_at s p ∷ turn.rest = turn.are ∙ ap (λ (f : Fields). f ∷ turn.rest) (sym (stands-is turn.stands)) in

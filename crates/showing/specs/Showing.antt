@@ -1,6 +1,6 @@
 -- What is shown of a sheet: lines for a person, each but the first after a line break, or one JSON object without blanks (RFC 8259;
 -- docs/COMMAND.md, "Text of a sheet", "JSON"); `json` says which of the two. Assumes nothing: these are definitions.
-use Rattle.std.specs.Prelude.{ℕ, Bool, cond, ◌&&◌, List, [], ◌++◌, map, eq, length}
+use Rattle.std.specs.Prelude.{ℕ, Bool, cond, ◌&&◌, List, [], ◌++◌, map, eqb, length}
 use Rattle.octets.specs.Numbers.{at16}
 use Rattle.carriers.specs.declared.Carrier.{Carrier}
 use Rattle.carriers.specs.Carriers.{number_of, address_width, lifetime_width}
@@ -15,7 +15,7 @@ use Rattle.values.specs.Values.{carrier_of, name_of, span_of, address_of, list_o
 
 -- the end of the first line: how many records there are
 unfoldable pub count_of : ℕ → List ℕ
-count_of count = ascii "), " ++ (decimal_of count ++ cond (eq count 1) (ascii " record") (ascii " records"))
+count_of count = ascii "), " ++ (decimal_of count ++ cond (eqb count 1) (ascii " record") (ascii " records"))
 
 -- the first line
 unfoldable pub line_of : Carrier → ℕ → List ℕ
@@ -35,7 +35,7 @@ head_of json c count = cond json (object_of c) (line_of c count)
 -- the lifetime, where the carrier has one
 unfoldable pub lifetime_of : Bool → Carrier → ℕ → List ℕ
 lifetime_of json c lifetime =
-    cond (eq (lifetime_width c) 0) []
+    cond (eqb (lifetime_width c) 0) []
     (cond json (ascii ",\"lifetime\":") (ascii "\n    lifetime        ") ++ span_of json lifetime)
 
 -- what every record has; in text an empty line stands before it
@@ -58,10 +58,10 @@ addresses_of json c s = list_of json (map (address_item json) (addresses.list_of
 -- the value of a parameter; that of no-default-alpn is empty in a sheet that writing accepts
 unfoldable pub value_by : Bool → ℕ → List ℕ → List ℕ
 value_by json k v =
-    cond (eq k key.mandatory) (bracketed json (keys_of json v))
-    (cond (eq k key.alpn) (bracketed json (protocols_of json v))
-    (cond (eq k key.no_default_alpn && json) (ascii "null")
-    (cond (eq k key.port && eq (length v) 2) (decimal_of (at16 v 0))
+    cond (eqb k key.mandatory) (bracketed json (keys_of json v))
+    (cond (eqb k key.alpn) (bracketed json (protocols_of json v))
+    (cond (eqb k key.no_default_alpn && json) (ascii "null")
+    (cond (eqb k key.port && eqb (length v) 2) (decimal_of (at16 v 0))
     (quoted json (value_of json v)))))
 
 -- a parameter

@@ -1,7 +1,7 @@
 -- The laws of what is accepted: each test of the definitions decides what `Accepted` says of keys and values. Assumes nothing.
-use Rattle.std.specs.Prelude.{◌≡◌, refl, Bool, true, false, not, ◌&&◌, ◌||◌, ◌⊎◌, List, [], ◌∷◌, ◌++◌, ℕ, zero, suc, ◌+◌, ◌*◌, ◌%◌, ◌≤◌, ◌<◌, length, take, drop, eq, leb}
-use Rattle.std.proofs.Common.{sym, ap, ◌∙◌, inl, inr, not-suc-le-zero, arith, length-drop, length-append, take-append-drop, drop_at, length-take-le, le-leb, eq-eq, ne_eqb, eq-true, leb-true, leb-false}
-use Rattle.std.proofs.lemmas.Bool.{false≢true, eq-false, not-true}
+use Rattle.std.specs.Prelude.{◌≡◌, refl, Bool, true, false, not, ◌&&◌, ◌||◌, ◌⊎◌, List, [], ◌∷◌, ◌++◌, ℕ, zero, suc, ◌+◌, ◌*◌, ◌%◌, ◌≤◌, ◌<◌, length, take, drop, eqb, leb}
+use Rattle.std.proofs.Common.{sym, ap, ◌∙◌, inl, inr, not-suc-le-zero, arith, length-drop, length-append, take-append-drop, drop_at, length-take-le, le-leb, eq-eqb, ne_eqb, eqb-true, leb-true, leb-false}
+use Rattle.std.proofs.lemmas.Bool.{false≢true, eqb-false, not-true}
 use Rattle.std.proofs.Math.Bool.{and-eq-true_iff, or-true}
 use Rattle.octets.specs.Numbers.{Octet, Bytes, words, numbers_of}
 use Rattle.octets.specs.NumbersLaws.{words_small, length-numbers, words-numbers, numbers-words}
@@ -20,7 +20,7 @@ one_of true b e = inl refl
 one_of false b e = inr e
 
 by_equal : (a b : ℕ) {X : Type 0} → (a ≡ b → X) → ((a ≡ b → ⊥) → X) → X
-by_equal a b {X} f g = by-test (eq a b) (λ _. X) (λ e. f (eq-true _ _ e)) (λ e. g (eq-false _ _ e))
+by_equal a b {X} f g = by-test (eqb a b) (λ _. X) (λ e. f (eqb-true _ _ e)) (λ e. g (eqb-false _ _ e))
 
 -- ---- keys that rise
 
@@ -57,28 +57,28 @@ least_zero (k ∷ ks) = (omega arith, least_zero ks)
 has_in : (k : ℕ) (ks : List ℕ) → has k ks ≡ true → In k ks
 unfolding has
 has_in k [] e = absurd (false≢true e)
-has_in k (x ∷ xs) e = go (one_of (eq x k) (has k xs) e) (λ q. has_in k xs q)
+has_in k (x ∷ xs) e = go (one_of (eqb x k) (has k xs) e) (λ q. has_in k xs q)
   where
-    go : (eq x k ≡ true) ⊎ (has k xs ≡ true) → (has k xs ≡ true → In k xs) → (x ≡ k) ⊎ In k xs
-    go (inl t) ih = inl (eq-true _ _ t)
+    go : (eqb x k ≡ true) ⊎ (has k xs ≡ true) → (has k xs ≡ true → In k xs) → (x ≡ k) ⊎ In k xs
+    go (inl t) ih = inl (eqb-true _ _ t)
     go (inr t) ih = inr (ih t)
 
 in-has : (k : ℕ) (ks : List ℕ) → In k ks → has k ks ≡ true
 unfolding has
 in-has k [] i = absurd i
-in-has k (x ∷ xs) (inl e) = simp (eq-eq _ _ e)
+in-has k (x ∷ xs) (inl e) = simp (eq-eqb _ _ e)
 in-has k (x ∷ xs) (inr i) = simp (in-has k xs i, or-true)
 
 -- a key of 16 bits that is not the invalid one is below it
 pub valid-below : (kvs : List Param) → All Fits kvs → has key.invalid (keys kvs) ≡ false → All (λ k. k < key.invalid) (keys kvs)
 unfolding has keys
 valid-below [] f e = tt
-valid-below (kv ∷ kvs) f e = go (eq kv.key key.invalid) refl e (λ q. valid-below kvs f.1 q)
+valid-below (kv ∷ kvs) f e = go (eqb kv.key key.invalid) refl e (λ q. valid-below kvs f.1 q)
   where
-    go : (b : Bool) → eq kv.key key.invalid ≡ b → b || has key.invalid (keys kvs) ≡ false
+    go : (b : Bool) → eqb kv.key key.invalid ≡ b → b || has key.invalid (keys kvs) ≡ false
         → (has key.invalid (keys kvs) ≡ false → All (λ k. k < key.invalid) (keys kvs)) → All (λ k. k < key.invalid) (kv.key ∷ keys kvs)
     go true t e ih = absurd (false≢true (sym e))
-    go false t e ih = let n : kv.key ≡ key.invalid → ⊥ = eq-false _ _ t in (omega (arith, f.0.key), ih e)
+    go false t e ih = let n : kv.key ≡ key.invalid → ⊥ = eqb-false _ _ t in (omega (arith, f.0.key), ih e)
 
 pub below-valid : (ks : List ℕ) → All (λ k. k < key.invalid) ks → has key.invalid ks ≡ false
 unfolding has
@@ -95,25 +95,25 @@ unfolding has_hint
 hint-in [] e = absurd (false≢true e)
 hint-in (k ∷ ks) e = go (one_of (is_hint k) (has_hint ks) e) (λ q. hint-in ks q)
   where
-    here : (eq k key.ipv4hint ≡ true) ⊎ (eq k key.ipv6hint ≡ true) → HintIn (k ∷ ks)
-    here (inl t) = inl (inl (eq-true _ _ t))
-    here (inr t) = inr (inl (eq-true _ _ t))
+    here : (eqb k key.ipv4hint ≡ true) ⊎ (eqb k key.ipv6hint ≡ true) → HintIn (k ∷ ks)
+    here (inl t) = inl (inl (eqb-true _ _ t))
+    here (inr t) = inr (inl (eqb-true _ _ t))
 
     later : HintIn ks → HintIn (k ∷ ks)
     later (inl i) = inl (inr i)
     later (inr i) = inr (inr i)
 
     go : (is_hint k ≡ true) ⊎ (has_hint ks ≡ true) → (has_hint ks ≡ true → HintIn ks) → HintIn (k ∷ ks)
-    go (inl t) ih = here (one_of (eq k key.ipv4hint) (eq k key.ipv6hint) t)
+    go (inl t) ih = here (one_of (eqb k key.ipv4hint) (eqb k key.ipv6hint) t)
     go (inr t) ih = later (ih t)
 
 in-hint : (ks : List ℕ) → HintIn ks → has_hint ks ≡ true
 unfolding has_hint
 in-hint [] (inl i) = absurd i
 in-hint [] (inr i) = absurd i
-in-hint (k ∷ ks) (inl (inl e)) = simp (eq-eq _ _ e)
+in-hint (k ∷ ks) (inl (inl e)) = simp (eq-eqb _ _ e)
 in-hint (k ∷ ks) (inl (inr i)) = simp (in-hint ks (inl i), or-true)
-in-hint (k ∷ ks) (inr (inl e)) = simp (eq-eq _ _ e, or-true)
+in-hint (k ∷ ks) (inr (inl e)) = simp (eq-eqb _ _ e, or-true)
 in-hint (k ∷ ks) (inr (inr i)) = simp (in-hint ks (inr i), or-true)
 
 pub hint-means : (kvs : List Param) → has_hint (keys kvs) ≡ true → Hinted kvs
@@ -142,16 +142,16 @@ mandatory-good ks v ws m =
     let w : words v ≡ ws = ap words m.laid ∙ words-numbers ws m.narrow in
     let z : length v ≡ 0 → ⊥ = λ y. omega arith in
     let e : length v % 2 ≡ 0 = omega arith in
-    simp (ne_eqb _ _ z, eq-eq _ _ e, w, means-rising 1 ws (above-next 0 ws m.nonzero) m.rise, each_all ws ks m.present)
+    simp (ne_eqb _ _ z, eq-eqb _ _ e, w, means-rising 1 ws (above-next 0 ws m.nonzero) m.rise, each_all ws ks m.present)
 
 good-mandatory : (ks v : List ℕ) → Bytes v → mandatory_good v ks ≡ true → Mandatory ks v (words v)
 unfolding mandatory_good
 good-mandatory ks v o e =
-    let q = (and-eq-true_iff (not (eq (length v) 0) && eq (length v % 2) 0 && rising 1 (words v)) (all_in (words v) ks)).0 e in
-    let t = (and-eq-true_iff (not (eq (length v) 0) && eq (length v % 2) 0) (rising 1 (words v))).0 q.0 in
-    let u = (and-eq-true_iff (not (eq (length v) 0)) (eq (length v % 2) 0)).0 t.0 in
-    let z : length v ≡ 0 → ⊥ = eq-false _ _ (not-true _ u.0) in
-    let even : length v % 2 ≡ 0 = eq-true _ _ u.1 in
+    let q = (and-eq-true_iff (not (eqb (length v) 0) && eqb (length v % 2) 0 && rising 1 (words v)) (all_in (words v) ks)).0 e in
+    let t = (and-eq-true_iff (not (eqb (length v) 0) && eqb (length v % 2) 0) (rising 1 (words v))).0 q.0 in
+    let u = (and-eq-true_iff (not (eqb (length v) 0)) (eqb (length v % 2) 0)).0 t.0 in
+    let z : length v ≡ 0 → ⊥ = eqb-false _ _ (not-true _ u.0) in
+    let even : length v % 2 ≡ 0 = eqb-true _ _ u.1 in
     let r = rising-means 1 (words v) t.1 in
     let l : v ≡ numbers_of (words v) = sym (numbers-words v o even) in
     let n : length v ≡ 2 * length (words v) = ap length l ∙ length-numbers (words v) in
@@ -176,7 +176,7 @@ strings-good (s ∷ ss) h =
     let a = h.0 in
     let n : length s % 256 ≡ length s = omega arith in
     let l : length s ≤ length (s ++ strings_of ss) = omega (arith, length-append s (strings_of ss)) in
-    ap (λ (x : ℕ). not (eq x 0) && strings_from x (s ++ strings_of ss)) n
+    ap (λ (x : ℕ). not (eqb x 0) && strings_from x (s ++ strings_of ss)) n
     ∙ (simp (ne_eqb (length s) 0 (λ y. omega arith)))
     ∙ strings-skip (length s) (s ++ strings_of ss) l
     ∙ ap (strings_from 0) (drop_at s (strings_of ss) (length s) refl)
@@ -189,15 +189,15 @@ good-strings zero [] h o e = ([], refl, tt)
 good-strings zero (x ∷ xs) h o e = absurd (not-suc-le-zero h)
 good-strings (suc f) [] h o e = ([], refl, tt)
 good-strings (suc f) (x ∷ xs) h o e =
-    go ((and-eq-true_iff (not (eq x 0)) (strings_from x xs)).0 e) (leb x (length xs)) refl
+    go ((and-eq-true_iff (not (eqb x 0)) (strings_from x xs)).0 e) (leb x (length xs)) refl
     (λ q. good-strings f (drop x xs) (simp length-drop (omega arith)) (all_drop Octet x xs o.1) q)
   where
-    go : (not (eq x 0) ≡ true) × (strings_from x xs ≡ true) → (b : Bool) → leb x (length xs) ≡ b
+    go : (not (eqb x 0) ≡ true) × (strings_from x xs ≡ true) → (b : Bool) → leb x (length xs) ≡ b
         → (strings_from 0 (drop x xs) ≡ true → (ss : List (List ℕ)) × (drop x xs ≡ strings_of ss) × All StringSize ss)
         → (ss : List (List ℕ)) × (x ∷ xs ≡ strings_of ss) × All StringSize ss
     go q false t ih = absurd (false≢true (sym (strings-past x xs (leb-false _ _ t)) ∙ q.1))
     go q true t ih =
-        let z : x ≡ 0 → ⊥ = eq-false _ _ (not-true _ q.0) in
+        let z : x ≡ 0 → ⊥ = eqb-false _ _ (not-true _ q.0) in
         let le : x ≤ length xs = leb-true _ _ t in
         let r = ih (sym (strings-skip x xs le) ∙ q.1) in
         let l : length (take x xs) ≡ x = length-take-le x xs le in
@@ -216,9 +216,9 @@ alpn-good v (s ∷ ss) a =
 good-alpn : (v : List ℕ) → Bytes v → alpn_good v ≡ true → (ss : List (List ℕ)) × Alpn v ss
 unfolding alpn_good
 good-alpn v o e =
-    let q = (and-eq-true_iff (not (eq (length v) 0)) (strings_from 0 v)).0 e in
+    let q = (and-eq-true_iff (not (eqb (length v) 0)) (strings_from 0 v)).0 e in
     let r = good-strings (length v) v (omega arith) o q.1 in
-    (r.0, record { laid = r.1; some = some r.0 (eq-false _ _ (not-true _ q.0)) r.1; sizes = r.2 })
+    (r.0, record { laid = r.1; some = some r.0 (eqb-false _ _ (not-true _ q.0)) r.1; sizes = r.2 })
   where
     some : (ss : List (List ℕ)) → (length v ≡ 0 → ⊥) → v ≡ strings_of ss → 0 < length ss
     some [] z l = absurd (z (ap length l))
@@ -227,12 +227,12 @@ good-alpn v o e =
 -- ---- no-default-alpn
 
 no-default-good : (ks v : List ℕ) → (length v ≡ 0) × In key.alpn ks → no_default_alpn_good v ks ≡ true
-no-default-good ks v g = simp (eq-eq _ _ g.0) (in-has key.alpn ks g.1)
+no-default-good ks v g = simp (eq-eqb _ _ g.0) (in-has key.alpn ks g.1)
 
 good-no-default : (ks v : List ℕ) → no_default_alpn_good v ks ≡ true → (length v ≡ 0) × In key.alpn ks
 good-no-default ks v e =
-    let q = (and-eq-true_iff (eq (length v) 0) (has key.alpn ks)).0 e in
-    (eq-true _ _ q.0, has_in key.alpn ks q.1)
+    let q = (and-eq-true_iff (eqb (length v) 0) (has key.alpn ks)).0 e in
+    (eqb-true _ _ q.0, has_in key.alpn ks q.1)
 
 -- ---- values
 
@@ -243,7 +243,7 @@ allowed-good ks kv g =
     by_equal k key.mandatory (λ e. let m = g.mandatory e in sym (value-mandatory k v ks e (sym (mandatory-good ks v m.0 m.1))))
     (λ n0. by_equal k key.alpn (λ e. let a = g.alpn e in sym (value-alpn k v ks n0 e (sym (alpn-good v a.0 a.1))))
     (λ n1. by_equal k key.no_default_alpn (λ e. no-default-value k v ks n0 n1 e ∙ no-default-good ks v (g.no_default_alpn e))
-    (λ n2. by_equal k key.port (λ e. sym (value-port k v ks n0 n1 n2 e) ∙ eq-eq _ _ (g.port e))
+    (λ n2. by_equal k key.port (λ e. sym (value-port k v ks n0 n1 n2 e) ∙ eq-eqb _ _ (g.port e))
     (λ n3. sym (value-other k v ks n0 n1 n2 n3)))))
 
 good-allowed : (ks : List ℕ) (kv : Param) → Bytes kv.value → value_good kv.key kv.value ks ≡ true → Allowed ks kv
@@ -254,7 +254,7 @@ good-allowed ks kv o e =
       mandatory = λ q. (words v, good-mandatory ks v o (ap (λ (x : ℕ). value_good x v ks) (sym q) ∙ e));
       alpn = λ q. good-alpn v o (ap (λ (x : ℕ). value_good x v ks) (sym q) ∙ e);
       no_default_alpn = λ q. good-no-default ks v (ap (λ (x : ℕ). value_good x v ks) (sym q) ∙ e);
-      port = λ q. eq-true _ _ (ap (λ (x : ℕ). value_good x v ks) (sym q) ∙ e);
+      port = λ q. eqb-true _ _ (ap (λ (x : ℕ). value_good x v ks) (sym q) ∙ e);
     }
 
 pub values-means : (ks : List ℕ) (kvs : List Param) → All (λ (kv : Param). Bytes kv.value) kvs → all_good kvs ks ≡ true → All (Allowed ks) kvs

@@ -1,8 +1,8 @@
 -- The laws of a field as parameters one after another: what is laid out is tiled by those parameters, and what is tiled is laid out so.
 -- Assumes nothing.
-use Rattle.std.specs.Prelude.{◌≡◌, refl, List, [], ◌∷◌, ◌++◌, ℕ, zero, suc, ◌+◌, ◌-◌, ◌*◌, ◌/◌, ◌%◌, ◌≤◌, ◌<◌, length, take, drop, eq}
-use Rattle.std.proofs.Common.{sym, ap, ap₂, ◌∙◌, subst, not-suc-le-zero, arith, length-drop, length-append, take-append-drop, take_at, drop_at, length-take-le, eq-true}
-use Rattle.std.proofs.lemmas.Bool.{eq-false}
+use Rattle.std.specs.Prelude.{◌≡◌, refl, List, [], ◌∷◌, ◌++◌, ℕ, zero, suc, ◌+◌, ◌-◌, ◌*◌, ◌/◌, ◌%◌, ◌≤◌, ◌<◌, length, take, drop, eqb}
+use Rattle.std.proofs.Common.{sym, ap, ap₂, ◌∙◌, subst, not-suc-le-zero, arith, length-drop, length-append, take-append-drop, take_at, drop_at, length-take-le, eqb-true}
+use Rattle.std.proofs.lemmas.Bool.{eqb-false}
 use Rattle.octets.specs.Numbers.{at16, Octet, Bytes}
 use Rattle.svcparams.specs.Params.{size_of, first, Tiled, bad, tiled, onto, pairs}
 use Rattle.svcparams.specs.Param.{Param}
@@ -87,9 +87,9 @@ laid_by zero [] kvs h o e = laid_none kvs e
 laid_by zero (x ∷ xs) kvs h o e = absurd (not-suc-le-zero h)
 laid_by (suc f) [] kvs h o e = laid_none kvs e
 laid_by (suc f) (x ∷ xs) kvs h o e =
-    by-test (eq (size_of (x ∷ xs)) 0) (λ _. (x ∷ xs ≡ field_of kvs) × All Fits kvs)
-    (λ t. absurd (bad-tiled (sym (pairs-bad (x ∷ xs) (omega arith) (eq-true _ _ t)) ∙ e)))
-    (λ t. go (eq-false _ _ t) (pairs (drop (size_of (x ∷ xs)) (x ∷ xs))) refl
+    by-test (eqb (size_of (x ∷ xs)) 0) (λ _. (x ∷ xs ≡ field_of kvs) × All Fits kvs)
+    (λ t. absurd (bad-tiled (sym (pairs-bad (x ∷ xs) (omega arith) (eqb-true _ _ t)) ∙ e)))
+    (λ t. go (eqb-false _ _ t) (pairs (drop (size_of (x ∷ xs)) (x ∷ xs))) refl
     (λ ks g q. laid_by f (drop (size_of (x ∷ xs)) (x ∷ xs)) ks g (all_drop Octet (size_of (x ∷ xs)) (x ∷ xs) o) q))
   where
     go : (size_of (x ∷ xs) ≡ 0 → ⊥) → (t : Tiled) → pairs (drop (size_of (x ∷ xs)) (x ∷ xs)) ≡ t

@@ -1,7 +1,7 @@
 -- Whether a mandatory list rises without 0 and each of its keys is among the parameters' keys, by one walk over the two, where the parameters'
 -- keys rise (RULES P4, P9). Each step's decision depends only on the next key of each list, or on there being none. That the walk's answer is
 -- that of the rule, and how soon: `MergeExactly`. Assumes nothing: these are definitions.
-use Rattle.std.specs.Prelude.{◌≡◌, Bool, true, false, cond, ℕ, zero, suc, ◌+◌, ◌≤◌, ◌<◌, ltb, eq, length}
+use Rattle.std.specs.Prelude.{◌≡◌, Bool, true, false, cond, ℕ, zero, suc, ◌+◌, ◌≤◌, ◌<◌, ltb, eqb, length}
 use mathlib.Core.List.{List, [], ◌∷◌, tail}
 use Rattle.octets.specs.Lists.{All}
 use Rattle.svcparams.specs.Accepted.{Ascending, In}
@@ -24,7 +24,7 @@ pub record Listed (ks ws : List ℕ) : Type 0 where
 abbrev pub decided : Look → Look → Decision
 decided End k = AllFound
 decided (Next w) End = Refused
-decided (Next w) (Next k) = cond (eq w 0) Refused (cond (ltb w k) Refused (cond (eq w k) Found Passed))
+decided (Next w) (Next k) = cond (eqb w 0) Refused (cond (ltb w k) Refused (cond (eqb w k) Found Passed))
 
 -- ---- the walk
 

@@ -1,8 +1,8 @@
 -- The theorems of the walk over a mandatory list and the parameters' keys, where these rise (RULES P4, P9): as many steps as the two have keys
 -- together reach its answer; the answer is yes exactly if the list rises without 0 and each of its keys is a parameter's; and a step moves
 -- past one key of each at most. Assumes nothing.
-use Rattle.std.specs.Prelude.{◌≡◌, refl, Bool, true, false, cond, ◌&&◌, ◌↔◌, ◌⊎◌, List, [], ◌∷◌, ℕ, ◌+◌, ◌<◌, ltb, eq, length}
-use Rattle.std.proofs.Common.{sym, ap, ◌∙◌, true≢false, inl, inr, arith, eq-true}
+use Rattle.std.specs.Prelude.{◌≡◌, refl, Bool, true, false, cond, ◌&&◌, ◌↔◌, ◌⊎◌, List, [], ◌∷◌, ℕ, ◌+◌, ◌<◌, ltb, eqb, length}
+use Rattle.std.proofs.Common.{sym, ap, ◌∙◌, true≢false, inl, inr, arith, eqb-true}
 use Rattle.std.proofs.Math.Bool.{and-eq-true_iff}
 use Rattle.svcparams.specs.Params.{rising, all_in}
 use Rattle.svcparams.specs.Accepted.{Ascending}
@@ -63,14 +63,14 @@ ran-once ws ks {b} {c} {n} {k} r s =
 pub step-one : (ws ks vs ls : List ℕ) → step (going ws ks) ≡ going vs ls → (k : ℕ) × (ks ≡ k ∷ ls) × ((ws ≡ vs) ⊎ (ws ≡ k ∷ vs))
 step-one [] ks vs ls e = absurd (answered e)
 step-one (w ∷ ws) [] vs ls e = absurd (answered e)
-step-one (w ∷ ws) (k ∷ ks) vs ls e = go (eq w 0) (ltb w k) (eq w k) refl e
+step-one (w ∷ ws) (k ∷ ks) vs ls e = go (eqb w 0) (ltb w k) (eqb w k) refl e
   where
-    go : (a b c : Bool) → eq w k ≡ c → carried (cond a Refused (cond b Refused (cond c Found Passed))) (w ∷ ws) (k ∷ ks) ≡ going vs ls
+    go : (a b c : Bool) → eqb w k ≡ c → carried (cond a Refused (cond b Refused (cond c Found Passed))) (w ∷ ws) (k ∷ ks) ≡ going vs ls
         → (x : ℕ) × (k ∷ ks ≡ x ∷ ls) × ((w ∷ ws ≡ vs) ⊎ (w ∷ ws ≡ x ∷ vs))
     go true b c t e = absurd (answered e)
     go false true c t e = absurd (answered e)
     go false false true t e =
-        let w' : w ≡ k = eq-true _ _ t in
+        let w' : w ≡ k = eqb-true _ _ t in
         let l : ws ≡ vs = cc in
         let r : ks ≡ ls = cc in
         (k, cc, inr cc)

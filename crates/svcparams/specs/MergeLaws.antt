@@ -1,11 +1,11 @@
 -- The laws of the walk over a mandatory list and the parameters' keys: each decision keeps the answer of the rule, and so the steps get to it.
 -- Assumes nothing.
-use Rattle.std.specs.Prelude.{◌≡◌, refl, Bool, true, false, cond, ◌&&◌, List, [], ◌∷◌, ℕ, zero, suc, ◌+◌, ◌≤◌, ◌<◌, ltb, leb, eq, length}
+use Rattle.std.specs.Prelude.{◌≡◌, refl, Bool, true, false, cond, ◌&&◌, List, [], ◌∷◌, ℕ, zero, suc, ◌+◌, ◌≤◌, ◌<◌, ltb, leb, eqb, length}
 use Rattle.std.proofs.Common.{sym, ◌∙◌, le_of_suc-le-suc, not-suc-le-zero}
 use Rattle.std.proofs.Math.Path.{ap}
 use Rattle.std.proofs.Math.Bool.{and-false, and-eq-true_iff}
 use native.Mathlib.Omega.{arith}
-use borrow.Author.Tests.{le-leb, lt-leb, eq-eq, ne_eqb, leb-true, ltb-true, ltb-false, eq-true, eq-false}
+use borrow.Author.Tests.{le-leb, lt-leb, eq-eqb, ne_eqb, leb-true, ltb-true, ltb-false, eqb-true, eqb-false}
 use Rattle.svcparams.specs.declared.walk.Decision.TheVariants.{Refused, Found, Passed}
 use Rattle.svcparams.specs.Params.{rising, has, all_in}
 use Rattle.svcparams.specs.Merge.{State, done, going, carried, step, steps, Ran}
@@ -66,7 +66,7 @@ module _ (floor least w : ℕ) (ws : List ℕ) (k : ℕ) (ks : List ℕ) where
     unfolding rising all_in has
     found e =
         let g : floor ≤ w = above w (omega (arith, some)) (omega arith) in
-        (simp (le-leb _ _ g, eq-eq k w (sym e)))
+        (simp (le-leb _ _ g, eq-eqb k w (sym e)))
         ∙ ap (λ (x : ℕ). rising (x + 1) ws && all_in ws (k ∷ ks)) e
         ∙ low-dropped k (k + 1) ws ks (omega arith)
 
@@ -97,21 +97,21 @@ enough floor least [] [] (suc n) f a h e = steps-done n true
 enough floor least (k ∷ ks) [] (suc n) f a h e = steps-done n true
 enough floor least [] (w ∷ ws) (suc n) f a h e = steps-done n false ∙ ap done (sym (and-false (rising floor (w ∷ ws))))
 enough floor least (k ∷ ks) (w ∷ ws) (suc n) f a h e =
-    go (rising-parts least k ks e) (eq w 0) (ltb w k) (eq w k) refl refl refl
+    go (rising-parts least k ks e) (eqb w 0) (ltb w k) (eqb w k) refl refl refl
     (λ vs r. enough (k + 1) (k + 1) ks vs n (omega arith) (λ x y z. z) (le_of_suc-le-suc h) r)
   where
-    go : (least ≤ k) × (rising (k + 1) ks ≡ true) → (b c d : Bool) → eq w 0 ≡ b → ltb w k ≡ c → eq w k ≡ d
+    go : (least ≤ k) × (rising (k + 1) ks ≡ true) → (b c d : Bool) → eqb w 0 ≡ b → ltb w k ≡ c → eqb w k ≡ d
         → ((vs : List ℕ) → rising (k + 1) ks ≡ true → steps n (going vs ks) ≡ done (rising (k + 1) vs && all_in vs ks))
         → steps n (carried (cond b Refused (cond c Refused (cond d Found Passed))) (w ∷ ws) (k ∷ ks))
         ≡ done (rising floor (w ∷ ws) && all_in (w ∷ ws) (k ∷ ks))
-    go q true c d r s t ih = steps-done n false ∙ ap done (sym (zero-refused floor least w ws k ks f (eq-true _ _ r)))
+    go q true c d r s t ih = steps-done n false ∙ ap done (sym (zero-refused floor least w ws k ks f (eqb-true _ _ r)))
     go q false true d r s t ih = steps-done n false ∙ ap done (sym (absent floor least w ws k ks (ltb-true _ _ s) q.1))
     go q false false true r s t ih =
-        ih ws q.1 ∙ ap done (sym (found floor least w ws k ks a (eq-false _ _ r) q.0 (eq-true _ _ t)))
+        ih ws q.1 ∙ ap done (sym (found floor least w ws k ks a (eqb-false _ _ r) q.0 (eqb-true _ _ t)))
     go q false false false r s t ih =
         let l : k ≤ w = ltb-false _ _ s in
-        let z : w ≡ k → ⊥ = eq-false _ _ t in
-        ih (w ∷ ws) q.1 ∙ ap done (sym (passed floor least w ws k ks a (eq-false _ _ r) q.0 (omega (arith, z))))
+        let z : w ≡ k → ⊥ = eqb-false _ _ t in
+        ih (w ∷ ws) q.1 ∙ ap done (sym (passed floor least w ws k ks a (eqb-false _ _ r) q.0 (omega (arith, z))))
 
 -- an answer stays
 pub steps-more : (n k : ℕ) (w : State) {b : Bool} → steps n w ≡ done b → n ≤ k → steps k w ≡ done b

@@ -1,6 +1,6 @@
 -- The turns of the code's walk over a mandatory list and a field are the machine's steps: each return and each turn has a law. Assumes nothing.
-use Rattle.std.specs.Prelude.{◌≡◌, refl, Bool, true, false, cond, ℕ, ◌+◌, ◌-◌, ◌≤◌, ◌<◌, ltb, leb, eq, length, drop}
-use Rattle.std.proofs.Common.{sym, ap, ap₂, ◌∙◌, subst, arith, lt-ltb, le-ltb, eq-eq, ne_eqb, ltb-true, ltb-false, leb-true, leb-false}
+use Rattle.std.specs.Prelude.{◌≡◌, refl, Bool, true, false, cond, ℕ, ◌+◌, ◌-◌, ◌≤◌, ◌<◌, ltb, leb, eqb, length, drop}
+use Rattle.std.proofs.Common.{sym, ap, ap₂, ◌∙◌, subst, arith, lt-ltb, le-ltb, eq-eqb, ne_eqb, ltb-true, ltb-false, leb-true, leb-false}
 use mathlib.Core.List.{List, [], ◌∷◌, tail}
 use Rattle.octets.specs.Cases.{by-test}
 use Rattle.octets.specs.ListsLaws.{take_rest}
@@ -23,19 +23,19 @@ module _ {l r : Look} {w k : ℕ} (el : l ≡ Next w) (er : r ≡ Next k) where
   decided-both = ap₂ decided el er
 
   pub decided-zero : w ≡ 0 → Refused ≡ decided l r
-  decided-zero z = sym (decided-both ∙ simp (eq-eq _ _ z))
+  decided-zero z = sym (decided-both ∙ simp (eq-eqb _ _ z))
 
   pub decided-low : w < k → Refused ≡ decided l r
   decided-low h =
       sym
       (decided-both
-      ∙ by-test (eq w 0) (λ b. cond b Refused (cond (ltb w k) Refused (cond (eq w k) Found Passed)) ≡ Refused)
+      ∙ by-test (eqb w 0) (λ b. cond b Refused (cond (ltb w k) Refused (cond (eqb w k) Found Passed)) ≡ Refused)
       (λ _. refl)
       (λ _. simp (lt-ltb _ _ h)))
 
   module _ (some : w ≡ 0 → ⊥) (h : k ≤ w) where
     pub decided-found : w ≡ k → Found ≡ decided l r
-    decided-found e = sym (decided-both ∙ simp (ne_eqb _ _ some, le-ltb _ _ h, eq-eq _ _ e))
+    decided-found e = sym (decided-both ∙ simp (ne_eqb _ _ some, le-ltb _ _ h, eq-eqb _ _ e))
 
     pub decided-passed : (w ≡ k → ⊥) → Passed ≡ decided l r
     decided-passed n = sym (decided-both ∙ simp (ne_eqb _ _ some, le-ltb _ _ h, ne_eqb _ _ n))

@@ -1,6 +1,6 @@
 -- The first fault of a field of service parameters: 16-bit keys, 16-bit lengths and values, one after another (RULES P1; RFC 9460 §2.2). The
 -- order of faults over the whole field: tiling and keys, then hints, then values (RULES T3). Assumes nothing: these are definitions.
-use Rattle.std.specs.Prelude.{ℕ, zero, suc, ◌+◌, ◌-◌, ◌%◌, Bool, true, false, cond, not, ◌&&◌, ◌||◌, List, [], ◌∷◌, length, take, drop, ltb, leb, eq}
+use Rattle.std.specs.Prelude.{ℕ, zero, suc, ◌+◌, ◌-◌, ◌%◌, Bool, true, false, cond, not, ◌&&◌, ◌||◌, List, [], ◌∷◌, length, take, drop, ltb, leb, eqb}
 use Rattle.octets.specs.Numbers.{at16, words}
 use Rattle.numbers.specs.Fault as fault
 use Rattle.svcparams.specs.Key as key
@@ -50,7 +50,7 @@ rising least (k ∷ ks) = leb least k && rising (k + 1) ks
 
 unfoldable pub has : ℕ → List ℕ → Bool
 has k [] = false
-has k (x ∷ xs) = eq x k || has k xs
+has k (x ∷ xs) = eqb x k || has k xs
 
 -- keys rise strictly and the invalid key is refused (RULES P2; RFC 9460 §2.2, §14.3.2)
 abbrev pub ordered : ℕ → List ℕ → Bool
@@ -58,7 +58,7 @@ ordered least ks = rising least ks && not (has key.invalid ks)
 
 -- address hints are refused: the addresses stand in a field of their own (RULES P3; RFC 9463 §3.1.8)
 abbrev pub is_hint : ℕ → Bool
-is_hint k = eq k key.ipv4hint || eq k key.ipv6hint
+is_hint k = eqb k key.ipv4hint || eqb k key.ipv6hint
 
 unfoldable pub has_hint : List ℕ → Bool
 has_hint [] = false
@@ -72,31 +72,31 @@ all_in (w ∷ ws) ks = has w ks && all_in ws ks
 
 -- mandatory: a non-empty list of 16-bit keys, strictly rising, without 0, each among the keys ks (RULES P4; RFC 9460 §8)
 unfoldable pub mandatory_good : List ℕ → List ℕ → Bool
-mandatory_good v ks = not (eq (length v) 0) && eq (length v % 2) 0 && rising 1 (words v) && all_in (words v) ks
+mandatory_good v ks = not (eqb (length v) 0) && eqb (length v % 2) 0 && rising 1 (words v) && all_in (words v) ks
 
 -- strings, each after its 8-bit length of at least 1, with k octets of the one before still to come
 unfoldable pub strings_from : ℕ → List ℕ → Bool
 strings_from zero [] = true
 strings_from (suc k) [] = false
-strings_from zero (x ∷ xs) = not (eq x 0) && strings_from x xs
+strings_from zero (x ∷ xs) = not (eqb x 0) && strings_from x xs
 strings_from (suc k) (x ∷ xs) = strings_from k xs
 
 -- alpn: one or more strings (RULES P5; RFC 9460 §7.1.1)
 unfoldable pub alpn_good : List ℕ → Bool
-alpn_good v = not (eq (length v) 0) && strings_from 0 v
+alpn_good v = not (eqb (length v) 0) && strings_from 0 v
 
 -- no-default-alpn: empty, and alpn is among the keys ks (RULES P6; RFC 9460 §7.1.1, §2.4.3)
 abbrev pub no_default_alpn_good : List ℕ → List ℕ → Bool
-no_default_alpn_good v ks = eq (length v) 0 && has key.alpn ks
+no_default_alpn_good v ks = eqb (length v) 0 && has key.alpn ks
 
 -- the value v of the key k, where ks are the keys of the same parameters: mandatory, alpn and no-default-alpn as above; port has 2 octets
 -- (RULES P7; RFC 9460 §7.2); the value of any other key is carried as it is (RULES P8)
 unfoldable pub value_good : ℕ → List ℕ → List ℕ → Bool
 value_good k v ks =
-    cond (eq k key.mandatory) (mandatory_good v ks)
-    (cond (eq k key.alpn) (alpn_good v)
-    (cond (eq k key.no_default_alpn) (no_default_alpn_good v ks)
-    (cond (eq k key.port) (eq (length v) 2) true)))
+    cond (eqb k key.mandatory) (mandatory_good v ks)
+    (cond (eqb k key.alpn) (alpn_good v)
+    (cond (eqb k key.no_default_alpn) (no_default_alpn_good v ks)
+    (cond (eqb k key.port) (eqb (length v) 2) true)))
 
 unfoldable pub all_good : List Param → List ℕ → Bool
 all_good [] ks = true

@@ -1,9 +1,9 @@
 -- The laws of a tiled field: the size of a parameter, the steps of `pairs` and `entries`, and the same steps at a place of the field.
 -- Assumes nothing.
-use Rattle.std.specs.Prelude.{◌≡◌, refl, cond, List, [], ◌∷◌, ℕ, zero, suc, ◌+◌, ◌-◌, ◌≤◌, ◌<◌, length, get_or, take, drop, ltb, eq}
-use Rattle.std.proofs.Common.{sym, ap₂, ◌∙◌, le_of_suc-le-suc, not-suc-le-zero, arith, length-drop, drop-drop, lt-ltb, le-ltb, ltb-false, eq-true}
+use Rattle.std.specs.Prelude.{◌≡◌, refl, cond, List, [], ◌∷◌, ℕ, zero, suc, ◌+◌, ◌-◌, ◌≤◌, ◌<◌, length, get_or, take, drop, ltb, eqb}
+use Rattle.std.proofs.Common.{sym, ap₂, ◌∙◌, le_of_suc-le-suc, not-suc-le-zero, arith, length-drop, drop-drop, lt-ltb, le-ltb, ltb-false, eqb-true}
 use Rattle.std.proofs.Math.Path.{ap}
-use Rattle.std.proofs.lemmas.Bool.{eq-false}
+use Rattle.std.proofs.lemmas.Bool.{eqb-false}
 use Rattle.octets.specs.Cases.{by-test}
 use Rattle.octets.specs.Numbers.{at16}
 use Rattle.octets.specs.ListsLaws.{take_rest, skip-within, skip-any}
@@ -60,9 +60,9 @@ sized s =
 
 pub size_room : (s : List ℕ) → size_of s ≤ length s
 size_room s =
-    by-test (eq (size_of s) 0) (λ _. size_of s ≤ length s)
-    (λ e. let z : size_of s ≡ 0 = eq-true _ _ e in omega arith)
-    (λ e. (sized s (eq-false _ _ e)).room)
+    by-test (eqb (size_of s) 0) (λ _. size_of s ≤ length s)
+    (λ e. let z : size_of s ≡ 0 = eqb-true _ _ e in omega arith)
+    (λ e. (sized s (eqb-false _ _ e)).room)
 
 pub size-head : (s : List ℕ) {n : ℕ} → n ≡ size_of s → (n ≡ 0 → ⊥) → 4 ≤ n
 size-head s e z = let h = (sized s (λ y. z (e ∙ y))).head in omega arith

@@ -1,10 +1,10 @@
 -- The laws of the values' checks, each with the invariant of its loop. Assumes nothing.
-use Rattle.std.specs.Prelude.{◌≡◌, refl, Bool, true, false, not, ◌&&◌, ℕ, suc, ◌+◌, ◌-◌, ◌%◌, ◌≤◌, ◌<◌, length, get_or, drop, eq}
+use Rattle.std.specs.Prelude.{◌≡◌, refl, Bool, true, false, not, ◌&&◌, ℕ, suc, ◌+◌, ◌-◌, ◌%◌, ◌≤◌, ◌<◌, length, get_or, drop, eqb}
 use Rattle.std.proofs.Math.Path.{sym, ap}
 use Rattle.std.proofs.Common.{◌∙◌, arith, length-drop, drop_of_length-le, drop-drop, drop-cons}
 use Rattle.std.proofs.Math.Bool.{and-false}
 use mathlib.Core.List.{List, ◌∷◌}
-use borrow.Author.Tests.{le-leb, lt-leb, eq-eq, ne_eqb, not-true, not-false}
+use borrow.Author.Tests.{le-leb, lt-leb, eq-eqb, ne_eqb, not-true, not-false}
 use Rattle.octets.specs.ListsLaws.{skip-within, skip-past}
 use Rattle.octets.specs.Numbers.{at16, words}
 use Rattle.octets.specs.NumbersLaws.{words-cons, words-end, words-length}
@@ -18,7 +18,7 @@ use Rattle.svcparams.specs.MergeLaws.{ran-answer}
 module _ (v ks : List ℕ) where
   pub mandatory-none : length v ≡ 0 → false ≡ mandatory_good v ks
   unfolding mandatory_good
-  mandatory-none h = simp (eq-eq _ _ h)
+  mandatory-none h = simp (eq-eqb _ _ h)
 
   module _ (some : length v ≡ 0 → ⊥) where
     pub mandatory-odd : (length v % 2 ≡ 0 → ⊥) → false ≡ mandatory_good v ks
@@ -27,7 +27,7 @@ module _ (v ks : List ℕ) where
 
     mandatory-even : length v % 2 ≡ 0 → mandatory_good v ks ≡ rising 1 (words v) && all_in (words v) ks
     unfolding mandatory_good
-    mandatory-even even = simp (ne_eqb _ _ some, eq-eq _ _ even)
+    mandatory-even even = simp (ne_eqb _ _ some, eq-eqb _ _ even)
 
     pub mandatory-walked : {b : Bool} {n : ℕ} → length v % 2 ≡ 0 → rising 0 ks ≡ true → Ran (words v) ks b n → b ≡ mandatory_good v ks
     mandatory-walked even o r =
@@ -85,7 +85,7 @@ pub record Strings (v : List ℕ) (at : ℕ) : Type 0 where
 
 pub alpn-none : (v : List ℕ) → length v ≡ 0 → false ≡ alpn_good v
 unfolding alpn_good
-alpn-none v h = simp (eq-eq _ _ h)
+alpn-none v h = simp (eq-eqb _ _ h)
 
 pub strings-start : (v : List ℕ) → (length v ≡ 0 → ⊥) → Strings v 0
 unfolding alpn_good
@@ -96,12 +96,12 @@ unfolding strings_from
 strings-end v at i h = sym (i.left ∙ ap (strings_from 0) (drop_of_length-le v h))
 
 module _ (v : List ℕ) (at : ℕ) {n : ℕ} (i : Strings v at) (h : at < length v) (e : n ≡ get_or v at 0) where
-  strings-at : alpn_good v ≡ not (eq (get_or v at 0) 0) && strings_from (get_or v at 0) (drop (suc at) v)
+  strings-at : alpn_good v ≡ not (eqb (get_or v at 0) 0) && strings_from (get_or v at 0) (drop (suc at) v)
   unfolding strings_from
   strings-at = i.left ∙ ap (strings_from 0) (drop-cons v at 0 h)
 
   pub strings-empty : n ≡ 0 → false ≡ alpn_good v
-  strings-empty z = sym (strings-at ∙ simp (eq-eq _ _ (sym e ∙ z)))
+  strings-empty z = sym (strings-at ∙ simp (eq-eqb _ _ (sym e ∙ z)))
 
   pub strings-over : (n ≡ 0 → ⊥) → length v - at ≤ n → false ≡ alpn_good v
   strings-over z g =
@@ -124,25 +124,25 @@ module _ (v : List ℕ) (at : ℕ) {n : ℕ} (i : Strings v at) (h : at < length
 module _ (k : ℕ) (v ks : List ℕ) where
   pub value-mandatory : {r : Bool} → k ≡ key.mandatory → r ≡ mandatory_good v ks → r ≡ value_good k v ks
   unfolding value_good
-  value-mandatory h q = q ∙ sym (simp (eq-eq _ _ h))
+  value-mandatory h q = q ∙ sym (simp (eq-eqb _ _ h))
 
   module _ (n0 : k ≡ key.mandatory → ⊥) where
     pub value-alpn : {r : Bool} → k ≡ key.alpn → r ≡ alpn_good v → r ≡ value_good k v ks
     unfolding value_good
-    value-alpn h q = q ∙ sym (simp (ne_eqb _ _ n0, eq-eq _ _ h))
+    value-alpn h q = q ∙ sym (simp (ne_eqb _ _ n0, eq-eqb _ _ h))
 
     module _ (n1 : k ≡ key.alpn → ⊥) where
       pub no-default-value : k ≡ key.no_default_alpn → value_good k v ks ≡ no_default_alpn_good v ks
       unfolding value_good
-      no-default-value h = simp (ne_eqb _ _ n0, ne_eqb _ _ n1, eq-eq _ _ h)
+      no-default-value h = simp (ne_eqb _ _ n0, ne_eqb _ _ n1, eq-eqb _ _ h)
 
-      pub value-no-default-alpn : {b : Bool} → k ≡ key.no_default_alpn → b ≡ has key.alpn ks → eq (length v) 0 && b ≡ value_good k v ks
-      value-no-default-alpn h q = ap (λ (b : Bool). eq (length v) 0 && b) q ∙ sym (no-default-value h)
+      pub value-no-default-alpn : {b : Bool} → k ≡ key.no_default_alpn → b ≡ has key.alpn ks → eqb (length v) 0 && b ≡ value_good k v ks
+      value-no-default-alpn h q = ap (λ (b : Bool). eqb (length v) 0 && b) q ∙ sym (no-default-value h)
 
       module _ (n2 : k ≡ key.no_default_alpn → ⊥) where
-        pub value-port : k ≡ key.port → eq (length v) 2 ≡ value_good k v ks
+        pub value-port : k ≡ key.port → eqb (length v) 2 ≡ value_good k v ks
         unfolding value_good
-        value-port h = sym (simp (ne_eqb _ _ n0, ne_eqb _ _ n1, ne_eqb _ _ n2, eq-eq _ _ h))
+        value-port h = sym (simp (ne_eqb _ _ n0, ne_eqb _ _ n1, ne_eqb _ _ n2, eq-eqb _ _ h))
 
         pub value-other : (k ≡ key.port → ⊥) → true ≡ value_good k v ks
         unfolding value_good

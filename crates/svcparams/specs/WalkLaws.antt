@@ -1,11 +1,11 @@
 -- The laws of the passes over a field, each with the invariant of its loop. Assumes nothing.
-use Rattle.std.specs.Prelude.{◌≡◌, Bool, false, cond, not, ◌||◌, ℕ, ◌+◌, ◌≤◌, ◌<◌, eq, length, drop}
+use Rattle.std.specs.Prelude.{◌≡◌, Bool, false, cond, not, ◌||◌, ℕ, ◌+◌, ◌≤◌, ◌<◌, eqb, length, drop}
 use Rattle.std.proofs.Math.Path.{refl, sym, ap}
 use Rattle.std.proofs.Common.{◌∙◌, drop_of_length-le}
 use Rattle.std.proofs.Math.Bool.{true, and-false, or-false, or_assoc}
 use mathlib.Core.List.{List, [], ◌∷◌}
 use native.Mathlib.Omega.{arith}
-use borrow.Author.Tests.{le-leb, lt-leb, eq-eq, ne_eqb, not-true, not-false}
+use borrow.Author.Tests.{le-leb, lt-leb, eq-eqb, ne_eqb, not-true, not-false}
 use Rattle.octets.specs.Numbers.{at16}
 use Rattle.numbers.specs.Fault as fault
 use Rattle.svcparams.specs.Key as key
@@ -39,10 +39,10 @@ module _ (p : List ℕ) (least : ℕ) (hinted : Bool) (kv : Param) where
   onto-invalid : (t : Tiled) → kv.key ≡ key.invalid → fault_from p least hinted (onto kv t) ≡ fault.parameters
   unfolding has keys
   onto-invalid bad h = refl
-  onto-invalid (tiled kvs) h = simp (eq-eq _ _ h, and-false)
+  onto-invalid (tiled kvs) h = simp (eq-eqb _ _ h, and-false)
 
   onto-next : (t : Tiled) → least ≤ kv.key → (kv.key ≡ key.invalid → ⊥)
-      → fault_from p least hinted (onto kv t) ≡ fault_from p (kv.key + 1) (hinted || eq kv.key key.ipv4hint || eq kv.key key.ipv6hint) t
+      → fault_from p least hinted (onto kv t) ≡ fault_from p (kv.key + 1) (hinted || eqb kv.key key.ipv4hint || eqb kv.key key.ipv6hint) t
   unfolding rising has has_hint keys
   onto-next bad h g = refl
   onto-next (tiled kvs) h g = simp (le-leb _ _ h, ne_eqb _ _ g, or_assoc)
@@ -92,14 +92,14 @@ module _ (p : List ℕ) (at least : ℕ) (hinted : Bool) (i : InOrder p at least
       pub order-invalid : k ≡ key.invalid → fault.parameters ≡ params_fault p
       order-invalid h = sym (onward ∙ onto-invalid p least hinted (param_at p at n) (pairs (drop (at + n) p)) (omega arith))
 
-      pub order-next : least ≤ k → (k ≡ key.invalid → ⊥) → InOrder p (at + n) (k + 1) (hinted || eq k key.ipv4hint || eq k key.ipv6hint)
+      pub order-next : least ≤ k → (k ≡ key.invalid → ⊥) → InOrder p (at + n) (k + 1) (hinted || eqb k key.ipv4hint || eqb k key.ipv6hint)
       order-next h g =
           let r = next-room p at e in
           let w = i.within in
           record {
             within = omega arith;
             left = onward ∙ onto-next p least hinted (param_at p at n) (pairs (drop (at + n) p)) (omega arith) (λ y. g (q ∙ y))
-                ∙ ap (λ (m : ℕ). fault_from p (m + 1) (hinted || eq m key.ipv4hint || eq m key.ipv6hint) (pairs (drop (at + n) p))) (sym q);
+                ∙ ap (λ (m : ℕ). fault_from p (m + 1) (hinted || eqb m key.ipv4hint || eqb m key.ipv6hint) (pairs (drop (at + n) p))) (sym q);
           }
 
 -- ---- whether the keys rise
@@ -179,7 +179,7 @@ module _ (sought : ℕ) (p : List ℕ) (at : ℕ) {n : ℕ} (i : Seeking sought 
   module _ {k : ℕ} (z : n ≡ 0 → ⊥) (q : k ≡ at16 (rest p at) 0) where
     pub seek_found : k ≡ sought → true ≡ has sought (keys_in p)
     unfolding has keys
-    seek_found h = sym (walk_at p at i e z ∙ simp (eq-eq _ _ (sym q ∙ h)))
+    seek_found h = sym (walk_at p at i e z ∙ simp (eq-eqb _ _ (sym q ∙ h)))
 
     pub seek-next : (k ≡ sought → ⊥) → Seeking sought p (at + n)
     unfolding has keys
@@ -233,7 +233,7 @@ module _ (p : List ℕ) (at : ℕ) (beside : Bool) {n : ℕ} (i : Valued p at be
         let r : rising (at16 (rest p at) 0) (at16 (rest p at) 0 ∷ keys_in (drop (at + n) p)) ≡ true = simp (le-leb (at16 (rest p at) 0) (at16 (rest p at) 0) (omega arith)) upward.1 in
         sym (walk_at p at i.walk e z ∙ high-good (at16 (rest p at) 0) (param_at p at n ∷ entries (drop (at + n) p)) (keys_in p) a r)
 
-    alpn-at : has key.alpn (keys_in p) ≡ beside || (eq (at16 (rest p at) 0) key.alpn || has key.alpn (keys_in (drop (at + n) p)))
+    alpn-at : has key.alpn (keys_in p) ≡ beside || (eqb (at16 (rest p at) 0) key.alpn || has key.alpn (keys_in (drop (at + n) p)))
     unfolding has
     alpn-at = i.alpn ∙ ap (λ (ks : List ℕ). beside || has key.alpn ks) (next_keys p at e z)
 
@@ -252,7 +252,7 @@ module _ (p : List ℕ) (at : ℕ) (beside : Bool) {n : ℕ} (i : Valued p at be
       unfolding all_good
       values-bad y = sym (walk_at p at i.walk e z ∙ simp (judged ∙ not-true _ y))
 
-      pub values-next : not b ≡ false → Valued p (at + n) (beside || eq k key.alpn)
+      pub values-next : not b ≡ false → Valued p (at + n) (beside || eqb k key.alpn)
       unfolding all_good
       values-next y =
           record {

@@ -4,8 +4,8 @@ use Rattle.std.specs.Prelude.{◌≡◌, ◌↔◌, Bool, List, [], ◌∷◌, �
 use Rattle.std.proofs.Math.Path.{refl, ap}
 use Rattle.std.proofs.Common.{sym, ap₂, ◌∙◌, arith, take-append-drop}
 use Rattle.std.proofs.Math.Bool.{true, false}
-use borrow.Author.Tests.{lt-ltb, le-ltb, ltb-false, eq-true}
-use Rattle.std.proofs.Math.Dec.{ltb, eq}
+use borrow.Author.Tests.{lt-ltb, le-ltb, ltb-false, eqb-true}
+use Rattle.std.proofs.Math.Dec.{ltb, eqb}
 use Rattle.octets.specs.Numbers.{be, at16, Octet, Bytes}
 use Rattle.octets.specs.Lists.{All, same}
 use Rattle.octets.specs.ListsLaws.{all_drop}
@@ -165,12 +165,12 @@ module _ (s : List ℕ) where
     -- it does, and is no head
     pub head-other : {rest : List ℕ} → s ≡ letters ++ rest → front_size ≤ length s → ((k n : ℕ) → IsHead s k n → ⊥) → head_of s ≡ refuse refusal.version
     unfolding head_of
-    head-other {rest} begins long never = go (eq (at16 s version_at) edition) refl
+    head-other {rest} begins long never = go (eqb (at16 s version_at) edition) refl
       where
-        go : (version : Bool) → eq (at16 s version_at) edition ≡ version → head_of s ≡ refuse refusal.version
+        go : (version : Bool) → eqb (at16 s version_at) edition ≡ version → head_of s ≡ refuse refusal.version
         go false e = rw (le-ltb limit.input (length s) short, le-ltb (length s) front_size long, letters-first.1 (rest, begins), e)
         go true e =
-            let f : Front s = record { short = short; long = long; lettered = ap (take version_at) begins; version = eq-true (at16 s version_at) edition e } in
+            let f : Front s = record { short = short; long = long; lettered = ap (take version_at) begins; version = eqb-true (at16 s version_at) edition e } in
             absurd (never (get_or s carrier_at 0) (get_or s count_at 0) ((head-exactly s (get_or s carrier_at 0) (get_or s count_at 0)).0 (front-headed s f)))
 
   pub take-refused : {k : ℕ} → head_of s ≡ refuse k → take_of s ≡ refuse k

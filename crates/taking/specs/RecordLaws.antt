@@ -1,6 +1,6 @@
 -- One record of a sheet: what was written is read, and what is read was written so. Assumes nothing.
-use Rattle.std.specs.Prelude.{◌≡◌, refl, Bool, true, false, cond, not, ◌&&◌, List, ◌++◌, ℕ, ◌*◌, ◌/◌, ◌%◌, ◌≤◌, ◌<◌, eq, length}
-use Rattle.std.proofs.Common.{sym, ap, ◌∙◌, append_assoc, append-nil, mul-div_cancel, div-add-mod', arith, le-ltb, eq-true, eq-eq}
+use Rattle.std.specs.Prelude.{◌≡◌, refl, Bool, true, false, cond, not, ◌&&◌, List, ◌++◌, ℕ, ◌*◌, ◌/◌, ◌%◌, ◌≤◌, ◌<◌, eqb, length}
+use Rattle.std.proofs.Common.{sym, ap, ◌∙◌, append_assoc, append-nil, mul-div_cancel, div-add-mod', arith, le-ltb, eqb-true, eq-eqb}
 use Rattle.std.proofs.lemmas.Bool.{false≢true}
 use Rattle.std.proofs.Math.Nat.{mul-mod_left}
 use Rattle.octets.specs.Cases.{by_less, by_equal}
@@ -19,17 +19,17 @@ use Rattle.taking.specs.WalkLaws.{after_name}
 -- ---- a lifetime where none belongs
 
 pub placed : (c : Carrier) (t : ℕ) → misplaced c t ≡ false → lifetime_width c ≡ 0 → t ≡ 0
-placed c t e z = go (eq t 0) refl (rw (eq-eq (lifetime_width c) 0 z) at e)
+placed c t e z = go (eqb t 0) refl (rw (eq-eqb (lifetime_width c) 0 z) at e)
   where
-    go : (b : Bool) → eq t 0 ≡ b → not b ≡ false → t ≡ 0
-    go true i e = eq-true t 0 i
+    go : (b : Bool) → eqb t 0 ≡ b → not b ≡ false → t ≡ 0
+    go true i e = eqb-true t 0 i
     go false i e = absurd (false≢true (sym e))
 
 pub not-misplaced : (c : Carrier) (t : ℕ) → (lifetime_width c ≡ 0 → t ≡ 0) → misplaced c t ≡ false
-not-misplaced c t h = go (eq (lifetime_width c) 0) refl
+not-misplaced c t h = go (eqb (lifetime_width c) 0) refl
   where
-    go : (b : Bool) → eq (lifetime_width c) 0 ≡ b → b && not (eq t 0) ≡ false
-    go true e = rw (eq-eq t 0 (h (eq-true (lifetime_width c) 0 e)))
+    go : (b : Bool) → eqb (lifetime_width c) 0 ≡ b → b && not (eqb t 0) ≡ false
+    go true e = rw (eq-eqb t 0 (h (eqb-true (lifetime_width c) 0 e)))
     go false e = refl
 
 -- ---- a record's octets and what follows them
@@ -114,10 +114,10 @@ module _ (c : Carrier) (least : ℕ) (next : Fields → List ℕ → Records) (S
       number-says none 1 (λ l. S (be 2 p ++ (be 4 t ++ l))) l _ hb (stop _) (λ mode l hm hb.
       counted-says none 1 (λ l. S (opening p t mode l)) l (after_name c least next p t mode) hb (λ l. stop _) (λ n l hn _ hb.
       let T : Records → Type 0 = S (opening p t mode (put_counted 1 n l)) in
-      let by_mode : Records = cond (eq mode 0) (next (name_only p t n) l) (cond (eq mode 1) (full_fields c p t n l next) none) in
+      let by_mode : Records = cond (eqb mode 0) (next (name_only p t n) l) (cond (eqb mode 1) (full_fields c p t n l next) none) in
       by_less T p least none (cond (misplaced c t) none by_mode) (λ _. stop _) (λ hl.
       by-misplaced T by_mode (misplaced c t) refl (stop _) (λ hz.
-      by_equal T mode 0 (next (name_only p t n) l) (cond (eq mode 1) (full_fields c p t n l next) none)
+      by_equal T mode 0 (next (name_only p t n) l) (cond (eqb mode 1) (full_fields c p t n l next) none)
       (λ z.
       let f : FitsRecord c (name_only p t n) = record { priority = hp; lifetime = ht; placed = placed c t hz; name = hn; tail = (refl, refl) } in
       rw z (rw (named_put c p t n l) at (one (name_only p t n) l f hl hb)))

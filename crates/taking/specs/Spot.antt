@@ -1,6 +1,6 @@
 -- Where the fields of one record stand in a sheet, by its lengths and its mode alone (RULES S2: priority 2, lifetime 4, mode 1, name length 1,
 -- name; in mode 1 also address count 1, addresses, parameter length 2, parameters). Assumes nothing: these are definitions.
-use Rattle.std.specs.Prelude.{◌≡◌, true, false, cond, List, ℕ, ◌+◌, ◌-◌, ◌*◌, ◌≤◌, ◌<◌, ltb, eq, length, get_or, take, drop}
+use Rattle.std.specs.Prelude.{◌≡◌, true, false, cond, List, ℕ, ◌+◌, ◌-◌, ◌*◌, ◌≤◌, ◌<◌, ltb, eqb, length, get_or, take, drop}
 use Rattle.octets.specs.Numbers.{at16, at32}
 use Rattle.carriers.specs.declared.Carrier.{Carrier}
 use Rattle.carriers.specs.Carriers.{address_width}
@@ -78,7 +78,7 @@ full_at c s p =
 
 -- mode 0 name only, 1 full
 abbrev pub by_mode : Carrier → List ℕ → ℕ → Spot → Spot
-by_mode c s mode p = cond (eq mode 0) p (cond (eq mode 1) (full_at c s p) nowhere)
+by_mode c s mode p = cond (eqb mode 0) p (cond (eqb mode 1) (full_at c s p) nowhere)
 
 -- the record whose first octet stands at `at`
 unfoldable pub spot_of : Carrier → List ℕ → ℕ → Spot

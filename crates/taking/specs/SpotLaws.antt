@@ -1,11 +1,11 @@
 -- Where a record's fields stand: they lie within the sheet one after another, and each way out of the code that finds them agrees with `spot_of`.
 -- Assumes nothing.
-use Rattle.std.specs.Prelude.{◌≡◌, true, cond, List, ltb, eq, length, take, drop}
+use Rattle.std.specs.Prelude.{◌≡◌, true, cond, List, ltb, eqb, length, take, drop}
 use Rattle.std.proofs.Math.Path.{refl, subst⁻¹}
 use Rattle.std.proofs.Common.{sym, ap, ◌∙◌, mul-le-mul, arith, length-drop, length-take-le}
 use Rattle.std.proofs.lemmas.Bool.{false≢true}
 use Prim.Native.Nat.{ℕ, ◌+◌, ◌-◌, ◌*◌, ◌≤◌, ◌<◌}
-use borrow.Author.Tests.{lt-ltb, le-ltb, eq-eq, ne_eqb}
+use borrow.Author.Tests.{lt-ltb, le-ltb, eq-eqb, ne_eqb}
 use Rattle.std.proofs.Math.ListN.{get_or}
 use Rattle.octets.specs.Cases.{by_less, by_equal}
 use Rattle.octets.specs.Numbers.{at16, at32, Bytes}
@@ -48,7 +48,7 @@ module _ (P : Spot → Type 0) (none : P nowhere) (c : Carrier) (s : List ℕ) w
       let p : Spot = named_at s at n in
       by_less P (length s - at) head_size nowhere (cond (ltb (length s - at - head_size) n) nowhere (by_mode c s mode p)) (λ _. none) (λ k.
       by_less P (length s - at - head_size) n nowhere (by_mode c s mode p) (λ _. none) (λ j.
-      by_equal P mode 0 p (cond (eq mode 1) (full_at c s p) nowhere) (λ _. named n refl (omega arith)) (λ _.
+      by_equal P mode 0 p (cond (eqb mode 1) (full_at c s p) nowhere) (λ _. named n refl (omega arith)) (λ _.
       by_equal P mode 1 (full_at c s p) nowhere (λ _. full n refl (omega arith)) (λ _. none))))
 
 -- ---- the parts lie within the sheet
@@ -194,11 +194,11 @@ module _ (c : Carrier) (s : List ℕ) (at : ℕ) {r : Spot} where
     module _ (k : n ≤ length s - at - head_size) where
       pub spot-3 : get_or s (at + mode_at) 0 ≡ 0 → r ≡ named_at s at n → r ≡ spot_of c s at
       unfolding spot_of
-      spot-3 z e = rw (le-ltb _ _ h, le-ltb _ _ (rw en at k), eq-eq _ _ z) (rw en at e)
+      spot-3 z e = rw (le-ltb _ _ h, le-ltb _ _ (rw en at k), eq-eqb _ _ z) (rw en at e)
 
       pub spot-4 : {p : Spot} → (get_or s (at + mode_at) 0 ≡ 0 → ⊥) → get_or s (at + mode_at) 0 ≡ 1 → p ≡ named_at s at n → r ≡ full_at c s p → r ≡ spot_of c s at
       unfolding spot_of
-      spot-4 z o ep e = rw (le-ltb _ _ h, le-ltb _ _ (rw en at k), ne_eqb _ _ z, eq-eq _ _ o) (rw en at (rw ep at e))
+      spot-4 z o ep e = rw (le-ltb _ _ h, le-ltb _ _ (rw en at k), ne_eqb _ _ z, eq-eqb _ _ o) (rw en at (rw ep at e))
 
       pub spot-5 : (get_or s (at + mode_at) 0 ≡ 0 → ⊥) → (get_or s (at + mode_at) 0 ≡ 1 → ⊥) → r ≡ nowhere → r ≡ spot_of c s at
       unfolding spot_of

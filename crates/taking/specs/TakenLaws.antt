@@ -1,8 +1,8 @@
 -- What a sheet's head and taking a sheet may say: one of six refusals, or that every test is passed. Assumes nothing.
-use Rattle.std.specs.Prelude.{◌≡◌, ◌⊎◌, Bool, true, false, cond, not, List, ℕ, ◌≤◌, ltb, eq, length, get_or, take, drop}
+use Rattle.std.specs.Prelude.{◌≡◌, ◌⊎◌, Bool, true, false, cond, not, List, ℕ, ◌≤◌, ltb, eqb, length, get_or, take, drop}
 use Rattle.std.proofs.Math.Path.{refl}
 use Rattle.std.proofs.Common.{inl, inr, arith}
-use borrow.Author.Tests.{eq-true, eq-eq, le-ltb}
+use borrow.Author.Tests.{eqb-true, eq-eqb, le-ltb}
 use Rattle.octets.specs.Cases.{by_less}
 use Rattle.octets.specs.SameLaws.{same_true, same_self}
 use Rattle.octets.specs.Numbers.{at16}
@@ -36,19 +36,19 @@ module _ (s : List ℕ) (P : Headed → Type 0)
       by_less P limit.input (length s) (refuse refusal.input) after-input (λ _. input) (λ short.
       by_less P (length s) front_size (refuse refusal.sheet) after-length (λ _. other) (λ long.
       letters-next (same (take version_at s) letters) refl (λ lettered.
-      version-next (eq (at16 s version_at) edition) refl (λ edited.
+      version-next (eqb (at16 s version_at) edition) refl (λ edited.
       passed record {
         short = short;
         long = long;
         lettered = same_true (take version_at s) letters lettered;
-        version = eq-true (at16 s version_at) edition edited;
+        version = eqb-true (at16 s version_at) edition edited;
       }))))
     where
       after-version : Headed
       after-version = head (get_or s carrier_at 0) (get_or s count_at 0)
 
       after_letters : Headed
-      after_letters = cond (not (eq (at16 s version_at) edition)) (refuse refusal.version) after-version
+      after_letters = cond (not (eqb (at16 s version_at) edition)) (refuse refusal.version) after-version
 
       after-length : Headed
       after-length = cond (not (same (take version_at s) letters)) (refuse refusal.sheet) after_letters
@@ -61,7 +61,7 @@ module _ (s : List ℕ) (P : Headed → Type 0)
       letters-next true e k = k e
       letters-next false e k = other
 
-      version-next : (b : Bool) → eq (at16 s version_at) edition ≡ b → (eq (at16 s version_at) edition ≡ true → P after-version)
+      version-next : (b : Bool) → eqb (at16 s version_at) edition ≡ b → (eqb (at16 s version_at) edition ≡ true → P after-version)
           → P (cond (not b) (refuse refusal.version) after-version)
       version-next true e k = k e
       version-next false e k = version
@@ -77,7 +77,7 @@ module _ (s : List ℕ) where
   pub front-headed : Front s → head_of s ≡ head (get_or s carrier_at 0) (get_or s count_at 0)
   unfolding head_of
   front-headed f =
-      rw (le-ltb limit.input (length s) f.short, le-ltb (length s) front_size f.long, f.lettered, same_self letters, eq-eq (at16 s version_at) edition f.version)
+      rw (le-ltb limit.input (length s) f.short, le-ltb (length s) front_size f.long, f.lettered, same_self letters, eq-eqb (at16 s version_at) edition f.version)
 
 -- ---- the tests
 

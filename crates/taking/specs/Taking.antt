@@ -1,6 +1,6 @@
 -- Taking a sheet (RULES S1 to S5; the tests 2, 40, 41, 42, 4, 43 of RULES T5): any octets are refused by number, or are a carrier and its
 -- records. Assumes nothing: these are definitions.
-use Rattle.std.specs.Prelude.{Bool, cond, not, ◌&&◌, List, [], ◌∷◌, ℕ, zero, suc, ◌*◌, ltb, eq, length, get_or, take, drop}
+use Rattle.std.specs.Prelude.{Bool, cond, not, ◌&&◌, List, [], ◌∷◌, ℕ, zero, suc, ◌*◌, ltb, eqb, length, get_or, take, drop}
 use Rattle.octets.specs.Lists.{same}
 use Rattle.octets.specs.Numbers.{at16}
 use Rattle.octets.specs.Fields.{part, number, counted}
@@ -27,7 +27,7 @@ head_of s =
     cond (ltb limit.input (length s)) (refuse refusal.input)
     (cond (ltb (length s) front_size) (refuse refusal.sheet)
     (cond (not (same (take version_at s) letters)) (refuse refusal.sheet)
-    (cond (not (eq (at16 s version_at) edition)) (refuse refusal.version)
+    (cond (not (eqb (at16 s version_at) edition)) (refuse refusal.version)
     (head (get_or s carrier_at 0) (get_or s count_at 0)))))
 
 -- ---- the records after it
@@ -43,7 +43,7 @@ onto r (records rs) = records (r ∷ rs)
 
 -- a lifetime stands where none belongs: 43
 abbrev pub misplaced : Carrier → ℕ → Bool
-misplaced c lifetime = eq (lifetime_width c) 0 && not (eq lifetime 0)
+misplaced c lifetime = eqb (lifetime_width c) 0 && not (eqb lifetime 0)
 
 -- what mode 1 adds: address count, addresses, parameter length, parameters
 abbrev pub full_fields : Carrier → ℕ → ℕ → List ℕ → List ℕ → (Fields → List ℕ → Records) → Records
@@ -62,8 +62,8 @@ one_record c least l next =
     counted none 1 l (λ name l.
     cond (ltb priority least) none
     (cond (misplaced c lifetime) none
-    (cond (eq mode 0) (next (name_only priority lifetime name) l)
-    (cond (eq mode 1) (full_fields c priority lifetime name l next) none)))))))
+    (cond (eqb mode 0) (next (name_only priority lifetime name) l)
+    (cond (eqb mode 1) (full_fields c priority lifetime name l next) none)))))))
 
 -- so many records, and nothing after the last
 unfoldable pub records_from : Carrier → ℕ → ℕ → List ℕ → Records

@@ -1,8 +1,8 @@
 -- The ways out of the code that takes a sheet agree with `take_of`. Assumes nothing.
-use Rattle.std.specs.Prelude.{◌≡◌, refl, true, false, not, List, ℕ, ◌≤◌, ◌<◌, eq, length, get_or, take, drop}
+use Rattle.std.specs.Prelude.{◌≡◌, refl, true, false, not, List, ℕ, ◌≤◌, ◌<◌, eqb, length, get_or, take, drop}
 use Rattle.std.proofs.Common.{sym, ap, ◌∙◌, arith}
 use Rattle.std.proofs.lemmas.Bool.{false≢true}
-use borrow.Author.Tests.{lt-ltb, le-ltb, eq-eq, ne_eqb}
+use borrow.Author.Tests.{lt-ltb, le-ltb, eq-eqb, ne_eqb}
 use Rattle.octets.specs.Numbers.{at16}
 use Rattle.numbers.specs.Refusal as refusal
 use Rattle.numbers.specs.Limit as limit
@@ -23,8 +23,8 @@ use Rattle.taking.specs.StandingLaws.{Found, found}
 -- ---- a lifetime where none belongs
 
 module _ (c : Carrier) (t : ℕ) {w : ℕ} (e : w ≡ lifetime_width c) where
-  pub misplaced-1 : w ≡ 0 → not (eq t 0) ≡ misplaced c t
-  misplaced-1 z = rw (eq-eq (lifetime_width c) 0 (sym e ∙ z))
+  pub misplaced-1 : w ≡ 0 → not (eqb t 0) ≡ misplaced c t
+  misplaced-1 z = rw (eq-eqb (lifetime_width c) 0 (sym e ∙ z))
 
   pub misplaced-2 : (w ≡ 0 → ⊥) → false ≡ misplaced c t
   misplaced-2 z = rw (ne_eqb (lifetime_width c) 0 (λ i. z (e ∙ i)))
@@ -53,7 +53,7 @@ module _ (s : List ℕ) where
 
         pub head-5 : at16 s version_at ≡ edition → {x n : ℕ} → x ≡ get_or s carrier_at 0 → n ≡ get_or s count_at 0 → Head x n ≡ said_of (head_of s)
         unfolding head_of
-        head-5 v ex en = rw (le-ltb limit.input (length s) h, le-ltb (length s) front_size k, ← e, eq-eq (at16 s version_at) edition v, ex, en)
+        head-5 v ex en = rw (le-ltb limit.input (length s) h, le-ltb (length s) front_size k, ← e, eq-eqb (at16 s version_at) edition v, ex, en)
 
 -- ---- 4 and 43
 

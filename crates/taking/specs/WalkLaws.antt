@@ -6,8 +6,8 @@ use Rattle.std.proofs.Math.Bool.{true, false, cond}
 use mathlib.Core.List.{List, [], ◌∷◌}
 use Prim.Native.Nat.{ℕ, suc, ◌+◌, ◌-◌, ◌*◌, ◌≤◌, ◌<◌}
 use native.Mathlib.Omega.{arith}
-use borrow.Author.Tests.{lt-ltb, le-ltb, ltb-false, le-leb, lt-leb, leb-true, eq-eq, ne_eqb}
-use Rattle.std.proofs.Math.Dec.{leb, eq}
+use borrow.Author.Tests.{lt-ltb, le-ltb, ltb-false, le-leb, lt-leb, leb-true, eq-eqb, ne_eqb}
+use Rattle.std.proofs.Math.Dec.{leb, eqb}
 use Rattle.std.proofs.Math.ListN.{length, get_or, length-drop}
 use Rattle.std.proofs.Math.Seq.{drop-drop}
 use Rattle.octets.specs.Cases.{by_less}
@@ -134,8 +134,8 @@ module _ (c : Carrier) (least : ℕ) (next : Fields → List ℕ → Records) wh
   abbrev pub after_name : ℕ → ℕ → ℕ → List ℕ → List ℕ → Records
   after_name priority lifetime mode name l =
       tested c least priority lifetime
-      (cond (eq mode 0) (next (name_only priority lifetime name) l)
-      (cond (eq mode 1) (full_fields c priority lifetime name l next) none))
+      (cond (eqb mode 0) (next (name_only priority lifetime name) l)
+      (cond (eqb mode 1) (full_fields c priority lifetime name l next) none))
 
   -- fewer than 8 octets are no record
   one-short : (l : List ℕ) → length l < head_size → one_record c least l next ≡ none
@@ -164,7 +164,7 @@ module _ (c : Carrier) (least : ℕ) (next : Fields → List ℕ → Records) wh
     name-at : get_or s (at + name_length_at) 0 ≤ length s - at - head_size
         → after_name (at16 s at) (at32 s (at + lifetime_at)) (get_or s (at + mode_at) 0) (take (get_or s (at + name_length_at) 0) (drop (at + head_size) s)) (drop (at + head_size + get_or s (at + name_length_at) 0) s)
         ≡ on_record c least s (by_mode c s (get_or s (at + mode_at) 0) (named_at s at (get_or s (at + name_length_at) 0))) next
-    name-at h = go (eq (get_or s (at + mode_at) 0) 0) (eq (get_or s (at + mode_at) 0) 1)
+    name-at h = go (eqb (get_or s (at + mode_at) 0) 0) (eqb (get_or s (at + mode_at) 0) 1)
       where
         n : ℕ
         n = get_or s (at + name_length_at) 0
@@ -257,12 +257,12 @@ module _ (c : Carrier) (s : List ℕ) (at least left : ℕ) {W : Bool} (inside :
         pub stand-4 : misplaced c p.lifetime ≡ false → some (records_from c (left - 1) p.priority (drop p.next s)) ≡ W
         stand-4 m = sym (some-onto (fields_at s p) (records_from c (left - 1) p.priority (drop p.next s))) ∙ rw (g, le-ltb p.priority least k, m) at stand-seen
 
-  pub stand-5 : left ≤ 0 → eq at (length s) ≡ W
+  pub stand-5 : left ≤ 0 → eqb at (length s) ≡ W
   unfolding records_from
   stand-5 h =
       let z : left ≡ 0 = omega arith in
       go (drop at s) (length-drop at s) ∙ rw z at is
     where
-      go : (l : List ℕ) → length l ≡ length s - at → eq at (length s) ≡ some (records_from c 0 least l)
-      go [] e = eq-eq at (length s) (omega arith)
+      go : (l : List ℕ) → length l ≡ length s - at → eqb at (length s) ≡ some (records_from c 0 least l)
+      go [] e = eq-eqb at (length s) (omega arith)
       go (x ∷ xs) e = ne_eqb at (length s) (λ i. omega arith)

@@ -1,5 +1,5 @@
 -- A block is discarded where a trouble is found; and how the blocks of an area are counted one after another. Assumes nothing.
-use Rattle.std.specs.Prelude.{◌≡◌, refl, Bool, true, false, cond, List, [], ◌∷◌, ◌++◌, map, ℕ, zero, suc, ◌+◌, ◌-◌, ◌≤◌, ltb, eq, length, take, drop}
+use Rattle.std.specs.Prelude.{◌≡◌, refl, Bool, true, false, cond, List, [], ◌∷◌, ◌++◌, map, ℕ, zero, suc, ◌+◌, ◌-◌, ◌≤◌, ltb, eqb, length, take, drop}
 use Rattle.std.proofs.Common.{sym, ap₂, ◌∙◌, subst, arith}
 use Rattle.std.proofs.Math.Path.{ap, subst⁻¹}
 use Rattle.std.proofs.lemmas.List.{map-append}
@@ -85,7 +85,7 @@ instances-numbered (suc k) at (x ∷ xs) = instances-numbered k (at + 1) xs
 
 joined-numbered : (b : List ℕ) → Numbered (joined_yield b)
 unfolding joined_yield
-joined-numbered b = go (eq (length b) 0)
+joined-numbered b = go (eqb (length b) 0)
   where
     go : (t : Bool) → Numbered (cond t (discarded (judged number.field 0)) (instances_from 0 0 b))
     go true = λ z. omega arith

@@ -1,7 +1,7 @@
 -- To show something of what a step gives, show it of each outcome, with what the tests on the way there say. Assumes nothing.
-use Rattle.std.specs.Prelude.{◌≡◌, true, cond, ℕ, ◌-◌, ◌≤◌, ◌<◌, leb, eq}
-use Rattle.std.proofs.Common.{eq-true, leb-true, leb-false}
-use Rattle.std.proofs.lemmas.Bool.{eq-false}
+use Rattle.std.specs.Prelude.{◌≡◌, true, cond, ℕ, ◌-◌, ◌≤◌, ◌<◌, leb, eqb}
+use Rattle.std.proofs.Common.{eqb-true, leb-true, leb-false}
+use Rattle.std.proofs.lemmas.Bool.{eqb-false}
 use Rattle.octets.specs.Cases.{by-test}
 use Rattle.names.specs.Names.{alnum}
 use Rattle.names.specs.Automaton.{Move, stop, go}
@@ -18,8 +18,8 @@ pub by-dot : (at x : ℕ) (P : Move State → Type 0)
     → P stop
     → P (dot at x)
 by-dot at x P f h =
-    by-test (eq x 46) (λ b. P (cond b (cond (leb at 251) (go start) stop) stop))
-    (λ e. by-test (leb at 251) (λ b. P (cond b (go start) stop)) (λ l. f (eq-true x 46 e) (leb-true at 251 l)) (λ _. h))
+    by-test (eqb x 46) (λ b. P (cond b (cond (leb at 251) (go start) stop) stop))
+    (λ e. by-test (leb at 251) (λ b. P (cond b (go start) stop)) (λ l. f (eqb-true x 46 e) (leb-true at 251 l)) (λ _. h))
     (λ _. h)
 
 pub by-inside : (left x : ℕ) (other : Move State) (P : Move State → Type 0)
@@ -30,8 +30,8 @@ pub by-inside : (left x : ℕ) (other : Move State) (P : Move State → Type 0)
     → P (inside left x other)
 by-inside left x other P f g o h =
     let H : Move State = cond (leb left 1) stop (go (hyphen (left - 1))) in
-    by-test (alnum x) (λ b. P (cond b (cond (eq left 0) stop (go (letter (left - 1)))) (cond (eq x 45) H other)))
-    (λ a. by-test (eq left 0) (λ b. P (cond b stop (go (letter (left - 1))))) (λ _. h) (λ n. f a (eq-false left 0 n)))
-    (λ _. by-test (eq x 45) (λ b. P (cond b H other))
-    (λ e. by-test (leb left 1) (λ b. P (cond b stop (go (hyphen (left - 1))))) (λ _. h) (λ l. g (eq-true x 45 e) (leb-false left 1 l)))
+    by-test (alnum x) (λ b. P (cond b (cond (eqb left 0) stop (go (letter (left - 1)))) (cond (eqb x 45) H other)))
+    (λ a. by-test (eqb left 0) (λ b. P (cond b stop (go (letter (left - 1))))) (λ _. h) (λ n. f a (eqb-false left 0 n)))
+    (λ _. by-test (eqb x 45) (λ b. P (cond b H other))
+    (λ e. by-test (leb left 1) (λ b. P (cond b stop (go (hyphen (left - 1))))) (λ _. h) (λ l. g (eqb-true x 45 e) (leb-false left 1 l)))
     (λ _. o))

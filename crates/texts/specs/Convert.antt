@@ -1,7 +1,7 @@
 -- A name's text and its wire form are one-to-one: each of the two conversions undoes the other, takes acceptable names to acceptable
 -- names, and changes the length by two. Assumes nothing.
-use Rattle.std.specs.Prelude.{◌≡◌, refl, Bool, true, false, cond, List, [], ◌∷◌, ◌++◌, ℕ, zero, suc, ◌+◌, ◌-◌, ◌≤◌, eq, length, take}
-use Rattle.std.proofs.Common.{sym, ap, ◌∙◌, inl, inr, append-nil, arith, length-append, length-take, length-drop, eq-true, ne_eqb}
+use Rattle.std.specs.Prelude.{◌≡◌, refl, Bool, true, false, cond, List, [], ◌∷◌, ◌++◌, ℕ, zero, suc, ◌+◌, ◌-◌, ◌≤◌, eqb, length, take}
+use Rattle.std.proofs.Common.{sym, ap, ◌∙◌, inl, inr, append-nil, arith, length-append, length-take, length-drop, eqb-true, ne_eqb}
 use Rattle.std.proofs.Math.Seq.{take-append-add}
 use Rattle.octets.specs.Lists.{All}
 use Rattle.names.specs.Names.{alnum, Ldh, Label, wire, IsName}
@@ -11,7 +11,7 @@ use Rattle.texts.specs.Texts.{dotted, text, IsText, run, wire_from, wire_of, dot
 -- ---- text to wire form
 
 -- a label has no dot
-ldh-not-dot : (x : ℕ) → Ldh x → eq x 46 ≡ false
+ldh-not-dot : (x : ℕ) → Ldh x → eqb x 46 ≡ false
 unfolding alnum
 ldh-not-dot x (inl a) = ne_eqb x 46 (λ q. let h : alnum 46 ≡ true = rw q at a in let z : ◌≡◌ {A = ℕ} 0 1 = cc in omega arith)
 ldh-not-dot x (inr q) = rw q
@@ -97,12 +97,12 @@ text-length w = dots-length _ _ ∙ simp (length-take, length-drop) (omega arith
 -- ---- one-to-one
 
 -- one octet more of a text and of its wire form
-dots-back : (x : ℕ) (xs w : List ℕ) → dots_from (run xs) w ≡ xs → dots_from (run (x ∷ xs)) (cond (eq x 46) (run xs) x ∷ w) ≡ x ∷ xs
+dots-back : (x : ℕ) (xs w : List ℕ) → dots_from (run xs) w ≡ xs → dots_from (run (x ∷ xs)) (cond (eqb x 46) (run xs) x ∷ w) ≡ x ∷ xs
 unfolding run dots_from
-dots-back x xs w h = go (eq x 46) refl
+dots-back x xs w h = go (eqb x 46) refl
   where
-    go : (b : Bool) → eq x 46 ≡ b → dots_from (cond b 0 (suc (run xs))) (cond b (run xs) x ∷ w) ≡ x ∷ xs
-    go true e = let q : x ≡ 46 = eq-true x 46 e in cc
+    go : (b : Bool) → eqb x 46 ≡ b → dots_from (cond b 0 (suc (run xs))) (cond b (run xs) x ∷ w) ≡ x ∷ xs
+    go true e = let q : x ≡ 46 = eqb-true x 46 e in cc
     go false e = ap (λ (r : List ℕ). x ∷ r) h
 
 back : (t : List ℕ) → dots_from (run t) (take (length t) (wire_from t)) ≡ t
@@ -151,7 +151,7 @@ text-of-wire w o = record {
 pub run_short : (t : List ℕ) → run t ≤ length t
 unfolding run
 run_short [] = omega arith
-run_short (x ∷ xs) = go (eq x 46) (run_short xs)
+run_short (x ∷ xs) = go (eqb x 46) (run_short xs)
   where
     go : (b : Bool) → run xs ≤ length xs → cond b 0 (suc (run xs)) ≤ suc (length xs)
     go true h = omega arith

@@ -1,5 +1,5 @@
 -- The check of a name as text (RULES N2, N4). Assumes nothing: these are definitions.
-use Rattle.std.specs.Prelude.{Bool, true, false, cond, List, ℕ, ◌-◌, min, leb, eq}
+use Rattle.std.specs.Prelude.{Bool, true, false, cond, List, ℕ, ◌-◌, min, leb, eqb}
 use Rattle.names.specs.declared.Name.{Name}
 use Rattle.names.specs.Names.{alnum}
 use Rattle.names.specs.Automaton.{Move, stop, go, Automaton, walk}
@@ -19,12 +19,12 @@ after at = min 62 (252 - at)
 abbrev pub inside : ℕ → ℕ → Move State → Move State
 inside left x other =
     cond (alnum x)
-    (cond (eq left 0) stop (go (letter (left - 1))))
-    (cond (eq x 45) (cond (leb left 1) stop (go (hyphen (left - 1)))) other)
+    (cond (eqb left 0) stop (go (letter (left - 1))))
+    (cond (eqb x 45) (cond (leb left 1) stop (go (hyphen (left - 1)))) other)
 
 -- RULES N4: labels are joined by dots, and none is final, so that an octet of a label still fits after a dot
 abbrev pub dot : ℕ → ℕ → Move State
-dot at x = cond (eq x 46) (cond (leb at 251) (go start) stop) stop
+dot at x = cond (eqb x 46) (cond (leb at 251) (go start) stop) stop
 
 -- an octet x at a place. House rule (RULES N2): a label begins and ends with a letter or a digit, so that a dot stands only after one
 abbrev pub step : State → ℕ → ℕ → Move State

@@ -1,6 +1,6 @@
 -- Names as text (RULES N4): the same labels joined by dots, without a final dot, 1 to 253 octets.
 -- Assumes nothing: these are definitions.
-use Rattle.std.specs.Prelude.{◌≡◌, cond, List, [], ◌∷◌, ◌++◌, ℕ, zero, suc, ◌-◌, ◌≤◌, eq, length, get_or, take, drop}
+use Rattle.std.specs.Prelude.{◌≡◌, cond, List, [], ◌∷◌, ◌++◌, ℕ, zero, suc, ◌-◌, ◌≤◌, eqb, length, get_or, take, drop}
 use Rattle.octets.specs.Lists.{All}
 use Rattle.names.specs.Names.{Label}
 
@@ -26,12 +26,12 @@ pub record IsText (s : List ℕ) : Type 0 where
 -- how many octets stand before the first dot: the length of the first label (RULES N1)
 unfoldable pub run : List ℕ → ℕ
 run [] = 0
-run (x ∷ xs) = cond (eq x 46) 0 (suc (run xs))
+run (x ∷ xs) = cond (eqb x 46) 0 (suc (run xs))
 
 -- each dot becomes the length of the label after it, and the root octet ends the name (RULES N1)
 unfoldable pub wire_from : List ℕ → List ℕ
 wire_from [] = 0 ∷ []
-wire_from (x ∷ xs) = cond (eq x 46) (run xs) x ∷ wire_from xs
+wire_from (x ∷ xs) = cond (eqb x 46) (run xs) x ∷ wire_from xs
 
 -- the wire form of a text (RULES N4)
 unfoldable pub wire_of : List ℕ → List ℕ

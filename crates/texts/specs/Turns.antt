@@ -9,7 +9,7 @@ use Rattle.std.proofs.Math.Numerals.{add-one}
 use Rattle.std.proofs.Math.ListN.{length, get_or, drop, set, length-set}
 use Rattle.std.proofs.Math.Seq.{drop-length}
 use Rattle.std.proofs.lemmas.List.{take-set-le}
-use borrow.Author.Tests.{eq-eq, ne_eqb}
+use borrow.Author.Tests.{eq-eqb, ne_eqb}
 use Rattle.octets.specs.Over.{over, Wrote}
 use Rattle.octets.specs.OverLaws.{over-nil, over-set, over-length, over-before, over-take}
 use Rattle.texts.specs.Texts.{run, wire_from, wire_of, dots_from, text_of}
@@ -78,8 +78,8 @@ module _ {at : ℕ} {t l : List ℕ} (room : at + length t + 2 ≤ length l) whe
         let s : drop j t ≡ get_or t j 0 ∷ drop (j + 1) t = one_more t j (omega arith) in
         record {
           within = omega arith;
-          counted = rw (s, eq-eq (get_or t j 0) 46 q);
-          laid = rw (s, eq-eq (get_or t j 0) 46 q) (stored j label e ∙ ap (λ (v : ℕ). over (at + 1 + j) (v ∷ wire_from (drop (j + 1) t)) l) (w.counted ∙ rw e));
+          counted = rw (s, eq-eqb (get_or t j 0) 46 q);
+          laid = rw (s, eq-eqb (get_or t j 0) 46 q) (stored j label e ∙ ap (λ (v : ℕ). over (at + 1 + j) (v ∷ wire_from (drop (j + 1) t)) l) (w.counted ∙ rw e));
         }
 
     pub wire-octet : (j : ℕ) → j + 1 ≡ i → (get_or t j 0 ≡ 46 → ⊥) → Wired at t l (set l' (at + 1 + j) (get_or t j 0)) j (label + 1)

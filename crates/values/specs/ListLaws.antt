@@ -1,5 +1,5 @@
 -- The laws of a list that a loop writes item by item: what is written, what is left, and what stands before the next item. Assumes nothing.
-use Rattle.std.specs.Prelude.{◌≡◌, refl, Bool, true, false, List, [], ◌∷◌, ◌++◌, map, ℕ, ◌<◌, min, eq, length}
+use Rattle.std.specs.Prelude.{◌≡◌, refl, Bool, true, false, List, [], ◌∷◌, ◌++◌, map, ℕ, ◌<◌, min, eqb, length}
 use Rattle.std.proofs.Common.{sym, ap, ◌∙◌, append_assoc, append-nil, arith, ne_eqb}
 use Rattle.std.proofs.lemmas.List.{map-append}
 use Rattle.octets.specs.Lists.{flat}
@@ -67,7 +67,7 @@ module _ {A : Type 0} (commas : Bool) (text : A → List ℕ) {at : ℕ} {l : Li
 
     -- the same, where an index says whether an item is the first
     pub listed-past : (first i : ℕ) → first < i → {x : A} {rest : List A} {r' : ℕ} {l'' : List ℕ} → left ≡ x ∷ rest → Puts r (before ++ text x) l' r' l''
-        → Listed commas text all rest (before_of commas (eq i first)) at l r' l''
+        → Listed commas text all rest (before_of commas (eqb i first)) at l r' l''
     listed-past first i h e p = listed_next e (ap (before_of commas) (ne_eqb i first (λ z. omega arith))) p
 
     pub listed-end : left ≡ [] → Puts at (list_of commas (map text all)) l r l'

@@ -1,7 +1,7 @@
 -- The laws of what is shown by cases: octets of a value, keys, names and addresses. Assumes nothing.
 use Rattle.std.specs.Prelude.{◌≡◌, refl, Bool, true, false, cond, List, [], ◌∷◌, ◌++◌, ℕ, ◌-◌, ◌≤◌, ◌<◌, min, length, take}
 use native.Mathlib.Omega.{arith}
-use borrow.Author.Tests.{le-leb, lt-leb, lt-ltb, le-ltb, eq-eq, ne_eqb}
+use borrow.Author.Tests.{le-leb, lt-leb, lt-ltb, le-ltb, eq-eqb, ne_eqb}
 use Rattle.texts.specs.Texts.{text_of}
 use Rattle.ips.specs.Ips.{text4, text6}
 use Rattle.chars.specs.Ascii.{ascii, decimal_of}
@@ -69,12 +69,12 @@ name-long wire h = simp (le-ltb _ _ h)
 module _ (a : List ℕ) where
   pub address-four : length a ≡ 4 → text4 a ≡ address_of a
   unfolding address_of
-  address-four h = simp (eq-eq _ _ h)
+  address-four h = simp (eq-eqb _ _ h)
 
   module _ (f : length a ≡ 4 → ⊥) where
     pub address-sixteen : length a ≡ 16 → text6 a ≡ address_of a
     unfolding address_of
-    address-sixteen h = simp (ne_eqb _ _ f, eq-eq _ _ h)
+    address-sixteen h = simp (ne_eqb _ _ f, eq-eqb _ _ h)
 
     pub address-none : (length a ≡ 16 → ⊥) → [] ≡ address_of a
     unfolding address_of

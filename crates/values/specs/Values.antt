@@ -1,7 +1,7 @@
 -- What text and JSON have in common: octets of values, lists, keys, names and addresses, each as it is shown (docs/COMMAND.md, "Text of a
 -- sheet", "JSON"); `json` says which of the two. In JSON a quotation mark and a backslash within a string stand after a backslash
 -- (RFC 8259 §7). Assumes nothing: these are definitions.
-use Rattle.std.specs.Prelude.{ℕ, zero, suc, ◌+◌, ◌-◌, ◌/◌, ◌%◌, min, Bool, true, cond, List, [], ◌∷◌, ◌++◌, map, leb, ltb, eq, length, take}
+use Rattle.std.specs.Prelude.{ℕ, zero, suc, ◌+◌, ◌-◌, ◌/◌, ◌%◌, min, Bool, true, cond, List, [], ◌∷◌, ◌++◌, map, leb, ltb, eqb, length, take}
 use Rattle.octets.specs.Lists.{flat}
 use Rattle.carriers.specs.declared.Carrier.{Carrier}
 use Rattle.carriers.specs.declared.Carrier.TheVariants.{Dhcp4, Dhcp6, Router, Ike4, Ike6}
@@ -36,12 +36,12 @@ forever = 4294967295
 unfoldable pub span_of : Bool → ℕ → List ℕ
 span_of json lifetime =
     cond json (decimal_of lifetime)
-    (cond (eq lifetime forever) (ascii "never expires")
-    (cond (eq lifetime 0) (ascii "0 s, no longer to be used") (decimal_of lifetime ++ ascii " s")))
+    (cond (eqb lifetime forever) (ascii "never expires")
+    (cond (eqb lifetime 0) (ascii "0 s, no longer to be used") (decimal_of lifetime ++ ascii " s")))
 
 -- an address by its length (RFC 5952 §4, §5)
 unfoldable pub address_of : List ℕ → List ℕ
-address_of a = cond (eq (length a) 4) (text4 a) (cond (eq (length a) 16) (text6 a) [])
+address_of a = cond (eqb (length a) 4) (text4 a) (cond (eqb (length a) 16) (text6 a) [])
 
 -- ---- lists
 
@@ -74,11 +74,11 @@ dohpath = 7
 -- a key by its name, or as key_n (RFC 9460 §2.1, §14.3.2)
 unfoldable pub key_of : ℕ → List ℕ
 key_of k =
-    cond (eq k key.mandatory) (ascii "mandatory")
-    (cond (eq k key.alpn) (ascii "alpn")
-    (cond (eq k key.no_default_alpn) (ascii "no-default-alpn")
-    (cond (eq k key.port) (ascii "port")
-    (cond (eq k dohpath) (ascii "dohpath")
+    cond (eqb k key.mandatory) (ascii "mandatory")
+    (cond (eqb k key.alpn) (ascii "alpn")
+    (cond (eqb k key.no_default_alpn) (ascii "no-default-alpn")
+    (cond (eqb k key.port) (ascii "port")
+    (cond (eqb k dohpath) (ascii "dohpath")
     (ascii "key" ++ decimal_of k)))))
 
 -- characters of a label with the blanks after it
@@ -87,7 +87,7 @@ columns = 16
 
 -- what fills up the label of a key to its columns, with one blank at least; nothing where the value has no octets
 unfoldable pub gap_of : ℕ → ℕ → List ℕ
-gap_of k size = cond (eq size 0) [] (take (columns - min (length (key_of k)) (columns - 1)) (ascii "                "))
+gap_of k size = cond (eqb size 0) [] (take (columns - min (length (key_of k)) (columns - 1)) (ascii "                "))
 
 -- what stands before the value of a parameter: its key by number and by name, or, in text, the beginning of a line, filled up to
 -- its column
@@ -124,9 +124,9 @@ unfoldable pub escaped_of : Bool → ℕ → List ℕ
 escaped_of json b =
     cond (leb b 32) (code_of json b)
     (cond (ltb 126 b) (code_of json b)
-    (cond (eq b backslash) (slash_of json ++ slash_of json)
-    (cond (eq b quotation) (slash_of json ++ cond json (ascii "\\\"") (ascii "\""))
-    (cond (eq b comma) (slash_of json ++ ascii ",")
+    (cond (eqb b backslash) (slash_of json ++ slash_of json)
+    (cond (eqb b quotation) (slash_of json ++ cond json (ascii "\\\"") (ascii "\""))
+    (cond (eqb b comma) (slash_of json ++ ascii ",")
     (b ∷ [])))))
 
 -- the octets of a value

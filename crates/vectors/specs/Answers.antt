@@ -1,5 +1,5 @@
 -- What the program answers to a line (host/README.md), as text. Assumes nothing: these are definitions.
-use Rattle.std.specs.Prelude.{cond, List, [], ◌∷◌, ◌++◌, ℕ, zero, suc, ltb, leb, eq, length, get_or, take, drop}
+use Rattle.std.specs.Prelude.{cond, List, [], ◌∷◌, ◌++◌, ℕ, zero, suc, ltb, leb, eqb, length, get_or, take, drop}
 use Rattle.octets.specs.Lists.{flat}
 use Rattle.names.specs.declared.Name.{Name}
 use Rattle.names.specs.declared.Name.TheVariants.{Good, Bad}
@@ -19,7 +19,7 @@ number_text x = 32 ∷ decimal_of x
 
 -- octets in hexadecimal after a space; nothing where there are none
 abbrev pub hex_text : List ℕ → List ℕ
-hex_text s = cond (eq (length s) 0) [] (32 ∷ hex_of s)
+hex_text s = cond (eqb (length s) 0) [] (32 ∷ hex_of s)
 
 -- a name that is good, with its other form, or bad, with the place
 abbrev pub good_text : List ℕ → List ℕ
@@ -45,11 +45,11 @@ addresses_text w s = number_text (length (kept_of w (list_of w s))) ++ (number_t
 -- what follows the letter w, t, a, b or p; nothing after another
 unfoldable pub answer_text : ℕ → List ℕ → List ℕ
 answer_text letter s =
-    cond (eq letter 119) (name_text (text_of s) (name_check s))
-    (cond (eq letter 116) (name_text (wire_of s) (text_check s))
-    (cond (eq letter 97) (addresses_text 4 s)
-    (cond (eq letter 98) (addresses_text 16 s)
-    (cond (eq letter 112) (number_text (params_fault s)) []))))
+    cond (eqb letter 119) (name_text (text_of s) (name_check s))
+    (cond (eqb letter 116) (name_text (wire_of s) (text_check s))
+    (cond (eqb letter 97) (addresses_text 4 s)
+    (cond (eqb letter 98) (addresses_text 16 s)
+    (cond (eqb letter 112) (number_text (params_fault s)) []))))
 
 abbrev pub case_text : ℕ → List ℕ → List ℕ
 case_text letter s = letter ∷ answer_text letter s
@@ -57,11 +57,11 @@ case_text letter s = letter ∷ answer_text letter s
 -- ---- a line
 
 abbrev pub known : ℕ → ℕ
-known x = cond (eq x 119) x (cond (eq x 116) x (cond (eq x 97) x (cond (eq x 98) x (cond (eq x 112) x 63))))
+known x = cond (eqb x 119) x (cond (eqb x 116) x (cond (eqb x 97) x (cond (eqb x 98) x (cond (eqb x 112) x 63))))
 
 -- the letter of a line that begins as a case does, and `?` for any other
 abbrev pub letter_of : List ℕ → ℕ
-letter_of line = cond (ltb (length line) 2) 63 (cond (eq (get_or line 1 0) 32) (known (get_or line 0 0)) 63)
+letter_of line = cond (ltb (length line) 2) 63 (cond (eqb (get_or line 1 0) 32) (known (get_or line 0 0)) 63)
 
 -- octets in hexadecimal, at most 4,096
 abbrev pub decoded_text : ℕ → Answer → List ℕ

@@ -1,7 +1,7 @@
 -- Vetting a sheet (RULES T5: 2, 40, 41, 42, 4, 43, then 21 to 28 record by record, then 44, then 5): the one place where a sheet's records are
 -- tested, up to 28; of 22 the place in the sheet (RULES T8); and what else the call returns of a sheet that passes, for 44 and 5. Assumes nothing:
 -- these are definitions.
-use Rattle.std.specs.Prelude.{Bool, false, cond, ◌||◌, List, [], ◌∷◌, ℕ, ◌+◌, ltb, eq, length}
+use Rattle.std.specs.Prelude.{Bool, false, cond, ◌||◌, List, [], ◌∷◌, ℕ, ◌+◌, ltb, eqb, length}
 use Rattle.numbers.specs.Limit as limit
 use Rattle.carriers.specs.declared.Carrier.{Carrier}
 use Rattle.carriers.specs.Carriers.{in_eights}
@@ -30,12 +30,12 @@ pub data Vetted : Type 0 where
 unfoldable pub first_fault : Carrier → ℕ → List Fields → Judged
 first_fault c at [] = judged 0 0
 first_fault c at (r ∷ rs) =
-    cond (eq (fault_of Writing c r) 0) (first_fault c (at + length (record_of c r)) rs)
+    cond (eqb (fault_of Writing c r) 0) (first_fault c (at + length (record_of c r)) rs)
     (from (at + head_size) (judged_by Writing c r))
 
 -- 21 to 28, by the first of them
 abbrev pub by_first : Carrier → List Fields → Judged → Vetted
-by_first c rs j = cond (eq j.fault 0) (sheet c rs) (refuse j.fault j.place)
+by_first c rs j = cond (eqb j.fault 0) (sheet c rs) (refuse j.fault j.place)
 
 abbrev pub vet_records : Carrier → List Fields → Vetted
 vet_records c rs = by_first c rs (first_fault c front_size rs)

@@ -1,6 +1,6 @@
 -- The octets of a record and of records, and each turn of the pass that weighs them. Assumes nothing.
 use Rattle.std.specs.Prelude.{◌≡◌, refl, Bool, true, false, cond, ◌||◌, List, [], ◌∷◌, ◌++◌, map, ℕ, suc, ◌+◌, ◌-◌, ◌*◌, ◌≤◌, ◌<◌, length, take, drop, ltb}
-use Rattle.std.proofs.Common.{sym, ap, ◌∙◌, subst, arith, eq-eq, ne_eqb, length-append}
+use Rattle.std.proofs.Common.{sym, ap, ◌∙◌, subst, arith, eq-eqb, ne_eqb, length-append}
 use Rattle.std.proofs.Math.Path.{subst⁻¹}
 use Rattle.std.proofs.Math.Bool.{or_assoc, or-false}
 use Rattle.numbers.specs.Limit as limit
@@ -196,7 +196,7 @@ module _ (c : Carrier) (s : List ℕ) (p : Spot) {j : Judged} (is : j ≡ judged
 module _ (c : Carrier) (at : ℕ) (r : Fields) (rs : List Fields) where
   pub first-passed : fault_of Writing c r ≡ 0 → first_fault c at (r ∷ rs) ≡ first_fault c (at + length (record_of c r)) rs
   unfolding first_fault
-  first-passed e = rw (eq-eq (fault_of Writing c r) 0 e)
+  first-passed e = rw (eq-eqb (fault_of Writing c r) 0 e)
 
   pub first_faulty : (fault_of Writing c r ≡ 0 → ⊥) → first_fault c at (r ∷ rs) ≡ from (at + head_size) (judged_by Writing c r)
   unfolding first_fault

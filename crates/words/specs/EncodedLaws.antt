@@ -1,10 +1,10 @@
 -- The laws of a table of words as octets: walked entry by entry, it has the words and the numbers that the table has. Assumes nothing.
-use Rattle.std.specs.Prelude.{◌≡◌, refl, Bool, cond, List, [], ◌∷◌, ◌++◌, ℕ, suc, ◌+◌, ◌-◌, ◌≤◌, ◌<◌, eq, length, get_or, take, drop}
+use Rattle.std.specs.Prelude.{◌≡◌, refl, Bool, cond, List, [], ◌∷◌, ◌++◌, ℕ, suc, ◌+◌, ◌-◌, ◌≤◌, ◌<◌, eqb, length, get_or, take, drop}
 use Rattle.std.proofs.Math.Path.{sym, ap}
 use Rattle.std.proofs.Common.{◌∙◌, arith, drop_of_length-le, drop-drop}
 use Rattle.std.proofs.Math.Bool.{true, false, and-eq-true_iff}
 use Rattle.std.proofs.Math.Numerals.{add-one}
-use borrow.Author.Tests.{eq-eq, ne_eqb}
+use borrow.Author.Tests.{eq-eqb, ne_eqb}
 use Rattle.std.proofs.Math.Seq.{drop-cons, drop-append-add, take-append_seam}
 use Rattle.octets.specs.ListsLaws.{skip-any}
 use Rattle.octets.specs.Lists.{same}
@@ -16,7 +16,7 @@ use Rattle.words.specs.Encoded.{encoded, break_at, words_from, words_at, number_
 module _ (s : List ℕ) (i : ℕ) where
   pub break-here : i < length s → get_or s i 0 ≡ 10 → break_at (drop i s) ≡ 0
   unfolding break_at
-  break-here h e = rw (drop-cons s i 0 h, eq-eq (get_or s i 0) 10 e)
+  break-here h e = rw (drop-cons s i 0 h, eq-eqb (get_or s i 0) 10 e)
 
   pub break-later : i < length s → (get_or s i 0 ≡ 10 → ⊥) → break_at (drop i s) ≡ suc (break_at (drop (i + 1) s))
   unfolding break_at
@@ -30,7 +30,7 @@ module _ (s : List ℕ) (i : ℕ) where
 break-after : (x t : List ℕ) → plain x ≡ true → break_at (x ++ (10 ∷ t)) ≡ length x
 unfolding break_at plain
 break-after [] t p = refl
-break-after (y ∷ x) t p = go (eq y 10) p (break-after x t)
+break-after (y ∷ x) t p = go (eqb y 10) p (break-after x t)
   where
     go : (b : Bool) → cond b false (plain x) ≡ true → (plain x ≡ true → break_at (x ++ (10 ∷ t)) ≡ length x)
         → cond b 0 (suc (break_at (x ++ (10 ∷ t)))) ≡ suc (length x)
@@ -75,7 +75,7 @@ module _ (k : ℕ) (s : List ℕ) (i : ℕ) where
   module _ (end : ℕ) (h : i < length s) (e : end ≡ i + 1 + break_at (drop (i + 1) s)) where
     pub found : get_or s i 0 ≡ k → take (end - (i + 1)) (drop (i + 1) s) ≡ words_at k (drop i s)
     unfolding words_from
-    found n = rw (size-at s i end e, drop-cons s i 0 h, eq-eq (get_or s i 0) k n, add-one)
+    found n = rw (size-at s i end e, drop-cons s i 0 h, eq-eqb (get_or s i 0) k n, add-one)
 
     pub passed : (get_or s i 0 ≡ k → ⊥) → words_at k (drop (end + 1) s) ≡ words_at k (drop i s)
     unfolding words_from
@@ -124,7 +124,7 @@ words-encoded (w ∷ ws) k f =
     let q = (and-eq-true_iff (plain w.words) (unbroken ws)).0 f in
     let t : List ℕ = w.words ++ (10 ∷ encoded ws) in
     let others = skipped k (suc (break_at t)) t ∙ ap (words_at k) (other_entries w.words (encoded ws) q.0) ∙ words-encoded ws k q.1 in
-    entry (eq w.number k) (own-words w.words (encoded ws) q.0) others
+    entry (eqb w.number k) (own-words w.words (encoded ws) q.0) others
 
 -- and any words have the number that they have in the table
 pub number-encoded : (ws : List Worded) (x : List ℕ) → unbroken ws ≡ true → number_at x (encoded ws) ≡ number_in ws x

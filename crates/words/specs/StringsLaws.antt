@@ -1,5 +1,5 @@
 -- The laws of C strings: the closing octet after what was written, and the words of every number, which are visible and fit. Assumes nothing.
-use Rattle.std.specs.Prelude.{◌≡◌, refl, Bool, true, false, cond, ◌&&◌, List, [], ◌∷◌, ◌++◌, ℕ, zero, suc, ◌+◌, ◌-◌, ◌≤◌, ◌<◌, min, eq, leb, ltb, length, take, drop, set}
+use Rattle.std.specs.Prelude.{◌≡◌, refl, Bool, true, false, cond, ◌&&◌, List, [], ◌∷◌, ◌++◌, ℕ, zero, suc, ◌+◌, ◌-◌, ◌≤◌, ◌<◌, min, eqb, leb, ltb, length, take, drop, set}
 use Rattle.std.proofs.Common.{sym, ap, ◌∙◌, append_assoc, arith, leb-true, leb-false, ltb-true, length-take, length-append, take_all, take-take, length-take-le}
 use Rattle.std.proofs.Math.Bool.{and-eq-true_iff}
 use Rattle.std.proofs.lemmas.List.{set_split, take-append-le}
@@ -105,7 +105,7 @@ unfolding all words_in
 holds p [] k f = f
 holds p (w ∷ ws) k f =
     let q = (and-eq-true_iff (p w.words) (all p ws)).0 f in
-    go (eq w.number k) q.0 (holds p ws k q.1)
+    go (eqb w.number k) q.0 (holds p ws k q.1)
   where
     go : (b : Bool) → p w.words ≡ true → p (words_in ws k) ≡ true → p (cond b w.words (words_in ws k)) ≡ true
     go true here there = here

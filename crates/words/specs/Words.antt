@@ -1,5 +1,5 @@
 -- The numbers given back, in words (RULES R0 to R44), and why a name is no host name. Assumes nothing: these are definitions.
-use Rattle.std.specs.Prelude.{ℕ, cond, List, [], ◌∷◌, eq}
+use Rattle.std.specs.Prelude.{ℕ, cond, List, [], ◌∷◌, eqb}
 use Rattle.octets.specs.Lists.{same}
 use Rattle.numbers.specs.Refusal as refusal
 use Rattle.numbers.specs.Fault as fault
@@ -62,7 +62,7 @@ unknown = ascii "unknown number"
 -- the words of a number in a table; of any other, that it is unknown
 unfoldable pub words_in : List Worded → ℕ → List ℕ
 words_in [] k = unknown
-words_in (w ∷ ws) k = cond (eq w.number k) w.words (words_in ws k)
+words_in (w ∷ ws) k = cond (eqb w.number k) w.words (words_in ws k)
 
 -- the number of the first entry that has these words; of any other words, 0
 unfoldable pub number_in : List Worded → List ℕ → ℕ

@@ -1,9 +1,9 @@
 -- What writing answers is what `Answers` says and nothing else (RULES D2). Assumes nothing.
-use Rattle.std.specs.Prelude.{◌≡◌, ◌⊎◌, ◌↔◌, Bool, List, [], ◌∷◌, ℕ, ◌+◌, ◌≤◌, ◌<◌, ltb, eq, length, take}
+use Rattle.std.specs.Prelude.{◌≡◌, ◌⊎◌, ◌↔◌, Bool, List, [], ◌∷◌, ℕ, ◌+◌, ◌≤◌, ◌<◌, ltb, eqb, length, take}
 use Rattle.std.proofs.Math.Path.{refl, subst⁻¹}
 use Rattle.std.proofs.Common.{sym, ap, ap₂, subst, ◌∙◌, inl, inr, true≢false, arith}
 use Rattle.std.proofs.Math.Bool.{true, false}
-use borrow.Author.Tests.{lt-ltb, le-ltb, ltb-true, ltb-false, eq-true, eq-false, ne_eqb}
+use borrow.Author.Tests.{lt-ltb, le-ltb, ltb-true, ltb-false, eqb-true, eqb-false, ne_eqb}
 use Rattle.octets.specs.Numbers.{Bytes}
 use Rattle.octets.specs.Lists.{All, same}
 use Rattle.numbers.specs.Refusal as refusal
@@ -70,16 +70,16 @@ module _ (c : Carrier) where
 
   fault-or : (at : ℕ) (rs : List Fields) → All OfOctets rs → FaultOr at rs
   fault-or at [] o = inr tt
-  fault-or at (r ∷ rs) o = go (eq (fault_of Writing c r) 0) refl (fault-or (at + length (record_of c r)) rs o.1)
+  fault-or at (r ∷ rs) o = go (eqb (fault_of Writing c r) 0) refl (fault-or (at + length (record_of c r)) rs o.1)
     where
-      allowed : eq (fault_of Writing c r) 0 ≡ true → Allowed Writing c r
-      allowed e = faultless-allowed Writing c r o.0 (eq-true _ _ e)
+      allowed : eqb (fault_of Writing c r) 0 ≡ true → Allowed Writing c r
+      allowed e = faultless-allowed Writing c r o.0 (eqb-true _ _ e)
 
-      go : (none : Bool) → eq (fault_of Writing c r) 0 ≡ none → FaultOr (at + length (record_of c r)) rs → FaultOr at (r ∷ rs)
+      go : (none : Bool) → eqb (fault_of Writing c r) 0 ≡ none → FaultOr (at + length (record_of c r)) rs → FaultOr at (r ∷ rs)
       go false e ih =
           let j = from (at + head_size) (judged_by Writing c r) in
           let broken = (broken-exactly Writing c r j.fault o.0).0 refl in
-          inl (j.fault, j.place, here broken (eq-false _ _ e) ((placed-exactly Writing c r (at + head_size) j.place).0 refl))
+          inl (j.fault, j.place, here broken (eqb-false _ _ e) ((placed-exactly Writing c r (at + head_size) j.place).0 refl))
       go true e (inl f) = inl (f.0, f.1, later (allowed e) f.2)
       go true e (inr h) = inr (allowed e, h)
 

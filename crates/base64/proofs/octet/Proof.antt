@@ -1,17 +1,17 @@
 -- `base64::octet` meets its contract: the tests in order. Assumes nothing.
 use borrow.Author.Rules.{rules}
-use borrow.Author.Tests.{eq-eq, ne_eqb}
+use borrow.Author.Tests.{eq-eqb, ne_eqb}
 use Rattle.base64.specs.Base64.{octet_of}
 use Rattle.base64.proofs.octet.Statement.{statement}
 use Rattle.base64.proofs.octet.Tie as tie
 
 returns : tie.Need-returns
 unfolding octet_of
-returns c = simp (eq-eq _ _ c.if1.true)
+returns c = simp (eq-eqb _ _ c.if1.true)
 
 returns-2 : tie.Need-returns-2
 unfolding octet_of
-returns-2 c = simp (ne_eqb _ _ c.before.if1.false, eq-eq _ _ c.if2.true)
+returns-2 c = simp (ne_eqb _ _ c.before.if1.false, eq-eqb _ _ c.if2.true)
 
 returns-3 : tie.Need-returns-3
 unfolding octet_of

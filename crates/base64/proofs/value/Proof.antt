@@ -1,6 +1,6 @@
 -- `base64::value` meets its contract: the tests in order. Assumes nothing.
 use borrow.Author.Rules.{rules}
-use borrow.Author.Tests.{eq-eq, ne_eqb}
+use borrow.Author.Tests.{eq-eqb, ne_eqb}
 use native.Mathlib.Omega.{arith}
 use mathlib.Core.Path.{◌≡◌, sym, ◌∙◌}
 use mathlib.Core.Bool.{true, false}
@@ -58,14 +58,14 @@ unfolding value
 returns-4 c =
     let p = c.before in
     let q = p.before.before in
-    simp (not-upper q.before.before, not_lower q, not-decimal p, eq-eq _ _ c.if4.true)
+    simp (not-upper q.before.before, not_lower q, not-decimal p, eq-eqb _ _ c.if4.true)
 
 returns-5 : tie.Need-returns-5
 unfolding value
 returns-5 c =
     let p = c.before.before in
     let q = p.before.before in
-    simp (not-upper q.before.before, not_lower q, not-decimal p, ne_eqb _ _ c.before.if4.false, eq-eq _ _ c.if5.true)
+    simp (not-upper q.before.before, not_lower q, not-decimal p, ne_eqb _ _ c.before.if4.false, eq-eqb _ _ c.if5.true)
 
 returns-6 : tie.Need-returns-6
 unfolding value

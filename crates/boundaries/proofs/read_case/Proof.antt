@@ -1,6 +1,6 @@
 -- `boundaries::read_case` meets its contract: the octets of the case stand from after its sizes to its end. Assumes nothing.
 use borrow.Author.Rules.{rules}
-use borrow.Author.Tests.{eq-eq, ne_eqb}
+use borrow.Author.Tests.{eq-eqb, ne_eqb}
 use native.Mathlib.Omega.{arith}
 use mathlib.Core.Path.{subst, sym, ◌∙◌}
 use Prim.Native.Nat.{◌+◌}
@@ -30,7 +30,7 @@ slice-aggregate-run-read : tie.Need-slice-aggregate-run-read
 slice-aggregate-run-read c = simp length-take (omega arith)
 
 returns : tie.Need-returns
-returns c = (simp (eq-eq _ _ c.if1.true), tt)
+returns c = (simp (eq-eqb _ _ c.if1.true), tt)
 
 returns-2 : tie.Need-returns-2
 returns-2 c =

@@ -4,9 +4,9 @@ use mathlib.Core.Path.{◌≡◌, sym, ap, ap₂, ◌∙◌}
 use mathlib.Core.Bool.{Bool}
 use Prim.Native.Nat.{ℕ, ◌+◌, ◌≤◌}
 use native.Mathlib.Omega.{arith}
-use borrow.Author.Tests.{eq-true, eq-false}
+use borrow.Author.Tests.{eqb-true, eqb-false}
 use lib.ListN.{length}
-use lib.Dec.{eq}
+use lib.Dec.{eqb}
 use Rattle.octets.specs.Numbers.{number_at}
 use Rattle.carriers.specs.declared.Facts.{Facts}
 use Rattle.carriers.specs.Carriers.{header_of, head_width, bare_code, octets}
@@ -48,7 +48,7 @@ returns-2 c =
     let n = c.before.before in
     let e = n.before.before.before in
     let a = e.before.before.before.args in
-    let none = sym (head-none a.c a.s.now (room e) (sym (size n) ∙ eq-true _ _ (sym c.before.none.ensures ∙ c.if2.true))) in
+    let none = sym (head-none a.c a.s.now (room e) (sym (size n) ∙ eqb-true _ _ (sym c.before.none.ensures ∙ c.if2.true))) in
     (none, head-exactly a.c a.s.now _ none)
 
 returns-3 : tie.Need-returns-3
@@ -64,8 +64,8 @@ returns-3 c =
     b.bare-code.ensures ∙ ap (bare_code f.reserved) n.before.before.header-in.ensures.0
     ∙ ap (λ (f : Facts). bare_code f.reserved (number_at f.width 0 s)) k.facts.ensures in
     let option =
-    ap₂ (λ (own : Bool) (n : ℕ). Head.Option own (octets n)) (ap₂ eq code (ap (λ (f : Facts). f.code) k.facts.ensures)) (size n)
-    ∙ sym (head-option a.c s (room e) (λ z. eq-false _ _ (sym b.before.before.none.ensures ∙ b.before.if2.false) (size n ∙ z))) in
+    ap₂ (λ (own : Bool) (n : ℕ). Head.Option own (octets n)) (ap₂ eqb code (ap (λ (f : Facts). f.code) k.facts.ensures)) (size n)
+    ∙ sym (head-option a.c s (room e) (λ z. eqb-false _ _ (sym b.before.before.none.ensures ∙ b.before.if2.false) (size n ∙ z))) in
     (option, head-exactly a.c s _ option)
 
 pub head-in-spec : {M : Type 1} → statement M

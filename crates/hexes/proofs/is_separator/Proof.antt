@@ -1,5 +1,5 @@
 -- `hexes::is_separator` meets its contract. Assumes nothing.
-use borrow.Author.Tests.{eq-eq, ne_eqb}
+use borrow.Author.Tests.{eq-eqb, ne_eqb}
 use Rattle.hexes.specs.Hexes.{separator}
 use Rattle.hexes.specs.HexesLaws.{separator-colon}
 use Rattle.hexes.proofs.is_separator.Statement.{statement}
@@ -7,20 +7,20 @@ use Rattle.hexes.proofs.is_separator.Tie as tie
 
 returns : tie.Need-returns
 unfolding separator
-returns c = simp (eq-eq _ _ c.if1.true)
+returns c = simp (eq-eqb _ _ c.if1.true)
 
 returns-2 : tie.Need-returns-2
 unfolding separator
-returns-2 c = simp (ne_eqb _ _ c.before.if1.false, eq-eq _ _ c.if2.true)
+returns-2 c = simp (ne_eqb _ _ c.before.if1.false, eq-eqb _ _ c.if2.true)
 
 returns-3 : tie.Need-returns-3
 unfolding separator
-returns-3 c = simp (ne_eqb _ _ c.before.before.if1.false, ne_eqb _ _ c.before.if2.false, eq-eq _ _ c.if3.true)
+returns-3 c = simp (ne_eqb _ _ c.before.before.if1.false, ne_eqb _ _ c.before.if2.false, eq-eqb _ _ c.if3.true)
 
 returns-4 : tie.Need-returns-4
 unfolding separator
 returns-4 c =
-    simp (ne_eqb _ _ c.before.before.before.if1.false, ne_eqb _ _ c.before.before.if2.false, ne_eqb _ _ c.before.if3.false, eq-eq _ _ c.if4.true)
+    simp (ne_eqb _ _ c.before.before.before.if1.false, ne_eqb _ _ c.before.before.if2.false, ne_eqb _ _ c.before.if3.false, eq-eqb _ _ c.if4.true)
 
 returns-5 : tie.Need-returns-5
 returns-5 c =

@@ -1,7 +1,7 @@
 -- `records::examine_full` meets its contract: a fault, or none. Assumes nothing.
 use borrow.Author.Rules.{rules}
 use native.Mathlib.Omega.{arith}
-use borrow.Author.Tests.{eq-true}
+use borrow.Author.Tests.{eqb-true}
 use mathlib.Core.Path.{◌≡◌, refl}
 use Prim.Native.Nat.{ℕ, ◌+◌, ◌*◌, ◌≤◌}
 use lib.ListN.{length}
@@ -70,7 +70,7 @@ returns-2 c =
     let judged = wide.before.before in
     let args = judged.before.before.before.before.args in (
       full-kept args.c args.priority args.at args.name.now args.addresses.now args.parameters.now judged.judge-fields.ensures wide.before.if1.false c.name-size.ensures wide.address-width.ensures c.before.kept-count.ensures.0 _,
-      λ z. full-clean args.c args.priority args.at args.name.now args.addresses.now args.parameters.now judged.judge-fields.ensures wide.before.if1.false c.name-size.ensures wide.address-width.ensures c.before.kept-count.ensures.0 (eq-true _ _ z),
+      λ z. full-clean args.c args.priority args.at args.name.now args.addresses.now args.parameters.now judged.judge-fields.ensures wide.before.if1.false c.name-size.ensures wide.address-width.ensures c.before.kept-count.ensures.0 (eqb-true _ _ z),
     )
 
 pub examine-full-spec : {M : Type 1} → statement M

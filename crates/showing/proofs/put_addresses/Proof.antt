@@ -4,7 +4,7 @@ use mathlib.Core.Path.{◌≡◌, refl, ap}
 use mathlib.Core.List.{map}
 use Prim.Native.Nat.{ℕ, ◌+◌, ◌-◌, ◌≤◌, ◌<◌}
 use native.Mathlib.Omega.{arith}
-use lib.Dec.{eq}
+use lib.Dec.{eqb}
 use lib.ListN.{length, drop}
 use Rattle.addresses.specs.Addresses.{list_of}
 use Rattle.chars.specs.PutsLaws.{puts-as}
@@ -17,7 +17,7 @@ use Rattle.showing.proofs.put_addresses.Statement.{statement}
 use Rattle.showing.proofs.put_addresses.Tie as tie
 
 abbrev invariant-loop : tie.invariant-loop
-invariant-loop out₀ at json list w o₀ i₀ out o i = (0 < w) × (i ≤ length list) × (length out ≡ length out₀) × Listed json (address_item json) (list_of w list) (list_of w (drop i list)) (before_of json (eq i 0)) at out₀ o out
+invariant-loop out₀ at json list w o₀ i₀ out o i = (0 < w) × (i ≤ length list) × (length out ≡ length out₀) × Listed json (address_item json) (list_of w list) (list_of w (drop i list)) (before_of json (eqb i 0)) at out₀ o out
 
 abbrev decreases-loop : tie.decreases-loop
 decreases-loop out₀ at json list w o₀ i₀ out o i = length list - i

@@ -3,7 +3,7 @@ use borrow.Author.Rules.{rules}
 use mathlib.Core.Path.{◌≡◌, refl}
 use Prim.Native.Nat.{◌+◌, ◌-◌, ◌≤◌}
 use native.Mathlib.Omega.{arith}
-use lib.Dec.{eq}
+use lib.Dec.{eqb}
 use lib.ListN.{length, drop}
 use Rattle.svcparams.specs.Entries.{entries}
 use Rattle.values.specs.Values.{before_of}
@@ -14,7 +14,7 @@ use Rattle.showing.proofs.put_parameters.Statement.{statement}
 use Rattle.showing.proofs.put_parameters.Tie as tie
 
 abbrev invariant-loop : tie.invariant-loop
-invariant-loop out₀ at json p o₀ i₀ out o i = (i ≤ length p) × (length out ≡ length out₀) × Listed json (parameter_of json) (entries p) (entries (drop i p)) (before_of json (eq i 0)) at out₀ o out
+invariant-loop out₀ at json p o₀ i₀ out o i = (i ≤ length p) × (length out ≡ length out₀) × Listed json (parameter_of json) (entries p) (entries (drop i p)) (before_of json (eqb i 0)) at out₀ o out
 
 abbrev decreases-loop : tie.decreases-loop
 decreases-loop out₀ at json p o₀ i₀ out o i = length p - i

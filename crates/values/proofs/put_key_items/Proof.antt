@@ -5,7 +5,7 @@ use mathlib.Core.Bool.{true}
 use mathlib.Core.List.{◌∷◌}
 use Prim.Native.Nat.{ℕ, ◌+◌, ◌-◌, ◌≤◌}
 use native.Mathlib.Omega.{arith}
-use lib.Dec.{eq}
+use lib.Dec.{eqb}
 use lib.ListN.{length, drop}
 use Rattle.octets.specs.Numbers.{words}
 use Rattle.octets.specs.NumbersLaws.{words-cons, words-end}
@@ -15,7 +15,7 @@ use Rattle.values.proofs.put_key_items.Statement.{statement}
 use Rattle.values.proofs.put_key_items.Tie as tie
 
 abbrev invariant-loop : tie.invariant-loop
-invariant-loop out₀ at json s o₀ i₀ out o i = (i ≤ length s) × (length out ≡ length out₀) × Listed true (λ (k : ℕ). quoted json (key_of k)) (words s) (words (drop i s)) (before_of true (eq i 0)) at out₀ o out
+invariant-loop out₀ at json s o₀ i₀ out o i = (i ≤ length s) × (length out ≡ length out₀) × Listed true (λ (k : ℕ). quoted json (key_of k)) (words s) (words (drop i s)) (before_of true (eqb i 0)) at out₀ o out
 
 abbrev decreases-loop : tie.decreases-loop
 decreases-loop out₀ at json s o₀ i₀ out o i = length s - i

@@ -5,7 +5,7 @@ use mathlib.Core.Bool.{true}
 use mathlib.Core.List.{List}
 use Prim.Native.Nat.{ℕ, ◌+◌, ◌-◌, ◌≤◌}
 use native.Mathlib.Omega.{arith}
-use lib.Dec.{eq}
+use lib.Dec.{eqb}
 use lib.ListN.{length, drop}
 use Rattle.values.specs.Values.{before_of, quoted, value_of, strings_from, protocols_of}
 use Rattle.values.specs.ListLaws.{Listed, listed_start, listed-past, listed-end}
@@ -14,7 +14,7 @@ use Rattle.values.proofs.put_protocol_items.Statement.{statement}
 use Rattle.values.proofs.put_protocol_items.Tie as tie
 
 abbrev invariant-loop : tie.invariant-loop
-invariant-loop out₀ at json s o₀ i₀ out o i = (i ≤ length s) × (length out ≡ length out₀) × Listed true (λ (id : List ℕ). quoted json (value_of json id)) (strings_from 0 s) (strings_from 0 (drop i s)) (before_of true (eq i 0)) at out₀ o out
+invariant-loop out₀ at json s o₀ i₀ out o i = (i ≤ length s) × (length out ≡ length out₀) × Listed true (λ (id : List ℕ). quoted json (value_of json id)) (strings_from 0 s) (strings_from 0 (drop i s)) (before_of true (eqb i 0)) at out₀ o out
 
 abbrev decreases-loop : tie.decreases-loop
 decreases-loop out₀ at json s o₀ i₀ out o i = length s - i

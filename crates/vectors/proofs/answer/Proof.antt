@@ -1,7 +1,7 @@
 -- `vectors::answer` meets its contract: the letters in order; 4 and 16 are the widths of addresses. Assumes nothing.
 use mathlib.Core.Path.{ap}
 use borrow.Author.Rules.{rules}
-use borrow.Author.Tests.{eq-eq, ne_eqb}
+use borrow.Author.Tests.{eq-eqb, ne_eqb}
 use Rattle.addresses.specs.AddressesLaws.{four, sixteen}
 use Rattle.chars.specs.PutsLaws.{puts-as}
 use Rattle.vectors.specs.Answers.{number_text, answer_text}
@@ -13,7 +13,7 @@ unfolding answer_text
 returns c =
     let p = c.before.before in
     let t1 = p.before.before in
-    simp (eq-eq _ _ t1.if1.true) p.answer-wire.ensures
+    simp (eq-eqb _ _ t1.if1.true) p.answer-wire.ensures
 
 returns-2 : tie.Need-returns-2
 unfolding answer_text
@@ -21,7 +21,7 @@ returns-2 c =
     let p = c.before.before in
     let t2 = p.before.before in
     let t1 = t2.before in
-    simp (ne_eqb _ _ t1.if1.false, eq-eq _ _ t2.if2.true) p.answer-text.ensures
+    simp (ne_eqb _ _ t1.if1.false, eq-eqb _ _ t2.if2.true) p.answer-text.ensures
 
 returns-3 : tie.Need-returns-3
 unfolding answer_text
@@ -30,7 +30,7 @@ returns-3 c =
     let t3 = p.before.before in
     let t2 = t3.before in
     let t1 = t2.before in
-    simp (ne_eqb _ _ t1.if1.false, ne_eqb _ _ t2.if2.false, eq-eq _ _ t3.if3.true) p.answer-addresses.ensures
+    simp (ne_eqb _ _ t1.if1.false, ne_eqb _ _ t2.if2.false, eq-eqb _ _ t3.if3.true) p.answer-addresses.ensures
 
 returns-4 : tie.Need-returns-4
 unfolding answer_text
@@ -40,7 +40,7 @@ returns-4 c =
     let t3 = t4.before in
     let t2 = t3.before in
     let t1 = t2.before in
-    simp (ne_eqb _ _ t1.if1.false, ne_eqb _ _ t2.if2.false, ne_eqb _ _ t3.if3.false, eq-eq _ _ t4.if4.true) p.answer-addresses2.ensures
+    simp (ne_eqb _ _ t1.if1.false, ne_eqb _ _ t2.if2.false, ne_eqb _ _ t3.if3.false, eq-eqb _ _ t4.if4.true) p.answer-addresses2.ensures
 
 returns-5 : tie.Need-returns-5
 unfolding answer_text
@@ -54,7 +54,7 @@ returns-5 c =
     let e1 = ne_eqb _ _ t1.if1.false in
     let e2 = ne_eqb _ _ t2.if2.false in
     let e3 = ne_eqb _ _ t3.if3.false in
-    simp (e1, e2, e3, ne_eqb _ _ t4.if4.false, eq-eq _ _ t5.if5.true)
+    simp (e1, e2, e3, ne_eqb _ _ t4.if4.false, eq-eqb _ _ t5.if5.true)
     (puts-as (ap number_text p.before.params-fault.ensures) p.put-decimal.ensures)
 
 returns-6 : tie.Need-returns-6

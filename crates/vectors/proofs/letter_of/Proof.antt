@@ -1,6 +1,6 @@
 -- `vectors::letter_of` meets its contract: the tests in order. Assumes nothing.
 use borrow.Author.Rules.{rules}
-use borrow.Author.Tests.{lt-ltb, le-ltb, eq-eq, ne_eqb}
+use borrow.Author.Tests.{lt-ltb, le-ltb, eq-eqb, ne_eqb}
 use Rattle.vectors.proofs.letter_of.Statement.{statement}
 use Rattle.vectors.proofs.letter_of.Tie as tie
 
@@ -11,7 +11,7 @@ returns-2 : tie.Need-returns-2
 returns-2 c =
     let p2 = c.before.before in
     let p1 = p2.before.before in
-    simp (le-ltb _ _ p1.if1.false, eq-eq _ _ p2.if2.true) c.known.ensures
+    simp (le-ltb _ _ p1.if1.false, eq-eqb _ _ p2.if2.true) c.known.ensures
 
 returns-3 : tie.Need-returns-3
 returns-3 c =

@@ -1,6 +1,6 @@
 -- `vectors::put_hex` meets its contract: by whether there are octets. Assumes nothing.
 use borrow.Author.Rules.{rules}
-use borrow.Author.Tests.{eq-eq, ne_eqb}
+use borrow.Author.Tests.{eq-eqb, ne_eqb}
 use Rattle.chars.specs.PutsLaws.{puts_then}
 use Rattle.vectors.proofs.put_hex.Statement.{statement}
 use Rattle.vectors.proofs.put_hex.Tie as tie
@@ -8,7 +8,7 @@ use Rattle.vectors.proofs.put_hex.Tie as tie
 returns : tie.Need-returns
 returns c =
     let p = c.before.before in
-    simp (eq-eq _ _ p.before.before.before.if1.true) p.put_all_lem.ensures.1
+    simp (eq-eqb _ _ p.before.before.before.if1.true) p.put_all_lem.ensures.1
 
 returns-2 : tie.Need-returns-2
 returns-2 c =

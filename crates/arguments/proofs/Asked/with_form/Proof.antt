@@ -1,16 +1,16 @@
 -- `arguments::Asked::with_form` meets its contract: the tests in order. Assumes nothing.
 use borrow.Author.Rules.{rules}
-use borrow.Author.Tests.{eq-eq, ne_eqb}
+use borrow.Author.Tests.{eq-eqb, ne_eqb}
 use Rattle.arguments.proofs.Asked.with_form.Statement.{statement}
 use Rattle.arguments.proofs.Asked.with_form.Tie as tie
 
 returns : tie.Need-returns
-returns c = simp (eq-eq _ _ c.if1.true)
+returns c = simp (eq-eqb _ _ c.if1.true)
 
 returns-2 : tie.Need-returns-2
 returns-2 c =
     let p1 = c.before.before in
-    simp (ne_eqb _ _ p1.if1.false, eq-eq _ _ c.if2.true)
+    simp (ne_eqb _ _ p1.if1.false, eq-eqb _ _ c.if2.true)
 
 returns-3 : tie.Need-returns-3
 returns-3 c =

@@ -1,7 +1,7 @@
 -- `arguments::Asked::with_heard` meets its contract: the tests in order. Assumes nothing.
 use mathlib.Core.Path.{sym, ◌∙◌}
 use borrow.Author.Rules.{rules}
-use borrow.Author.Tests.{eq-eq, ne_eqb}
+use borrow.Author.Tests.{eq-eqb, ne_eqb}
 use Rattle.arguments.proofs.Asked.with_heard.Statement.{statement}
 use Rattle.arguments.proofs.Asked.with_heard.Tie as tie
 
@@ -12,7 +12,7 @@ returns-2 : tie.Need-returns-2
 returns-2 c =
     let n = c.before in
     let l = n.before in
-    simp (l.if1.false, eq-eq _ _ (sym n.option-named.ensures ∙ c.if2.true))
+    simp (l.if1.false, eq-eqb _ _ (sym n.option-named.ensures ∙ c.if2.true))
 
 returns-3 : tie.Need-returns-3
 returns-3 c =
@@ -20,7 +20,7 @@ returns-3 c =
     let n = e.before in
     let l = n.before in
     let told = n.option-named.ensures in
-    simp (l.if1.false, ne_eqb _ _ (λ q. e.if2.false (told ∙ q)), eq-eq _ _ (sym told ∙ c.if3.true))
+    simp (l.if1.false, ne_eqb _ _ (λ q. e.if2.false (told ∙ q)), eq-eqb _ _ (sym told ∙ c.if3.true))
 
 returns-4 : tie.Need-returns-4
 returns-4 c =

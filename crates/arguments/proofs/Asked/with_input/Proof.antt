@@ -1,14 +1,14 @@
 -- `arguments::Asked::with_input` meets its contract: the tests in order. Assumes nothing.
 use mathlib.Core.Path.{sym, ◌∙◌}
 use borrow.Author.Rules.{rules}
-use borrow.Author.Tests.{eq-eq, ne_eqb}
+use borrow.Author.Tests.{eq-eqb, ne_eqb}
 use Rattle.arguments.proofs.Asked.with_input.Statement.{statement}
 use Rattle.arguments.proofs.Asked.with_input.Tie as tie
 
 returns : tie.Need-returns
 returns c =
     let p1 = c.before in
-    simp (eq-eq _ _ p1.if1.true) c.but.ensures
+    simp (eq-eqb _ _ p1.if1.true) c.but.ensures
 
 returns-2 : tie.Need-returns-2
 returns-2 c =

@@ -1,10 +1,10 @@
 -- `arguments::ends::is_readless` meets its contract: the tests in order. Assumes nothing.
-use borrow.Author.Tests.{eq-eq, ne_eqb}
+use borrow.Author.Tests.{eq-eqb, ne_eqb}
 use Rattle.arguments.proofs.ends.is_readless.Statement.{statement}
 use Rattle.arguments.proofs.ends.is_readless.Tie as tie
 
 returns : tie.Need-returns
-returns c = rw (eq-eq _ _ c.if1.true)
+returns c = rw (eq-eqb _ _ c.if1.true)
 
 returns-2 : tie.Need-returns-2
 returns-2 c = rw (ne_eqb _ _ c.before.if1.false, c.if2.true)

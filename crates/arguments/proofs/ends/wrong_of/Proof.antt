@@ -1,7 +1,7 @@
 -- `arguments::ends::wrong_of` meets its contract: the tests in order. Assumes nothing.
 use mathlib.Core.Path.{sym, ◌∙◌}
 use borrow.Author.Rules.{rules}
-use borrow.Author.Tests.{eq-eq, ne_eqb}
+use borrow.Author.Tests.{eq-eqb, ne_eqb}
 use Rattle.arguments.specs.Line.{wrong_of}
 use Rattle.arguments.proofs.ends.wrong_of.Statement.{statement}
 use Rattle.arguments.proofs.ends.wrong_of.Tie as tie
@@ -14,7 +14,7 @@ returns-2 : tie.Need-returns-2
 unfolding wrong_of
 returns-2 c =
     let p1 = c.before.before in
-    simp (p1.if1.false, eq-eq _ _ c.if2.true)
+    simp (p1.if1.false, eq-eqb _ _ c.if2.true)
 
 returns-3 : tie.Need-returns-3
 unfolding wrong_of

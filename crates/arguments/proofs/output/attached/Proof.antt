@@ -1,7 +1,7 @@
 -- `arguments::output::attached` meets its contract: the tests in order. Assumes nothing.
 use mathlib.Core.Path.{ap, ◌∙◌}
 use borrow.Author.Rules.{rules}
-use borrow.Author.Tests.{eq-eq, ne_eqb, le-leb, lt-leb}
+use borrow.Author.Tests.{eq-eqb, ne_eqb, le-leb, lt-leb}
 use Rattle.octets.specs.ListsLaws.{take_rest}
 use Rattle.arguments.specs.Tables.{is_dash}
 use Rattle.arguments.specs.Line.{attached}
@@ -10,7 +10,7 @@ use Rattle.arguments.proofs.output.attached.Tie as tie
 
 returns : tie.Need-returns
 unfolding attached
-returns c = simp (eq-eq _ _ c.before.if1.true) c.but.ensures
+returns c = simp (eq-eqb _ _ c.before.if1.true) c.but.ensures
 
 returns-2 : tie.Need-returns-2
 unfolding attached
@@ -25,7 +25,7 @@ returns-3 c =
     let p3 = c.before in
     let p2 = p3.before in
     let p1 = p2.before.before in
-    simp (ne_eqb _ _ p1.if1.false, eq-eq _ _ p2.if2.false, le-leb _ _ p3.if3.true) c.but3.ensures
+    simp (ne_eqb _ _ p1.if1.false, eq-eqb _ _ p2.if2.false, le-leb _ _ p3.if3.true) c.but3.ensures
 
 returns-4 : tie.Need-returns-4
 unfolding attached
@@ -35,7 +35,7 @@ returns-4 c =
     let p1 = p2.before.before in
     let a = p1.before.before.args in
     let e = c.is-dash.ensures ∙ ap is_dash (take_rest a.front a.word.now) in
-    simp (ne_eqb _ _ p1.if1.false, eq-eq _ _ p2.if2.false, lt-leb _ _ p3.if3.false, e)
+    simp (ne_eqb _ _ p1.if1.false, eq-eqb _ _ p2.if2.false, lt-leb _ _ p3.if3.false, e)
 
 pub attached-spec : {M : Type 1} → statement M
 attached-spec =

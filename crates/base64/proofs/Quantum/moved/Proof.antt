@@ -1,6 +1,6 @@
 -- `base64::Quantum::moved` meets its contract: the tests in order. Assumes nothing.
 use borrow.Author.Rules.{rules}
-use borrow.Author.Tests.{eq-eq, ne_eqb}
+use borrow.Author.Tests.{eq-eqb, ne_eqb}
 use mathlib.Core.Path.{sym, ap, ◌∙◌}
 use Prim.Native.Nat.{ℕ}
 use Rattle.base64.specs.Base64.{moved, filled}
@@ -15,7 +15,7 @@ returns-2 : tie.Need-returns-2
 unfolding moved
 returns-2 c =
     let other = c.before.before in
-    simp (sym other.before.is-blank.ensures ∙ other.if1.false, eq-eq _ _ c.before.if2.true) c.padded.ensures
+    simp (sym other.before.is-blank.ensures ∙ other.if1.false, eq-eqb _ _ c.before.if2.true) c.padded.ensures
 
 returns-3 : tie.Need-returns-3
 unfolding moved

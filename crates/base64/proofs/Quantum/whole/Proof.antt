@@ -1,10 +1,10 @@
 -- `base64::Quantum::whole` meets its contract: the tests in order. Assumes nothing.
-use borrow.Author.Tests.{eq-eq, ne_eqb}
+use borrow.Author.Tests.{eq-eqb, ne_eqb}
 use Rattle.base64.proofs.Quantum.whole.Statement.{statement}
 use Rattle.base64.proofs.Quantum.whole.Tie as tie
 
 returns : tie.Need-returns
-returns c = simp (eq-eq _ _ c.if1.true)
+returns c = simp (eq-eqb _ _ c.if1.true)
 
 returns-2 : tie.Need-returns-2
 returns-2 c = simp (ne_eqb _ _ c.before.if1.false)

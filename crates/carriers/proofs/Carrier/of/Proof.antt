@@ -1,7 +1,7 @@
 -- `carriers::Carrier::of` meets its contract: the tests in order. Assumes nothing.
 use mathlib.Core.Path.{◌≡◌}
 use Prim.Native.Nat.{ℕ}
-use borrow.Author.Tests.{eq-eq, ne_eqb}
+use borrow.Author.Tests.{eq-eqb, ne_eqb}
 use Rattle.numbers.specs.Refusal as refusal
 use Rattle.carriers.specs.declared.Chosen.{Chosen}
 use Rattle.carriers.specs.Carriers.{chosen_of}
@@ -16,27 +16,27 @@ both n r e = (e, (chosen-chooses refusal.carrier n r e, chosen-chooses refusal.s
 
 returns : tie.Need-returns
 unfolding chosen_of
-returns c = both _ _ (simp (eq-eq _ _ c.if1.true))
+returns c = both _ _ (simp (eq-eqb _ _ c.if1.true))
 
 returns-2 : tie.Need-returns-2
 unfolding chosen_of
-returns-2 c = both _ _ (simp (ne_eqb _ _ c.before.if1.false, eq-eq _ _ c.if2.true))
+returns-2 c = both _ _ (simp (ne_eqb _ _ c.before.if1.false, eq-eqb _ _ c.if2.true))
 
 returns-3 : tie.Need-returns-3
 unfolding chosen_of
-returns-3 c = both _ _ (simp (ne_eqb _ _ c.before.before.if1.false, ne_eqb _ _ c.before.if2.false, eq-eq _ _ c.if3.true))
+returns-3 c = both _ _ (simp (ne_eqb _ _ c.before.before.if1.false, ne_eqb _ _ c.before.if2.false, eq-eqb _ _ c.if3.true))
 
 returns-4 : tie.Need-returns-4
 unfolding chosen_of
 returns-4 c =
     both _ _
-    (simp (ne_eqb _ _ c.before.before.before.if1.false, ne_eqb _ _ c.before.before.if2.false, ne_eqb _ _ c.before.if3.false, eq-eq _ _ c.if4.true))
+    (simp (ne_eqb _ _ c.before.before.before.if1.false, ne_eqb _ _ c.before.before.if2.false, ne_eqb _ _ c.before.if3.false, eq-eqb _ _ c.if4.true))
 
 returns-5 : tie.Need-returns-5
 unfolding chosen_of
 returns-5 c =
     both _ _
-    (simp (ne_eqb _ _ c.before.before.before.before.if1.false, ne_eqb _ _ c.before.before.before.if2.false, ne_eqb _ _ c.before.before.if3.false, ne_eqb _ _ c.before.if4.false, eq-eq _ _ c.if5.true))
+    (simp (ne_eqb _ _ c.before.before.before.before.if1.false, ne_eqb _ _ c.before.before.before.if2.false, ne_eqb _ _ c.before.before.if3.false, ne_eqb _ _ c.before.if4.false, eq-eqb _ _ c.if5.true))
 
 returns-6 : tie.Need-returns-6
 unfolding chosen_of

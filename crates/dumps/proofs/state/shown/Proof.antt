@@ -1,5 +1,5 @@
 -- `dumps::state::shown` meets its contract: the tests in order. Assumes nothing.
-use borrow.Author.Tests.{eq-eq, le-ltb, lt-ltb, ne_eqb}
+use borrow.Author.Tests.{eq-eqb, le-ltb, lt-ltb, ne_eqb}
 use Rattle.dumps.specs.States.{shown_of}
 use Rattle.dumps.proofs.state.shown.Statement.{statement}
 use Rattle.dumps.proofs.state.shown.Tie as tie
@@ -18,7 +18,7 @@ returns-3 c =
     let p3 = c.before in
     let p2 = p3.before in
     let p1 = p2.before in
-    simp (le-ltb _ _ p1.if1.false, le-ltb _ _ p2.if2.false, p3.if3.true, eq-eq _ _ c.if4.true)
+    simp (le-ltb _ _ p1.if1.false, le-ltb _ _ p2.if2.false, p3.if3.true, eq-eqb _ _ c.if4.true)
 
 returns-4 : tie.Need-returns-4
 unfolding shown_of

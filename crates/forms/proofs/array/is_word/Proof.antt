@@ -1,7 +1,7 @@
 -- `forms::array::is_word` meets its contract: the tests in order. Assumes nothing.
 use mathlib.Core.Path.{sym, ◌∙◌}
 use borrow.Author.Rules.{rules}
-use borrow.Author.Tests.{eq-eq, ne_eqb}
+use borrow.Author.Tests.{eq-eqb, ne_eqb}
 use Rattle.forms.specs.Arrays.{word}
 use Rattle.forms.specs.ArraysLaws.{word-last}
 use Rattle.forms.proofs.array.is_word.Statement.{statement}
@@ -26,7 +26,7 @@ returns-3 c =
     let p3 = p4.before in
     let p2 = p3.before in
     let p1 = p2.before in
-    simp (sym p1.is-decimal.ensures ∙ p2.if1.false, sym p3.is-letter.ensures ∙ p4.if2.false, eq-eq _ _ c.if3.true)
+    simp (sym p1.is-decimal.ensures ∙ p2.if1.false, sym p3.is-letter.ensures ∙ p4.if2.false, eq-eqb _ _ c.if3.true)
 
 returns-4 : tie.Need-returns-4
 unfolding word
@@ -40,7 +40,7 @@ returns-4 c =
       sym p1.is-decimal.ensures ∙ p2.if1.false,
       sym p3.is-letter.ensures ∙ p4.if2.false,
       ne_eqb _ _ p5.if3.false,
-      eq-eq _ _ c.if4.true,
+      eq-eqb _ _ c.if4.true,
     )
 
 returns-5 : tie.Need-returns-5

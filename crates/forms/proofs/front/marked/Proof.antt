@@ -1,23 +1,23 @@
 -- `forms::front::marked` meets its contract: the tests in order. Assumes nothing.
-use borrow.Author.Tests.{eq-eq, ne_eqb}
+use borrow.Author.Tests.{eq-eqb, ne_eqb}
 use Rattle.forms.specs.Fronts.{marked}
 use Rattle.forms.proofs.front.marked.Statement.{statement}
 use Rattle.forms.proofs.front.marked.Tie as tie
 
 returns : tie.Need-returns
 unfolding marked
-returns c = simp (eq-eq _ _ c.if1.true)
+returns c = simp (eq-eqb _ _ c.if1.true)
 
 returns-2 : tie.Need-returns-2
 unfolding marked
-returns-2 c = simp (ne_eqb _ _ c.before.if1.false, eq-eq _ _ c.if2.true)
+returns-2 c = simp (ne_eqb _ _ c.before.if1.false, eq-eqb _ _ c.if2.true)
 
 returns-3 : tie.Need-returns-3
 unfolding marked
 returns-3 c =
     let p2 = c.before in
     let p1 = p2.before in
-    simp (ne_eqb _ _ p1.if1.false, ne_eqb _ _ p2.if2.false, eq-eq _ _ c.if3.true)
+    simp (ne_eqb _ _ p1.if1.false, ne_eqb _ _ p2.if2.false, eq-eqb _ _ c.if3.true)
 
 returns-4 : tie.Need-returns-4
 unfolding marked

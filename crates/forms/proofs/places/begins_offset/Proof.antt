@@ -1,14 +1,14 @@
 -- `forms::places::begins_offset` meets its contract: the tests in order. Assumes nothing.
 use mathlib.Core.Path.{sym, ◌∙◌}
 use borrow.Author.Rules.{rules}
-use borrow.Author.Tests.{eq-eq, ne_eqb}
+use borrow.Author.Tests.{eq-eqb, ne_eqb}
 use Rattle.forms.specs.Places.{begins_offset}
 use Rattle.forms.proofs.places.begins_offset.Statement.{statement}
 use Rattle.forms.proofs.places.begins_offset.Tie as tie
 
 returns : tie.Need-returns
 unfolding begins_offset
-returns c = simp (eq-eq _ _ c.if1.true)
+returns c = simp (eq-eqb _ _ c.if1.true)
 
 returns-2 : tie.Need-returns-2
 unfolding begins_offset

@@ -1,5 +1,5 @@
 -- `forms::places::is_blank` meets its contract: the tests in order. Assumes nothing.
-use borrow.Author.Tests.{eq-eq, ne_eqb}
+use borrow.Author.Tests.{eq-eqb, ne_eqb}
 use Rattle.forms.specs.Places.{blank}
 use Rattle.forms.specs.PlacesLaws.{blank-break}
 use Rattle.forms.proofs.places.is_blank.Statement.{statement}
@@ -7,18 +7,18 @@ use Rattle.forms.proofs.places.is_blank.Tie as tie
 
 returns : tie.Need-returns
 unfolding blank
-returns c = simp (eq-eq _ _ c.if1.true)
+returns c = simp (eq-eqb _ _ c.if1.true)
 
 returns-2 : tie.Need-returns-2
 unfolding blank
-returns-2 c = simp (ne_eqb _ _ c.before.if1.false, eq-eq _ _ c.if2.true)
+returns-2 c = simp (ne_eqb _ _ c.before.if1.false, eq-eqb _ _ c.if2.true)
 
 returns-3 : tie.Need-returns-3
 unfolding blank
 returns-3 c =
     let p2 = c.before in
     let p1 = p2.before in
-    simp (ne_eqb _ _ p1.if1.false, ne_eqb _ _ p2.if2.false, eq-eq _ _ c.if3.true)
+    simp (ne_eqb _ _ p1.if1.false, ne_eqb _ _ p2.if2.false, eq-eqb _ _ c.if3.true)
 
 returns-4 : tie.Need-returns-4
 returns-4 c =

@@ -1,7 +1,7 @@
 -- `forms::places::is_control` meets its contract: the tests in order. Assumes nothing.
 use mathlib.Core.Path.{sym, ◌∙◌}
 use borrow.Author.Rules.{rules}
-use borrow.Author.Tests.{eq-eq, ne_eqb}
+use borrow.Author.Tests.{eq-eqb, ne_eqb}
 use Rattle.forms.specs.Places.{control}
 use Rattle.forms.proofs.places.is_control.Statement.{statement}
 use Rattle.forms.proofs.places.is_control.Tie as tie
@@ -15,7 +15,7 @@ unfolding control
 returns-2 c =
     let p2 = c.before in
     let p1 = p2.before in
-    simp (sym p1.is-blank.ensures ∙ p2.if1.false, eq-eq _ _ c.if2.true)
+    simp (sym p1.is-blank.ensures ∙ p2.if1.false, eq-eqb _ _ c.if2.true)
 
 returns-3 : tie.Need-returns-3
 unfolding control
@@ -23,7 +23,7 @@ returns-3 c =
     let p3 = c.before in
     let p2 = p3.before in
     let p1 = p2.before in
-    simp (sym p1.is-blank.ensures ∙ p2.if1.false, ne_eqb _ _ p3.if2.false, eq-eq _ _ c.if3.true)
+    simp (sym p1.is-blank.ensures ∙ p2.if1.false, ne_eqb _ _ p3.if2.false, eq-eqb _ _ c.if3.true)
 
 returns-4 : tie.Need-returns-4
 unfolding control
@@ -32,7 +32,7 @@ returns-4 c =
     let p3 = p4.before in
     let p2 = p3.before in
     let p1 = p2.before in
-    simp (sym p1.is-blank.ensures ∙ p2.if1.false, ne_eqb _ _ p3.if2.false, ne_eqb _ _ p4.if3.false, eq-eq _ _ c.if4.true)
+    simp (sym p1.is-blank.ensures ∙ p2.if1.false, ne_eqb _ _ p3.if2.false, ne_eqb _ _ p4.if3.false, eq-eqb _ _ c.if4.true)
 
 returns-5 : tie.Need-returns-5
 unfolding control

@@ -1,6 +1,6 @@
 -- `forms::places::is_wide` meets its contract: the tests in order. Assumes nothing.
 use borrow.Author.Rules.{rules}
-use borrow.Author.Tests.{eq-eq, le-ltb, lt-ltb, ne_eqb}
+use borrow.Author.Tests.{eq-eqb, le-ltb, lt-ltb, ne_eqb}
 use Rattle.forms.specs.Places.{wide_text}
 use Rattle.forms.specs.PlacesLaws.{wide-second}
 use Rattle.forms.proofs.places.is_wide.Statement.{statement}
@@ -12,7 +12,7 @@ returns c = simp (lt-ltb _ _ c.if1.true)
 
 returns-2 : tie.Need-returns-2
 unfolding wide_text
-returns-2 c = simp (le-ltb _ _ c.before.before.before.if1.false, eq-eq _ _ c.before.if2.true)
+returns-2 c = simp (le-ltb _ _ c.before.before.before.if1.false, eq-eqb _ _ c.before.if2.true)
 
 returns-3 : tie.Need-returns-3
 returns-3 c =

@@ -1,25 +1,25 @@
 -- `groups::escapes::next` meets its contract: the tests in order. Assumes nothing.
 use borrow.Author.Rules.{rules}
-use borrow.Author.Tests.{eq-eq, ne_eqb}
+use borrow.Author.Tests.{eq-eqb, ne_eqb}
 use Rattle.groups.proofs.escapes.next.Statement.{statement}
 use Rattle.groups.proofs.escapes.next.Tie as tie
 
 returns : tie.Need-returns
-returns c = simp (eq-eq _ _ c.before.if1.true, eq-eq _ _ c.if2.true)
+returns c = simp (eq-eqb _ _ c.before.if1.true, eq-eqb _ _ c.if2.true)
 
 returns-2 : tie.Need-returns-2
-returns-2 c = simp (eq-eq _ _ c.before.if1.true, ne_eqb _ _ c.if2.false)
+returns-2 c = simp (eq-eqb _ _ c.before.if1.true, ne_eqb _ _ c.if2.false)
 
 returns-3 : tie.Need-returns-3
 returns-3 c =
     let p3 = c.before in
-    simp (ne_eqb _ _ p3.before.if1.false, eq-eq _ _ p3.if3.true) c.digit.ensures
+    simp (ne_eqb _ _ p3.before.if1.false, eq-eqb _ _ p3.if3.true) c.digit.ensures
 
 returns-4 : tie.Need-returns-4
 returns-4 c =
     let p4 = c.before in
     let p3 = p4.before in
-    simp (ne_eqb _ _ p3.before.if1.false, ne_eqb _ _ p3.if3.false, eq-eq _ _ p4.if4.true) c.digit2.ensures
+    simp (ne_eqb _ _ p3.before.if1.false, ne_eqb _ _ p3.if3.false, eq-eqb _ _ p4.if4.true) c.digit2.ensures
 
 returns-5 : tie.Need-returns-5
 returns-5 c =

@@ -1,12 +1,12 @@
 -- `lines::listed::put_reason_part` meets its contract: nothing, or the reason. Assumes nothing.
 use borrow.Author.Rules.{rules}
-use borrow.Author.Tests.{eq-eq, ne_eqb}
+use borrow.Author.Tests.{eq-eqb, ne_eqb}
 use Rattle.chars.specs.PutsLaws.{puts_none, puts_then}
 use Rattle.lines.proofs.listed.put_reason_part.Statement.{statement}
 use Rattle.lines.proofs.listed.put_reason_part.Tie as tie
 
 returns : tie.Need-returns
-returns c = simp (eq-eq _ _ c.before.if1.true) (puts_none _ _ c.lesser.ensures)
+returns c = simp (eq-eqb _ _ c.before.if1.true) (puts_none _ _ c.lesser.ensures)
 
 returns-2 : tie.Need-returns-2
 returns-2 c =

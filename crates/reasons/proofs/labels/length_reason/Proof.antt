@@ -1,10 +1,10 @@
 -- `reasons::labels::length_reason` meets its contract. Assumes nothing.
-use borrow.Author.Tests.{eq-eq, ne_eqb, le-leb, lt-leb}
+use borrow.Author.Tests.{eq-eqb, ne_eqb, le-leb, lt-leb}
 use Rattle.reasons.proofs.labels.length_reason.Statement.{statement}
 use Rattle.reasons.proofs.labels.length_reason.Tie as tie
 
 returns : tie.Need-returns
-returns c = simp (eq-eq _ _ c.if1.true)
+returns c = simp (eq-eqb _ _ c.if1.true)
 
 returns-2 : tie.Need-returns-2
 returns-2 c = simp (ne_eqb _ _ c.before.if1.false, le-leb _ _ c.if2.true)

@@ -1,13 +1,13 @@
 -- `reasons::labels::octet_reason` meets its contract. Assumes nothing.
-use borrow.Author.Tests.{eq-eq, ne_eqb}
+use borrow.Author.Tests.{eq-eqb, ne_eqb}
 use Rattle.reasons.proofs.labels.octet_reason.Statement.{statement}
 use Rattle.reasons.proofs.labels.octet_reason.Tie as tie
 
 returns : tie.Need-returns
-returns c = simp (eq-eq _ _ c.if1.true)
+returns c = simp (eq-eqb _ _ c.if1.true)
 
 returns-2 : tie.Need-returns-2
-returns-2 c = simp (ne_eqb _ _ c.before.if1.false, eq-eq _ _ c.if2.true)
+returns-2 c = simp (ne_eqb _ _ c.before.if1.false, eq-eqb _ _ c.if2.true)
 
 returns-3 : tie.Need-returns-3
 returns-3 c = simp (ne_eqb _ _ c.before.if1.false, ne_eqb _ _ c.if2.false)

@@ -1,12 +1,12 @@
 -- `reasons::labels::text_octet` meets its contract. Assumes nothing.
 use borrow.Author.Rules.{rules}
-use borrow.Author.Tests.{eq-eq}
+use borrow.Author.Tests.{eq-eqb}
 use Rattle.reasons.specs.NamesLaws.{octet-dot, octet-hyphen, octet-letter, octet-other}
 use Rattle.reasons.proofs.labels.text_octet.Statement.{statement}
 use Rattle.reasons.proofs.labels.text_octet.Tie as tie
 
 returns : tie.Need-returns
-returns c = simp (eq-eq _ _ c.if1.true)
+returns c = simp (eq-eqb _ _ c.if1.true)
 
 returns-2 : tie.Need-returns-2
 returns-2 c = search (rules, octet-dot)

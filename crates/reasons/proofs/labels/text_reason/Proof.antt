@@ -1,6 +1,6 @@
 -- `reasons::labels::text_reason` meets its contract. Assumes nothing.
 use borrow.Author.Rules.{rules}
-use borrow.Author.Tests.{eq-eq}
+use borrow.Author.Tests.{eq-eqb}
 use Rattle.reasons.specs.NamesLaws.{text-dot, text-hyphen, text-within}
 use Rattle.reasons.specs.Names.{text_reason}
 use Rattle.reasons.proofs.labels.text_reason.Statement.{statement}
@@ -8,7 +8,7 @@ use Rattle.reasons.proofs.labels.text_reason.Tie as tie
 
 returns : tie.Need-returns
 unfolding text_reason
-returns c = simp (eq-eq _ _ c.if1.true)
+returns c = simp (eq-eqb _ _ c.if1.true)
 
 returns-2 : tie.Need-returns-2
 returns-2 c = search (rules, text-dot)

@@ -1,6 +1,6 @@
 -- `reasons::labels::wire_reason` meets its contract. Assumes nothing.
 use borrow.Author.Rules.{rules}
-use borrow.Author.Tests.{eq-eq}
+use borrow.Author.Tests.{eq-eqb}
 use Rattle.reasons.specs.NamesLaws.{wire-cut, wire-length, wire-label, wire-after}
 use Rattle.reasons.specs.Names.{wire_reason}
 use Rattle.reasons.proofs.labels.wire_reason.Statement.{statement}
@@ -8,7 +8,7 @@ use Rattle.reasons.proofs.labels.wire_reason.Tie as tie
 
 returns : tie.Need-returns
 unfolding wire_reason
-returns c = simp (eq-eq _ _ c.if1.true)
+returns c = simp (eq-eqb _ _ c.if1.true)
 
 returns-2 : tie.Need-returns-2
 returns-2 c = search (rules, wire-cut)

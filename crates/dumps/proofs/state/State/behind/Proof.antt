@@ -1,21 +1,21 @@
 -- `dumps::state::State::behind` meets its contract: the tests in order. Assumes nothing.
 use mathlib.Core.Path.{◌∙◌}
 use borrow.Author.Rules.{rules}
-use borrow.Author.Tests.{eq-eq, ne_eqb}
+use borrow.Author.Tests.{eq-eqb, ne_eqb}
 use Rattle.dumps.specs.States.{behind}
 use Rattle.dumps.proofs.state.State.behind.Statement.{statement}
 use Rattle.dumps.proofs.state.State.behind.Tie as tie
 
 returns : tie.Need-returns
 unfolding behind
-returns c = c.more.ensures ∙ simp (eq-eq _ _ c.before.if1.true)
+returns c = c.more.ensures ∙ simp (eq-eqb _ _ c.before.if1.true)
 
 returns-2 : tie.Need-returns-2
 unfolding behind
 returns-2 c =
     let p2 = c.before in
     let p1 = p2.before.before in
-    c.text.ensures ∙ simp (ne_eqb _ _ p1.if1.false, eq-eq _ _ p2.if2.true)
+    c.text.ensures ∙ simp (ne_eqb _ _ p1.if1.false, eq-eqb _ _ p2.if2.true)
 
 returns-3 : tie.Need-returns-3
 unfolding behind

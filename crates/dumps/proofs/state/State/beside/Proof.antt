@@ -1,7 +1,7 @@
 -- `dumps::state::State::beside` meets its contract: the tests in order. Assumes nothing.
 use mathlib.Core.Path.{sym, ◌∙◌}
 use borrow.Author.Rules.{rules}
-use borrow.Author.Tests.{eq-eq, le-leb, lt-leb, ne_eqb}
+use borrow.Author.Tests.{eq-eqb, le-leb, lt-leb, ne_eqb}
 use Rattle.dumps.specs.States.{beside}
 use Rattle.dumps.proofs.state.State.beside.Statement.{statement}
 use Rattle.dumps.proofs.state.State.beside.Tie as tie
@@ -24,7 +24,7 @@ returns-3 c =
     let p3 = c.before.before in
     let p2 = p3.before in
     let p1 = p2.before in
-    c.to.ensures ∙ simp (lt-leb _ _ p1.if1.false, sym p2.shown.ensures, eq-eq _ _ p3.if2.false)
+    c.to.ensures ∙ simp (lt-leb _ _ p1.if1.false, sym p2.shown.ensures, eq-eqb _ _ p3.if2.false)
 
 pub beside-spec : {M : Type 1} → statement M
 beside-spec =

@@ -1,7 +1,7 @@
 -- `dumps::state::State::broken` meets its contract: the tests in order. Assumes nothing.
 use mathlib.Core.Path.{◌∙◌}
 use borrow.Author.Rules.{rules}
-use borrow.Author.Tests.{eq-eq, le-ltb, lt-ltb, ne_eqb}
+use borrow.Author.Tests.{eq-eqb, le-ltb, lt-ltb, ne_eqb}
 use Rattle.dumps.specs.States.{broken}
 use Rattle.dumps.proofs.state.State.broken.Statement.{statement}
 use Rattle.dumps.proofs.state.State.broken.Tie as tie
@@ -15,14 +15,14 @@ unfolding broken
 returns-2 c =
     let p2 = c.before in
     let p1 = p2.before.before in
-    c.but2.ensures ∙ simp (eq-eq _ _ p1.if1.false, lt-ltb _ _ p2.if2.true)
+    c.but2.ensures ∙ simp (eq-eqb _ _ p1.if1.false, lt-ltb _ _ p2.if2.true)
 
 returns-3 : tie.Need-returns-3
 unfolding broken
 returns-3 c =
     let p2 = c.before in
     let p1 = p2.before.before in
-    c.columned.ensures ∙ simp (eq-eq _ _ p1.if1.false, le-ltb _ _ p2.if2.false)
+    c.columned.ensures ∙ simp (eq-eqb _ _ p1.if1.false, le-ltb _ _ p2.if2.false)
 
 pub broken-spec : {M : Type 1} → statement M
 broken-spec =

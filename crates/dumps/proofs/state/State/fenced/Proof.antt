@@ -1,14 +1,14 @@
 -- `dumps::state::State::fenced` meets its contract: the tests in order. Assumes nothing.
 use mathlib.Core.Path.{◌∙◌}
 use borrow.Author.Rules.{rules}
-use borrow.Author.Tests.{eq-eq, ne_eqb}
+use borrow.Author.Tests.{eq-eqb, ne_eqb}
 use Rattle.dumps.specs.States.{fenced}
 use Rattle.dumps.proofs.state.State.fenced.Statement.{statement}
 use Rattle.dumps.proofs.state.State.fenced.Tie as tie
 
 returns : tie.Need-returns
 unfolding fenced
-returns c = c.to.ensures ∙ simp (eq-eq _ _ c.before.if1.true)
+returns c = c.to.ensures ∙ simp (eq-eqb _ _ c.before.if1.true)
 
 returns-2 : tie.Need-returns-2
 unfolding fenced

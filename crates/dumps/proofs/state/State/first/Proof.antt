@@ -1,7 +1,7 @@
 -- `dumps::state::State::first` meets its contract: the tests in order. Assumes nothing.
 use mathlib.Core.Path.{sym, ◌∙◌}
 use borrow.Author.Rules.{rules}
-use borrow.Author.Tests.{eq-eq, ne_eqb}
+use borrow.Author.Tests.{eq-eqb, ne_eqb}
 use Rattle.dumps.specs.States.{first}
 use Rattle.dumps.proofs.state.State.first.Statement.{statement}
 use Rattle.dumps.proofs.state.State.first.Tie as tie
@@ -16,7 +16,7 @@ returns-2 c =
     let p3 = c.before in
     let p2 = p3.before in
     let p1 = p2.before in
-    c.to.ensures ∙ simp (p1.if1.false, p2.if2.true, eq-eq _ _ p3.if3.true)
+    c.to.ensures ∙ simp (p1.if1.false, p2.if2.true, eq-eqb _ _ p3.if3.true)
 
 returns-3 : tie.Need-returns-3
 unfolding first

@@ -2,7 +2,7 @@
 use mathlib.Core.Path.{sym, ◌∙◌}
 use mathlib.Core.Logic.{⊎_elim}
 use borrow.Author.Rules.{rules}
-use borrow.Author.Tests.{eq-eq, ne_eqb, not-false, not-true}
+use borrow.Author.Tests.{eq-eqb, ne_eqb, not-false, not-true}
 use Rattle.dumps.specs.States.{low}
 use Rattle.dumps.proofs.state.State.low.Statement.{statement}
 use Rattle.dumps.proofs.state.State.low.Tie as tie
@@ -35,10 +35,10 @@ returns-3 c =
     let p1 = valued.before.before in
     let digit = sym p1.before.is_digit.ensures ∙ not-false _ p1.if1.false in
     let value = sym valued.value.ensures.0 in
-    let blank = eq-eq _ _ p2.if2.false in
+    let blank = eq-eqb _ _ p2.if2.false in
     c.to2.ensures
     ∙ ⊎_elim
-    (λ e. simp (e.1, digit, value, sym shown.shown.ensures, blank, eq-eq _ _ e.0.taken))
+    (λ e. simp (e.1, digit, value, sym shown.shown.ensures, blank, eq-eqb _ _ e.0.taken))
     (λ e. simp (e.1, digit, value, sym shown.shown.ensures, blank, ne_eqb _ _ e.0.left))
     c.before.if3.branch
 

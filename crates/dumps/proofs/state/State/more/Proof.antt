@@ -1,7 +1,7 @@
 -- `dumps::state::State::more` meets its contract: the tests in order. Assumes nothing.
 use mathlib.Core.Path.{sym, ◌∙◌}
 use borrow.Author.Rules.{rules}
-use borrow.Author.Tests.{eq-eq, ne_eqb}
+use borrow.Author.Tests.{eq-eqb, ne_eqb}
 use Rattle.dumps.specs.StatesLaws.{class-digit}
 use Rattle.dumps.proofs.state.State.more.Statement.{statement}
 use Rattle.dumps.proofs.state.State.more.Tie as tie
@@ -11,7 +11,7 @@ returns c =
     let p3 = c.before in
     let p2 = p3.before.before in
     let p1 = p2.before.before in
-    c.beside.ensures ∙ simp (sym p1.class_of.ensures ∙ p2.enum-told3.given.1, eq-eq _ _ p3.if1.true)
+    c.beside.ensures ∙ simp (sym p1.class_of.ensures ∙ p2.enum-told3.given.1, eq-eqb _ _ p3.if1.true)
 
 high-requires : tie.Need-high-requires
 high-requires c κs =
@@ -24,7 +24,7 @@ returns-2 c =
     let p3 = c.before in
     let p2 = p3.before.before in
     let p1 = p2.before.before in
-    c.beside2.ensures ∙ simp (sym p1.class_of.ensures ∙ p2.enum-told4.given.1, eq-eq _ _ p3.if2.true)
+    c.beside2.ensures ∙ simp (sym p1.class_of.ensures ∙ p2.enum-told4.given.1, eq-eqb _ _ p3.if2.true)
 
 returns-3 : tie.Need-returns-3
 returns-3 c =

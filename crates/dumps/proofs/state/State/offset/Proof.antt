@@ -2,7 +2,7 @@
 use mathlib.Core.Path.{sym, ap, ◌∙◌}
 use mathlib.Core.Logic.{⊎_elim}
 use borrow.Author.Rules.{rules}
-use borrow.Author.Tests.{eq-eq, ne_eqb}
+use borrow.Author.Tests.{eq-eqb, ne_eqb}
 use Rattle.dumps.specs.Mode as mode
 use Rattle.dumps.specs.States.{alone, to}
 use Rattle.dumps.specs.StatesLaws.{class-digit}
@@ -28,7 +28,7 @@ returns-2 c =
     let p1 = p2.before.before in
     c.to.ensures
     ∙ ap (to mode.gap) p5.counted3.ensures
-    ∙ simp (sym p1.class_of.ensures ∙ p2.enum-told4.given.1, p3.if2.true, eq-eq _ _ p4.if3.true)
+    ∙ simp (sym p1.class_of.ensures ∙ p2.enum-told4.given.1, p3.if2.true, eq-eqb _ _ p4.if3.true)
 
 returns-3 : tie.Need-returns-3
 returns-3 c =

@@ -1,14 +1,14 @@
 -- `forms::array::After::after` meets its contract: the tests in order. Assumes nothing.
 use mathlib.Core.Path.{sym, ◌∙◌}
 use borrow.Author.Rules.{rules}
-use borrow.Author.Tests.{eq-eq, ne_eqb, lt-ltb, le-ltb}
+use borrow.Author.Tests.{eq-eqb, ne_eqb, lt-ltb, le-ltb}
 use Rattle.forms.specs.Arrays.{after}
 use Rattle.forms.proofs.array.After.after.Statement.{statement}
 use Rattle.forms.proofs.array.After.after.Tie as tie
 
 returns : tie.Need-returns
 unfolding after
-returns c = c.digits.ensures ∙ simp (eq-eq _ _ c.before.if1.true)
+returns c = c.digits.ensures ∙ simp (eq-eqb _ _ c.before.if1.true)
 
 returns-2 : tie.Need-returns-2
 unfolding after

@@ -1,7 +1,7 @@
 -- `forms::array::After::digits` meets its contract: the tests in order. Assumes nothing.
 use mathlib.Core.Path.{sym, ◌∙◌}
 use borrow.Author.Rules.{rules}
-use borrow.Author.Tests.{eq-eq, ne_eqb}
+use borrow.Author.Tests.{eq-eqb, ne_eqb}
 use Rattle.forms.specs.Arrays.{digits}
 use Rattle.forms.proofs.array.After.digits.Statement.{statement}
 use Rattle.forms.proofs.array.After.digits.Tie as tie
@@ -29,7 +29,7 @@ returns-3 c =
     let p3 = p4.before in
     let p2 = p3.before.before in
     let p1 = p2.before in
-    c.to.ensures ∙ simp (sym p1.is-decimal.ensures ∙ p2.if1.false, eq-eq _ _ p3.if2.false, sym p4.is-blank.ensures ∙ p5.if3.true)
+    c.to.ensures ∙ simp (sym p1.is-decimal.ensures ∙ p2.if1.false, eq-eqb _ _ p3.if2.false, sym p4.is-blank.ensures ∙ p5.if3.true)
 
 returns-4 : tie.Need-returns-4
 unfolding digits
@@ -39,7 +39,7 @@ returns-4 c =
     let p3 = p4.before in
     let p2 = p3.before.before in
     let p1 = p2.before in
-    c.awaited.ensures ∙ simp (sym p1.is-decimal.ensures ∙ p2.if1.false, eq-eq _ _ p3.if2.false, sym p4.is-blank.ensures ∙ p5.if3.false)
+    c.awaited.ensures ∙ simp (sym p1.is-decimal.ensures ∙ p2.if1.false, eq-eqb _ _ p3.if2.false, sym p4.is-blank.ensures ∙ p5.if3.false)
 
 pub digits-spec : {M : Type 1} → statement M
 digits-spec =

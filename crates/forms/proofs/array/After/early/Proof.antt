@@ -2,7 +2,7 @@
 use mathlib.Core.Path.{sym, ap, ◌∙◌}
 use mathlib.Core.Bool.{Bool}
 use borrow.Author.Rules.{rules}
-use borrow.Author.Tests.{eq-eq, ne_eqb}
+use borrow.Author.Tests.{eq-eqb, ne_eqb}
 use Rattle.forms.specs.Arrays.{awaited, early}
 use Rattle.forms.specs.ArraysLaws.{early-equals}
 use Rattle.forms.proofs.array.After.early.Statement.{statement}
@@ -10,7 +10,7 @@ use Rattle.forms.proofs.array.After.early.Tie as tie
 
 returns : tie.Need-returns
 unfolding early
-returns c = c.awaited.ensures ∙ simp (eq-eq _ _ c.before.if1.true)
+returns c = c.awaited.ensures ∙ simp (eq-eqb _ _ c.before.if1.true)
 
 returns-2 : tie.Need-returns-2
 unfolding early
@@ -20,7 +20,7 @@ returns-2 c =
     let p1 = p2.before.before in
     c.awaited2.ensures
     ∙ ap (λ (b : Bool). awaited b 2 p1.before.before.args.self) p3.is_is_word.ensures
-    ∙ simp (ne_eqb _ _ p1.if1.false, eq-eq _ _ p2.if2.true)
+    ∙ simp (ne_eqb _ _ p1.if1.false, eq-eqb _ _ p2.if2.true)
 
 returns-3 : tie.Need-returns-3
 unfolding early

@@ -1,5 +1,5 @@
 -- `forms::array::After::ended` meets its contract: the tests in order. Assumes nothing.
-use borrow.Author.Tests.{eq-eq, ne_eqb, lt-ltb, le-ltb}
+use borrow.Author.Tests.{eq-eqb, ne_eqb, lt-ltb, le-ltb}
 use Rattle.forms.specs.Arrays.{ended_of}
 use Rattle.forms.proofs.array.After.ended.Statement.{statement}
 use Rattle.forms.proofs.array.After.ended.Tie as tie
@@ -10,7 +10,7 @@ returns c = simp (lt-ltb _ _ c.if1.true)
 
 returns-2 : tie.Need-returns-2
 unfolding ended_of
-returns-2 c = simp (le-ltb _ _ c.before.before.if1.false, eq-eq _ _ c.if2.true)
+returns-2 c = simp (le-ltb _ _ c.before.before.if1.false, eq-eqb _ _ c.if2.true)
 
 returns-3 : tie.Need-returns-3
 unfolding ended_of

@@ -1,7 +1,7 @@
 -- `forms::array::After::late` meets its contract: the tests in order. Assumes nothing.
 use mathlib.Core.Path.{sym, ◌∙◌}
 use borrow.Author.Rules.{rules}
-use borrow.Author.Tests.{eq-eq, ne_eqb}
+use borrow.Author.Tests.{eq-eqb, ne_eqb}
 use Rattle.forms.specs.Arrays.{late}
 use Rattle.forms.specs.ArraysLaws.{late-close}
 use Rattle.forms.proofs.array.After.late.Statement.{statement}
@@ -16,7 +16,7 @@ returns c =
     let p3 = c.before in
     let p2 = p3.before in
     let p1 = p2.before in
-    c.digit.ensures ∙ simp (eq-eq _ _ p1.if1.true, sym p2.is-decimal.ensures ∙ p3.if2.true)
+    c.digit.ensures ∙ simp (eq-eqb _ _ p1.if1.true, sym p2.is-decimal.ensures ∙ p3.if2.true)
 
 returns-2 : tie.Need-returns-2
 unfolding late
@@ -24,7 +24,7 @@ returns-2 c =
     let p3 = c.before in
     let p2 = p3.before in
     let p1 = p2.before in
-    c.but.ensures ∙ simp (eq-eq _ _ p1.if1.true, sym p2.is-decimal.ensures ∙ p3.if2.false)
+    c.but.ensures ∙ simp (eq-eqb _ _ p1.if1.true, sym p2.is-decimal.ensures ∙ p3.if2.false)
 
 returns-3 : tie.Need-returns-3
 returns-3 c =

@@ -1,7 +1,7 @@
 -- `forms::front::Front::colon` meets its contract: the tests in order. Assumes nothing.
 use mathlib.Core.Path.{sym, ◌∙◌}
 use borrow.Author.Rules.{rules}
-use borrow.Author.Tests.{eq-eq, ne_eqb}
+use borrow.Author.Tests.{eq-eqb, ne_eqb}
 use Rattle.forms.specs.Fronts.{colon}
 use Rattle.forms.proofs.front.Front.colon.Statement.{statement}
 use Rattle.forms.proofs.front.Front.colon.Tie as tie
@@ -16,7 +16,7 @@ returns-2 c =
     let p3 = c.before in
     let p2 = p3.before in
     let p1 = p2.before in
-    c.is2.ensures ∙ simp (eq-eq _ _ p1.if1.false, sym p2.is_digit.ensures ∙ p3.if2.true)
+    c.is2.ensures ∙ simp (eq-eqb _ _ p1.if1.false, sym p2.is_digit.ensures ∙ p3.if2.true)
 
 returns-3 : tie.Need-returns-3
 unfolding colon
@@ -24,7 +24,7 @@ returns-3 c =
     let p3 = c.before in
     let p2 = p3.before in
     let p1 = p2.before in
-    c.is3.ensures ∙ simp (eq-eq _ _ p1.if1.false, sym p2.is_digit.ensures ∙ p3.if2.false)
+    c.is3.ensures ∙ simp (eq-eqb _ _ p1.if1.false, sym p2.is_digit.ensures ∙ p3.if2.false)
 
 pub colon-spec : {M : Type 1} → statement M
 colon-spec =

@@ -2,7 +2,7 @@
 use mathlib.Core.Path.{◌∙◌}
 use mathlib.Core.Logic.{inl, inr, ⊎_elim}
 use borrow.Author.Rules.{rules}
-use borrow.Author.Tests.{eq-eq}
+use borrow.Author.Tests.{eq-eqb}
 use Rattle.forms.specs.Fronts.{ex}
 use Rattle.forms.specs.FrontsLaws.{ex-other}
 use Rattle.forms.proofs.front.Front.ex.Statement.{statement}
@@ -10,7 +10,7 @@ use Rattle.forms.proofs.front.Front.ex.Tie as tie
 
 returns : tie.Need-returns
 unfolding ex
-returns c = c.to.ensures ∙ simp (c.before.before.before.if1.true, eq-eq _ _ c.before.if2.true)
+returns c = c.to.ensures ∙ simp (c.before.before.before.if1.true, eq-eqb _ _ c.before.if2.true)
 
 returns-2 : tie.Need-returns-2
 returns-2 c =

@@ -1,7 +1,7 @@
 -- `forms::front::Front::first` meets its contract: the tests in order. Assumes nothing.
 use mathlib.Core.Path.{sym, ◌∙◌}
 use borrow.Author.Rules.{rules}
-use borrow.Author.Tests.{eq-eq, ne_eqb}
+use borrow.Author.Tests.{eq-eqb, ne_eqb}
 use Rattle.forms.specs.Fronts.{first}
 use Rattle.forms.proofs.front.Front.first.Statement.{statement}
 use Rattle.forms.proofs.front.Front.first.Tie as tie
@@ -16,7 +16,7 @@ returns-2 c =
     let p3 = c.before in
     let p2 = p3.before in
     let p1 = p2.before in
-    c.ex.ensures ∙ simp (sym p1.is_digit.ensures ∙ p2.if1.false, eq-eq _ _ p3.if2.true)
+    c.ex.ensures ∙ simp (sym p1.is_digit.ensures ∙ p2.if1.false, eq-eqb _ _ p3.if2.true)
 
 returns-3 : tie.Need-returns-3
 unfolding first
@@ -25,7 +25,7 @@ returns-3 c =
     let p3 = p4.before in
     let p2 = p3.before in
     let p1 = p2.before in
-    c.ex2.ensures ∙ simp (sym p1.is_digit.ensures ∙ p2.if1.false, ne_eqb _ _ p3.if2.false, eq-eq _ _ p4.if3.true)
+    c.ex2.ensures ∙ simp (sym p1.is_digit.ensures ∙ p2.if1.false, ne_eqb _ _ p3.if2.false, eq-eqb _ _ p4.if3.true)
 
 returns-4 : tie.Need-returns-4
 unfolding first
@@ -35,7 +35,7 @@ returns-4 c =
     let p3 = p4.before in
     let p2 = p3.before in
     let p1 = p2.before in
-    c.to.ensures ∙ simp (sym p1.is_digit.ensures ∙ p2.if1.false, ne_eqb _ _ p3.if2.false, ne_eqb _ _ p4.if3.false, eq-eq _ _ p5.if4.true)
+    c.to.ensures ∙ simp (sym p1.is_digit.ensures ∙ p2.if1.false, ne_eqb _ _ p3.if2.false, ne_eqb _ _ p4.if3.false, eq-eqb _ _ p5.if4.true)
 
 returns-5 : tie.Need-returns-5
 unfolding first

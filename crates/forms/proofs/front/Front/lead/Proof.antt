@@ -1,7 +1,7 @@
 -- `forms::front::Front::lead` meets its contract: the tests in order. Assumes nothing.
 use mathlib.Core.Path.{sym, ◌∙◌}
 use borrow.Author.Rules.{rules}
-use borrow.Author.Tests.{eq-eq, ne_eqb}
+use borrow.Author.Tests.{eq-eqb, ne_eqb}
 use Rattle.forms.specs.Fronts.{lead}
 use Rattle.forms.proofs.front.Front.lead.Statement.{statement}
 use Rattle.forms.proofs.front.Front.lead.Tie as tie
@@ -25,7 +25,7 @@ returns-3 c =
     let p3 = p4.before in
     let p2 = p3.before in
     let p1 = p2.before in
-    simp (sym p1.is_digit.ensures ∙ p2.if1.false, sym p3.is-gap.ensures ∙ p4.if2.false, eq-eq _ _ c.if3.true)
+    simp (sym p1.is_digit.ensures ∙ p2.if1.false, sym p3.is-gap.ensures ∙ p4.if2.false, eq-eqb _ _ c.if3.true)
 
 returns-4 : tie.Need-returns-4
 unfolding lead
@@ -41,7 +41,7 @@ returns-4 c =
       sym p1.is_digit.ensures ∙ p2.if1.false,
       sym p3.is-gap.ensures ∙ p4.if2.false,
       ne_eqb _ _ p5.if3.false,
-      eq-eq _ _ p6.if4.true,
+      eq-eqb _ _ p6.if4.true,
     )
 
 returns-5 : tie.Need-returns-5
@@ -60,7 +60,7 @@ returns-5 c =
       sym p3.is-gap.ensures ∙ p4.if2.false,
       ne_eqb _ _ p5.if3.false,
       ne_eqb _ _ p6.if4.false,
-      eq-eq _ _ p7.if5.true,
+      eq-eqb _ _ p7.if5.true,
     )
 
 returns-6 : tie.Need-returns-6

@@ -2,7 +2,7 @@
 use mathlib.Core.Path.{ap, sym, ◌∙◌}
 use Prim.Native.Nat.{ℕ}
 use borrow.Author.Rules.{rules}
-use borrow.Author.Tests.{eq-eq, ne_eqb}
+use borrow.Author.Tests.{eq-eqb, ne_eqb}
 use Rattle.forms.specs.Fronts.{is, list}
 use Rattle.forms.proofs.front.Front.list.Statement.{statement}
 use Rattle.forms.proofs.front.Front.list.Tie as tie
@@ -28,7 +28,7 @@ returns-3 c =
     let p3 = p4.before in
     let p2 = p3.before in
     let p1 = p2.before in
-    c.to3.ensures ∙ simp (sym p1.is_digit.ensures ∙ p2.if1.false, sym p3.is-gap.ensures ∙ p4.if2.false, eq-eq _ _ p5.if3.true)
+    c.to3.ensures ∙ simp (sym p1.is_digit.ensures ∙ p2.if1.false, sym p3.is-gap.ensures ∙ p4.if2.false, eq-eqb _ _ p5.if3.true)
 
 returns-4 : tie.Need-returns-4
 unfolding list

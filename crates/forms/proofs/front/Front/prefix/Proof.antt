@@ -1,7 +1,7 @@
 -- `forms::front::Front::prefix` meets its contract: the tests in order. Assumes nothing.
 use mathlib.Core.Path.{sym, ◌∙◌}
 use borrow.Author.Rules.{rules}
-use borrow.Author.Tests.{eq-eq, ne_eqb}
+use borrow.Author.Tests.{eq-eqb, ne_eqb}
 use Rattle.forms.specs.Fronts.{prefix}
 use Rattle.forms.proofs.front.Front.prefix.Statement.{statement}
 use Rattle.forms.proofs.front.Front.prefix.Tie as tie
@@ -16,7 +16,7 @@ returns-2 c =
     let p3 = c.before in
     let p2 = p3.before in
     let p1 = p2.before in
-    c.is.ensures ∙ simp (sym p1.is_digit.ensures ∙ p2.if1.false, eq-eq _ _ p3.if2.true)
+    c.is.ensures ∙ simp (sym p1.is_digit.ensures ∙ p2.if1.false, eq-eqb _ _ p3.if2.true)
 
 returns-3 : tie.Need-returns-3
 unfolding prefix

@@ -1,7 +1,7 @@
 -- `forms::front::Front::second` meets its contract: the tests in order. Assumes nothing.
 use mathlib.Core.Path.{sym, ◌∙◌}
 use borrow.Author.Rules.{rules}
-use borrow.Author.Tests.{eq-eq, ne_eqb}
+use borrow.Author.Tests.{eq-eqb, ne_eqb}
 use Rattle.forms.specs.Fronts.{second_on}
 use Rattle.forms.proofs.front.Front.second.Statement.{statement}
 use Rattle.forms.proofs.front.Front.second.Tie as tie
@@ -11,7 +11,7 @@ unfolding second_on
 returns c =
     let p2 = c.before.before in
     let p1 = p2.before in
-    simp (sym p1.is_digit.ensures ∙ p2.if1.true, eq-eq _ _ c.if2.true)
+    simp (sym p1.is_digit.ensures ∙ p2.if1.true, eq-eqb _ _ c.if2.true)
 
 returns-2 : tie.Need-returns-2
 unfolding second_on
@@ -27,7 +27,7 @@ returns-3 c =
     let p3 = c.before in
     let p2 = p3.before.before in
     let p1 = p2.before in
-    c.is2.ensures ∙ simp (sym p1.is_digit.ensures ∙ p2.if1.false, eq-eq _ _ p3.if3.true)
+    c.is2.ensures ∙ simp (sym p1.is_digit.ensures ∙ p2.if1.false, eq-eqb _ _ p3.if3.true)
 
 returns-4 : tie.Need-returns-4
 unfolding second_on
