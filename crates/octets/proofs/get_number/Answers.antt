@@ -4,7 +4,7 @@ use Rattle.octets.specs.NumbersLaws.{number-one, number-two}
 use Rattle.octets.proofs.get_number.Goals as goal
 
 pub returns-then-width-eq1 : goal.returns-then-width-eq1
-returns-then-width-eq1 c = (search (rules, number-one), omega arith)
+returns-then-width-eq1 c = record { value = search (rules, number-one); upper_bound = omega arith }
 
 pub returns : goal.returns
-returns c = let e : ◌≡◌ {A = ℕ} c.args.width 2 = omega arith in (search (rules, number-two), omega arith)
+returns c = let e : ◌≡◌ {A = ℕ} c.args.width 2 = omega arith in record { value = search (rules, number-two); upper_bound = omega arith }

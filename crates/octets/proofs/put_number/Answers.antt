@@ -10,14 +10,13 @@ overflow_cast-v c =
 pub returns-then-width-eq1 : goal.returns-then-width-eq1
 returns-then-width-eq1 c = rw c.if-width-eq1.true c.put8.ensures
 
--- where the width is not 1 it is 2
-two : (c : goal.Else-width-eq1) → ◌≡◌ {A = ℕ} c.args.width 2
-two c = omega arith
-
 pub put16-requires : goal.put16-requires
 put16-requires c =
-    let h : c.args.v < 256 ^ 2 = rw (two c) at c.requires.width_nonzero.2 in
-    (omega (arith, two c), omega arith)
+    let two : ◌≡◌ {A = ℕ} c.args.width 2 = omega arith in
+    let h : c.args.v < 256 ^ 2 = rw two at c.requires.width_nonzero.2 in
+    (omega (arith, two), omega arith)
 
 pub returns : goal.returns
-returns c = rw (two c) c.put16.ensures
+returns c =
+    let two : ◌≡◌ {A = ℕ} c.args.width 2 = omega arith in
+    rw two c.put16.ensures
