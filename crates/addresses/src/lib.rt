@@ -1,6 +1,8 @@
 // Address lists: which addresses are unusable, which are kept in order, how many those are, and whether any is to be dropped
 // (RULES A1, A2). Multicast and host loopback addresses are dropped when read and nowhere else (RULES A3): only reading calls
 // `put_kept`; the writer asks `any_unusable` and refuses. Everything is over the width of an address, 4 or 16 octets.
+#![tactic(auto)]
+
 ghost use Rattle.std.specs.Prelude.{◌≡◌, ◌+◌, ◌≤◌, ◌<◌, length};
 ghost use Rattle.octets.specs.Over.{Wrote};
 ghost use Rattle.octets.specs.Lists.{flat};

@@ -1,6 +1,8 @@
 // What a call gives back that writes one lent buffer: 0 and how many octets it wrote at its front, or the number of a refusal, which changes no
 // octet (RULES T6, T7). A sheet that is refused by 22 has also the place at which its name is wrong (RULES T8). Nothing is tested here, and no
 // buffer is touched.
+#![tactic(auto)]
+
 ghost use Rattle.std.specs.Prelude.{◌≡◌};
 ghost use Rattle.answers.specs.Answers.{refuse, told};
 

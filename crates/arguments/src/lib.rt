@@ -1,6 +1,8 @@
 // The command line, taken word by word (docs/COMMAND.md). An argument is kept by its index; 0, the program's own name, stands for none.
 // What each word means and what is settled at the end is `arguments/Line`, which a reader can compute for any line; the system is asked only by
 // `first`, `with_argument` and `given`, of which the contracts say that their answer is what some arguments ask for.
+#![tactic(auto)]
+
 mod ends;
 mod output;
 mod tables;

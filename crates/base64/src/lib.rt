@@ -1,6 +1,8 @@
 // Octets given as base64 (RFC 4648 §4): characters of the standard alphabet, four to a quantum, the last quantum padded; blanks may stand anywhere
 // between them. A character moves the state of its quantum, and the octets that it completes are laid into a lent buffer. What no encoder writes
 // is refused: characters after the padding, and bits under it that are not zero (RFC 4648 §3.5).
+#![tactic(auto)]
+
 ghost use Rattle.std.specs.Prelude.{◌≡◌, ◌<◌};
 ghost use Rattle.base64.specs.Base64 as base64;
 ghost use Rattle.base64.specs.Base64.{Answered};

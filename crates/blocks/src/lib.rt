@@ -1,6 +1,8 @@
 // Blocks: where the fields of a block's body stand (RULES B1; in carrier 1 the body is one instance after its length).
 // A body is split where it lies: the answer holds offsets and lengths, and nothing is copied. The faults given here are those of the
 // layout: a field past the end, and what is no padding. What priority, name, addresses and parameters may be is not looked at here.
+#![tactic(auto)]
+
 ghost use Rattle.std.specs.Prelude.{◌≡◌, true, ◌+◌, ◌≤◌, ◌<◌, length};
 ghost use Rattle.carriers.specs.Carriers.{length_width, as_text};
 ghost use Rattle.carriers.specs.declared.Carrier.TheVariants.{Router};

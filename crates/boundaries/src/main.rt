@@ -5,6 +5,8 @@
 // discarded, the fault and the place; of a writing the number, the length and the place), the octets that it wrote, in hexadecimal or `-` for
 // none, and `kept` or `changed`, whether the rest of its buffer is as before. Where no whole case stands the line is `?`, the last one. At most
 // 1,048,576 octets are read.
+#![tactic(auto)]
+
 ghost use Rattle.std.specs.Prelude.{◌≡◌, true, ◌+◌, ◌≤◌, ◌<◌, length};
 ghost use Rattle.io.specs.Counts.{IsPrefixLen};
 ghost use Rattle.boundaries.specs.Filling.{all_filled};

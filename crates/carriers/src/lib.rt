@@ -1,5 +1,7 @@
 // The five carriers (RULES C1) and what differs between them as data: one table, with a row for each carrier. Lengths in octets and in
 // units of eight are two types that are never mixed (RULES B3); they are converted here alone, each way in one function.
+#![tactic(auto)]
+
 ghost use Rattle.std.specs.Prelude.{◌≡◌, ◌<◌, eqb};
 ghost use Rattle.numbers.specs.Refusal as refusal;
 ghost use Rattle.carriers.specs.Told.{Chooses};

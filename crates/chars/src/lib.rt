@@ -1,5 +1,7 @@
 // Characters and decimal numbers as text, written as far as the buffer has room: what has none is left out, and the index that is returned
 // then is the buffer's end (`Puts`). Nothing here knows what the text is of.
+#![tactic(auto)]
+
 ghost use Rattle.std.specs.Prelude.{◌≡◌, [], ◌∷◌};
 ghost use Rattle.io.specs.Counts.{IsPrefixLen};
 ghost use Rattle.chars.specs.Puts.{Puts};

@@ -2,6 +2,8 @@
 // `execute` is the whole program: it takes the arguments, and its answer is the exit status (0 done; 1 refused by a number, RULES R1 to
 // R44; 2 wrong use, an input that is no octets, or a file; 3 done, and with `--strict` the answer is no). A result is made whole in memory before any of it is written. What is read and what is written, no contract can
 // say; the work itself is that of `reading`, `writing` and `showing`.
+#![tactic(auto)]
+
 mod help;
 
 ghost use Rattle.vetting.specs.Vetting.{vet_of};

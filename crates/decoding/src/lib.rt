@@ -1,4 +1,6 @@
 // The octets of an input (docs/COMMAND.md, "Input"): as they are, or spelled by a text; and the options that hold the values which an input has.
+#![tactic(auto)]
+
 ghost use Rattle.std.specs.Prelude.{◌≡◌, ◌≤◌, ◌<◌, max, length};
 ghost use Rattle.decoding.specs.Decoding.{Answered, raw_of, read_of, added_of, at_value, line_of, lines_of, is_lines, values_of};
 

@@ -1,6 +1,8 @@
 // The C interface: libdnr. The contracts stand on the exported functions themselves; include/dnr.h declares them for C, and the gate
 // holds the header against this file and the structs it returns. A slice crosses as a pointer and a length; a null pointer goes with
 // length 0.
+#![tactic(auto)]
+
 ghost use Rattle.std.specs.Prelude.{length};
 ghost use Rattle.reading.specs.Reading.{read_of};
 ghost use Rattle.reading.specs.Result.{Reads};

@@ -1,6 +1,8 @@
 // Octets given as a hexadecimal dump (docs/COMMAND.md, "Dumps"): lines of an offset, octets and, in some forms, the same octets as text. A
 // character moves the state of the dump (`state`), and the octets that are completed are laid into a lent buffer. Nothing is taken on trust:
 // an offset must be the number of octets before its line, and a text column must show the octets beside it.
+#![tactic(auto)]
+
 ghost use Rattle.std.specs.Prelude.{◌≡◌, ◌-◌, ◌<◌, ◌≤◌, length};
 ghost use Rattle.dumps.specs.Dumps.{repeated_of, Filled, lay_of, take_of, Turned, Dumped};
 

@@ -1,5 +1,7 @@
 // What the command reads, writes and says: the input read whole, the result printed or saved in a file that is replaced whole or left as it
 // was, and messages on standard error with the exit status that goes with them. Nothing here knows what the octets mean.
+#![tactic(auto)]
+
 pub mod input;
 mod known;
 mod links;

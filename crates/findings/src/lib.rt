@@ -1,6 +1,8 @@
 // What is found amiss in the blocks of an area, for people: where the fault of a body stands, why a name is bad and which parameter is at fault
 // (RULES R20 to R29), where in the area an octet of joined data stands (RULES W4), and why a name of a sheet is bad (`sheet`). `records` and `reading` decide which fault it is; here it is only
 // told more closely, and `findings/Exactly` has that the number is theirs.
+#![tactic(auto)]
+
 pub mod sheet;
 
 ghost use Rattle.std.specs.Prelude.{◌≡◌, ℕ, ◌+◌, ◌≤◌, ◌<◌, ◌^◌, length};

@@ -1,5 +1,7 @@
 // The forms in which octets are given as text (docs/COMMAND.md, "Input"), told apart by what stands at the front of a text, and each read by the crate
 // of its form. Text that is in none of them is refused at the character at which it leaves the form that its front shows.
+#![tactic(auto)]
+
 ghost use Rattle.std.specs.Prelude.{◌≡◌, ◌<◌, length};
 ghost use Rattle.forms.specs.Forms as forms;
 ghost use Rattle.forms.specs.Forms.{as_of, list_of, braced_of, headed_of, read_of, Answered};

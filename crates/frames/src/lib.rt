@@ -2,6 +2,8 @@
 // carriers, in which lengths in octets and in units of eight are never mixed (RULES B3). An area where a header or a body runs past the
 // end cannot be framed (RULES R3). In carrier 1 the bodies are joined here (RULES W4; RFC 3396). Nothing here looks inside a body.
 // The number of every answer, 3 or 0, is that of specs/Told.
+#![tactic(auto)]
+
 ghost use Rattle.std.specs.Prelude.{◌≡◌, ◌↔◌, ◌+◌, ◌*◌, ◌≤◌, ◌<◌, length};
 ghost use Rattle.octets.specs.Numbers.{number_at};
 ghost use Rattle.octets.specs.Over.{Wrote};

@@ -1,6 +1,8 @@
 // Octets given as a list of hexadecimal digits in groups (docs/COMMAND.md, "Lists"): blanks, colons, commas or dashes between them, or 0x before
 // each. A character moves the state of the list (`state`), and the octets that are completed are laid into a lent buffer. A text whose groups
 // may be words or offsets is refused: in such a group the octets may stand in another order, or be none.
+#![tactic(auto)]
+
 ghost use Rattle.groups.specs.Groups.{lay_of, take_of, Turned, Grouped};
 
 pub mod escapes;

@@ -1,6 +1,8 @@
 // The values of options, as DHCP clients hand them to hooks, made options again (docs/COMMAND.md, "Input"). A value is the octets of an option
 // after its header; it gets its header back as writing has it (RULES E2, E3, W6): in carrier 1 as options 162 of 255 octets and a last one with
 // the rest, in carrier 3 with zeros up to a unit of eight. Nothing here looks inside a value.
+#![tactic(auto)]
+
 ghost use Rattle.std.specs.Prelude.{◌≡◌, false, ◌+◌, ◌≤◌, ◌<◌, length};
 ghost use Rattle.octets.specs.Numbers.{zeros};
 ghost use Rattle.octets.specs.Over.{Wrote};

@@ -2,6 +2,8 @@
 // tabs, colons and line breaks between the pairs. `decode` reads such a text into a lent buffer: a first pass checks and counts, then
 // the room is tested, and a second pass writes, so that a text that is refused leaves the buffer as it was. `put_octet` and `put_octets` write
 // the digits of octets, as far as there is room. Nothing here knows what the octets mean.
+#![tactic(auto)]
+
 ghost use Rattle.std.specs.Prelude.{◌≡◌, true, ◌+◌, ◌≤◌, ◌<◌, length};
 ghost use Rattle.octets.specs.Over.{Wrote};
 ghost use Rattle.io.specs.Counts.{IsPrefixLen};

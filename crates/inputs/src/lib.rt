@@ -1,4 +1,6 @@
 // What comes of a text that is to spell octets (docs/COMMAND.md, "Input"): octets, or why not.
+#![tactic(auto)]
+
 ghost use Rattle.std.specs.Prelude.{◌≡◌, get_or};
 
 // Why a text spells no octets.

@@ -1,6 +1,8 @@
 // Ips: IP addresses as text, written into a lent buffer: IPv4 in dotted decimal, IPv6 as RFC 5952 §4 recommends, with the mixed
 // notation of its §5 for IPv4-mapped addresses and for no others. An address has one text, and a text is of one address.
 // Nothing here reads a text, or judges an address.
+#![tactic(auto)]
+
 ghost use Rattle.std.specs.Prelude.{◌≡◌, cond, [], ◌∷◌, map, ◌+◌, ◌*◌, ◌^◌, ◌≤◌, ◌<◌, eqb, length};
 ghost use Rattle.octets.specs.Numbers.{words};
 ghost use Rattle.octets.specs.Over.{Wrote};

@@ -1,6 +1,8 @@
 // The one judge of a record's fields: the first of faults 21 to 28 (RULES T2, T5), for reading and for writing.
 // The two sides differ at two places: reading takes the name of carriers 4 and 5 as text, and asks at 25 whether an address is left;
 // writing asks there whether one is to be dropped. Nothing here drops an address.
+#![tactic(auto)]
+
 ghost use Rattle.std.specs.Prelude.{◌≡◌, ◌+◌, ◌<◌, ◌^◌};
 ghost use Rattle.addresses.specs.Addresses.{Width, list_of};
 ghost use Rattle.judge.specs.Place.{place_from};

@@ -1,6 +1,8 @@
 // Layouts: a record's option, attribute or instance written into a lent buffer, in each carrier (RULES B1).
 // A record comes as a sheet holds it, the name in wire form, within the limits. Nothing is judged here: a record that may not be
 // written, or has no room, is kept away by the contracts.
+#![tactic(auto)]
+
 ghost use Rattle.std.specs.Prelude.{◌≡◌, true, cond, ◌++◌, ◌+◌, ◌^◌, ◌≤◌, ◌<◌, length};
 ghost use Rattle.octets.specs.Numbers.{be, zeros};
 ghost use Rattle.octets.specs.Over.{Wrote};

@@ -1,5 +1,7 @@
 // The lines that the command writes, each into a lent buffer as far as there is room: its messages and octets, as text and in JSON.
 // Nothing here asks the system: `files` writes what stands in the buffer.
+#![tactic(auto)]
+
 pub mod listed;
 pub mod objects;
 pub mod said;

@@ -2,6 +2,8 @@
 // A name is labels of letters, digits and hyphens, each after its length octet, and the root octet at the very end, 3 to 255 octets.
 // The two functions that walk a label call each other over the falling rest of the name, handed on as the number of octets left, and
 // answer a number: so compiled, a call is a jump. Nothing here changes a name, folds its case or follows a compression pointer.
+#![tactic(auto)]
+
 ghost use Rattle.std.specs.Prelude.{◌≡◌, ◌-◌, ◌≤◌, ◌<◌, length};
 ghost use Rattle.names.specs.Names.{alnum};
 ghost use Rattle.names.specs.Right.{Right};

@@ -1,6 +1,7 @@
 // The numbers given back (RULES R1 to R44), each under a name. This is the one place where code has them as digits, but
 // for the table of `words`, which is proved to have the same. `specs/` has the same names for definitions and contracts (there `record_size`
 // and `sheet_size` for RECORD and SHEET).
+#![tactic(auto)]
 
 // What a call answers instead of a result.
 #[derive(Drop)]

@@ -2,6 +2,8 @@
 // Every other crate reads and writes numbers through the functions here, so that the order of octets is stated in one place
 // (RULES C2). What a write leaves in the whole buffer is one record, `Wrote`.
 // Nothing here knows of carriers, records or limits.
+#![tactic(auto)]
+
 ghost use Rattle.std.specs.Prelude.{◌≡◌, ◌+◌, ◌*◌, ◌^◌, ◌≤◌, ◌<◌, min, length, take, drop};
 ghost use Rattle.octets.specs.Lists as lists;
 ghost use Rattle.octets.specs.Numbers.{range, be, at16, at32, number_at, all_zero};

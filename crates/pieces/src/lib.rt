@@ -1,5 +1,7 @@
 // Pieces: joined instances as options 162 (RULES E2): 255 octets each and a last one of 1 to 255, nothing for no octets, no code 255.
 // Joined octets are cut in the buffer where they stand, from the front, so that none is overwritten before it has moved.
+#![tactic(auto)]
+
 ghost use Rattle.std.specs.Prelude.{◌≡◌, ◌+◌, ◌≤◌, ◌<◌, length, take, drop};
 ghost use Rattle.octets.specs.Over.{Wrote};
 ghost use Rattle.carriers.specs.declared.Carrier.TheVariants.{Dhcp4};

@@ -2,6 +2,8 @@
 // The area is walked once. In carrier 1 with several options 162 it is walked to the second of them, where something stands before the first
 // once more from there to the second, and then from the first on to join them. Each body is examined as it is met, and the places of at most 16
 // kept bodies are remembered. Only when the answer is 0 are they ordered and written. The tests stand in the order 1, 2, 3, 4, 5 (RULES T1).
+#![tactic(auto)]
+
 ghost use Rattle.std.specs.Prelude.{◌≡◌, true, [], ◌∷◌, ◌≤◌, ◌<◌, length};
 ghost use Rattle.octets.specs.Over.{Wrote};
 ghost use Rattle.numbers.specs.Limit as limit;

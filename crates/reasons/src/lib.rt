@@ -1,6 +1,8 @@
 // What is wrong in a name or in a field of service parameters, more closely than by the fault's number: why a name is no host name
 // (RULES R22), by the octet at its first bad place (`labels`), and which parameter is at fault (RULES R26 to R28, `fields`). For people: no
 // call of the library asks here, and nothing is judged anew. `Exactly` says that what is given is true.
+#![tactic(auto)]
+
 ghost use Rattle.std.specs.Prelude.{◌≡◌};
 ghost use Rattle.reasons.specs.Names.{name_reason};
 ghost use Rattle.reasons.specs.Params.{param_for};

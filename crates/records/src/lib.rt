@@ -1,6 +1,8 @@
 // One body, in carrier 1 one instance: whether it yields a record, how many octets the record has in a sheet, and writing it there.
 // `put_fields` puts a record's fields into a sheet, and is the one place where unusable addresses are dropped; a name alone is put by its first
 // half, `put_head`.
+#![tactic(auto)]
+
 ghost use Rattle.std.specs.Prelude.{◌≡◌, true, ℕ, ◌+◌, ◌≤◌, ◌<◌, ◌^◌, length};
 ghost use Rattle.octets.specs.Over.{Wrote};
 ghost use Rattle.numbers.specs.Limit as limit;

@@ -1,5 +1,7 @@
 // What a reading is printed as, written into a lent buffer as far as there is room: the sheet as `showing` has it, with what was found, what was
 // discarded and the first fault with its place. Nothing here reads or writes a file.
+#![tactic(auto)]
+
 ghost use Rattle.io.specs.Counts.{IsPrefixLen};
 ghost use Rattle.chars.specs.Puts.{Puts};
 ghost use Rattle.results.specs.Results.{place_part, first_part, text_of, numbers_of, json_of, saved_of, result_of};

@@ -1,5 +1,7 @@
 // The head of a record sheet, edition 1 (RULES S1): the letters RSV, the version, the carrier and the
 // record count. The letters and the version stand here once, for writing a sheet's head and for comparing when a sheet is taken.
+#![tactic(auto)]
+
 ghost use Rattle.std.specs.Prelude.{◌≤◌, length};
 ghost use Rattle.octets.specs.Over.{Wrote};
 ghost use Rattle.sheets.specs.Sheets.{front_size, front_of};

@@ -1,6 +1,8 @@
 // Showing: a record sheet as text for a person or as JSON for a script, where `json` says which (docs/COMMAND.md). A function that writes takes
 // the index at which it starts and returns the index after what it wrote; what has no room is left out (`Puts`). A line of text begins with a
 // line break, so that the last has none after it. Nothing here judges a sheet: what is shown of one that writing refuses means nothing.
+#![tactic(auto)]
+
 ghost use Rattle.std.specs.Prelude.{List, [], ◌∷◌, ◌++◌, map, ◌+◌, ◌≤◌, length};
 ghost use Rattle.io.specs.Counts.{IsPrefixLen};
 ghost use Rattle.blocks.specs.Block.{Fields};

@@ -2,6 +2,8 @@
 // A field is parameters one after another, each a 16-bit key, a 16-bit length and a value; it may be empty. Tiling and the order of keys
 // are decided over the whole field first, then address hints, then values. The values of keys without a rule are carried as they are.
 // Nothing here changes or writes parameters.
+#![tactic(auto)]
+
 ghost use Rattle.std.specs.Prelude.{◌≡◌, ℕ, ◌≤◌, length, true, List};
 ghost use Rattle.svcparams.specs.Key as keys;
 ghost use Rattle.svcparams.specs.Params.{size_of, rising, has, mandatory_good, alpn_good, value_good, all_good, params_fault};

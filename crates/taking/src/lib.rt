@@ -3,6 +3,8 @@
 // records it has; `record_at` says where the fields of one record stand, so that a caller goes through a taken sheet from its head's end on
 // without copying.
 // Here stand only the sheet's form, its order and its lifetimes: names, addresses and parameters are not looked at.
+#![tactic(auto)]
+
 ghost use Rattle.std.specs.Prelude.{◌≡◌, ◌+◌, ◌≤◌, ◌<◌, length, drop};
 ghost use Rattle.carriers.specs.Carriers.{chosen_of};
 ghost use Rattle.records.specs.Records.{head_size};

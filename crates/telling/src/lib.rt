@@ -1,6 +1,8 @@
 // What a reading leaves out, said in the order of the area: every block that is discarded, with its fault and where it stands, and every address
 // that is dropped from the others. `findings` says where and why, `files` writes the lines; here the area is walked once more, block by block, as
 // reading walks it, and the blocks that are said to be discarded are counted: they are as many as reading counts (specs/Discarded).
+#![tactic(auto)]
+
 ghost use Rattle.std.specs.Prelude.{◌≡◌, false, ◌+◌, ◌≤◌, length};
 ghost use Rattle.numbers.specs.Limit as limit;
 ghost use Rattle.carriers.specs.declared.Carrier.TheVariants.{Dhcp4};

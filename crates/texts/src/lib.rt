@@ -2,6 +2,8 @@
 // the two conversions between a name's text and its wire form, which the record sheet holds.
 // The check answers the place of the first octet at which no acceptable name can continue. The label rule itself is the crate `names`'s.
 // A conversion judges nothing: it takes any octets that fit, and its laws say what holds of acceptable ones.
+#![tactic(auto)]
+
 ghost use Rattle.std.specs.Prelude.{◌≡◌, ◌+◌, ◌-◌, ◌≤◌, length};
 ghost use Rattle.octets.specs.Over.{Wrote};
 ghost use Rattle.names.specs.Answered.{answer_in};

@@ -1,6 +1,8 @@
 // Values as text and JSON show them, where `json` says which: the octets, keys and lists of parameters, names and addresses
 // (docs/COMMAND.md). Octets of values are escaped. A name is shown as its text stands: that of a record that writing accepts has letters,
 // digits, hyphens and dots alone. Nothing here judges a value.
+#![tactic(auto)]
+
 ghost use Rattle.std.specs.Prelude.{true, cond, [], ◌∷◌, ◌++◌, ◌≤◌, length};
 ghost use Rattle.chars.specs.Puts.{Puts};
 ghost use Rattle.values.specs.Values.{code_of, escaped_of, value_of, quoted, bracketed, before_of, key_of, gap_of, label_of, keys_of, protocols_of, carrier_of, longest_name, name_of, span_of, address_of};

@@ -2,6 +2,8 @@
 // A case is a line of standard input: a letter, a space, octets in hexadecimal. Its answer is the same line of standard output, and `?`
 // where the line is no case. At most 65,536 octets are read, and at most so many written: what has no room is left out.
 // Each function that writes takes the index at which it starts, and returns the index after what it wrote.
+#![tactic(auto)]
+
 ghost use Rattle.std.specs.Prelude.{◌≡◌, ◌+◌, ◌≤◌, length, drop};
 ghost use Rattle.io.specs.Counts.{IsPrefixLen};
 ghost use Rattle.chars.specs.Puts.{Puts};

@@ -1,6 +1,8 @@
 // Vetting: the one place where a record sheet and its records are tested (RULES T5): 2, 40, 41, 42, 4, 43,
 // then 21 to 28 record by record. The sheet is taken, then its records are weighed: judged in order as writing judges, and their octets added
 // up. Of a sheet that passes, `vet` also says what 44 and 5 are tested by. Nothing is written here, and nothing is dropped or mended.
+#![tactic(auto)]
+
 ghost use Rattle.std.specs.Prelude.{◌≡◌, ◌||◌, ◌+◌, ◌≤◌, ◌<◌, length};
 ghost use Rattle.judge.specs.Place.{judged};
 ghost use Rattle.taking.specs.Sheet.{FitsRecord};

@@ -1,4 +1,6 @@
 // The numbers given back, in words (RULES R0 to R44), why a name is no host name, and the lookup of a number, or of words, in any such table.
+#![tactic(auto)]
+
 ghost use Rattle.std.specs.Prelude.{◌≡◌, ◌+◌, ◌≤◌, length, drop};
 ghost use Rattle.chars.specs.Puts.{Puts};
 ghost use Rattle.words.specs.Words.{words_in, words_of, reasons};

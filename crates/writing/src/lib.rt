@@ -1,6 +1,8 @@
 // Writing: a record sheet becomes the octets of its options, attributes or joined instances (RULES C3, E1 to E3).
 // The sheet is vetted (2, 40, 41, 42, 4, 43, then 21 to 28 record by record), then 44 and 5 are tested (RULES T5), and only when the answer is 0
 // are its records written, in sheet order. Nothing is dropped and nothing is mended here: a record that may not be written refuses the sheet.
+#![tactic(auto)]
+
 ghost use Rattle.std.specs.Prelude.{◌≡◌, true, ◌+◌, ◌*◌, ◌≤◌, length};
 ghost use Rattle.octets.specs.Over.{Wrote};
 ghost use Rattle.numbers.specs.Limit as limit;
