@@ -8,7 +8,7 @@ use Rattle.arguments.specs.Form as form
 use Rattle.carriers.specs.declared.Carrier.{Carrier}
 use Rattle.inputs.specs.declared.Read.{Read}
 use Rattle.inputs.specs.declared.Read.TheVariants.{Octets, Bad, Long}
-use Rattle.base64.specs.Base64 as base64
+use Rattle.base64_text.specs.Base64 as base64
 use Rattle.forms.specs.Places.{blank, textual_of, place_of, begin_of}
 use Rattle.forms.specs.Forms.{list_of}
 use Rattle.forms.specs.Forms as forms

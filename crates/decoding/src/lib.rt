@@ -32,7 +32,7 @@ pub fn read(form: usize, text: &[u8], out: &mut [u8]) -> Read
         return read_raw(text, out);
     }
     if form == Form::BASE64 {
-        return base64::read(text, out);
+        return base64_text::read(text, out);
     }
     if form == Form::HEX {
         return forms::read(text, out);

@@ -1,0 +1,20 @@
+-- `base64_text::is_blank` meets its contract: the tests in order. Assumes nothing.
+use borrow.Author.Tests.{eq-eqb, ne_eqb}
+use Rattle.base64_text.specs.Base64Laws.{blank-line}
+use Rattle.base64_text.proofs.is_blank.Statement.{statement}
+use Rattle.base64_text.proofs.is_blank.Tie as tie
+
+returns : tie.Need-returns
+returns c = simp (eq-eqb _ _ c.if1.true)
+
+returns-2 : tie.Need-returns-2
+returns-2 c = simp (ne_eqb _ _ c.before.if1.false, eq-eqb _ _ c.if2.true)
+
+returns-3 : tie.Need-returns-3
+returns-3 c = simp (ne_eqb _ _ c.before.before.if1.false, ne_eqb _ _ c.before.if2.false, eq-eqb _ _ c.if3.true)
+
+returns-4 : tie.Need-returns-4
+returns-4 c = blank-line _ c.before.before.if1.false c.before.if2.false c.if3.false
+
+pub is-blank-spec : {M : Type 1} → statement M
+is-blank-spec = tie.close (tie.spec returns returns-2 returns-3 returns-4)
