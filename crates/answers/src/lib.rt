@@ -8,7 +8,7 @@ ghost use Rattle.answers.specs.Answers.{refuse, told};
 
 // 0 and the length of what was written; or a refusal's number, 0, and of 22 the place, else 0.
 #[repr(C)]
-#[derive(Drop)]
+#[derive(Clone, Copy)]
 pub struct Result {
     pub number: usize,
     pub length: usize,

@@ -90,7 +90,7 @@ impl Wrong {
 }
 
 // What was asked so far.
-#[derive(Drop)]
+#[derive(Clone, Copy)]
 pub struct Asked {
     pub command: usize,
     // The carrier's number, once it is named.

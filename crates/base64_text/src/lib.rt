@@ -23,7 +23,7 @@ impl Place {
     pub const NOWHERE: usize = 6;
 }
 
-#[derive(Drop)]
+#[derive(Clone, Copy)]
 pub struct Quantum {
     // How many of its characters stand, 0 to 3; or a place from 4 on.
     pub place: usize,

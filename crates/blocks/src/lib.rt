@@ -13,7 +13,7 @@ use carriers::Carrier;
 
 // What a record says in numbers beside its parts: priority, lifetime (0 but in carrier 3), and whether it has the full form (mode 1) or a
 // name only (mode 0).
-#[derive(Drop)]
+#[derive(Clone, Copy)]
 pub struct Head {
     pub priority: usize,
     pub lifetime: usize,
@@ -21,7 +21,7 @@ pub struct Head {
 }
 
 // Where the fields of a body stand, or its fault.
-#[derive(Drop)]
+#[derive(Clone, Copy)]
 pub enum Places {
     Bad {
         fault: usize,

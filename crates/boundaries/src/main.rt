@@ -30,7 +30,7 @@ const PART: usize = 2048;
 const SIZES: usize = 8;
 
 // Where a case ends, if a whole one stands there.
-#[derive(Drop)]
+#[derive(Clone, Copy)]
 enum End {
     At(usize),
     Nowhere,

@@ -7,7 +7,7 @@ ghost use Rattle.numbers.specs.Refusal as refusal;
 ghost use Rattle.carriers.specs.Told.{Chooses};
 ghost use Rattle.carriers.specs.Carriers.{octets_of, eights_of, chosen_of, facts_of, number_of, code_of, header_of, address_width, length_width, form_of, lifetime_width, as_text};
 
-#[derive(Drop)]
+#[derive(Clone, Copy)]
 pub enum Carrier {
     // 1: DHCPv4 option 162 (RFC 9463 §5).
     Dhcp4,
@@ -22,14 +22,14 @@ pub enum Carrier {
 }
 
 // The carrier of a number, or that there is none: 0, or 1 when read and 42 of a sheet (specs/Told).
-#[derive(Drop)]
+#[derive(Clone, Copy)]
 pub enum Chosen {
     Known(Carrier),
     Unknown,
 }
 
 // The form of a block's body (RULES B1).
-#[derive(Drop)]
+#[derive(Clone, Copy)]
 pub enum Form {
     // Carriers 1 and 2: the name in wire form, and alone or with addresses and parameters.
     Wire,
@@ -40,7 +40,7 @@ pub enum Form {
 }
 
 // What is said of a carrier: a row of the table.
-#[derive(Drop)]
+#[derive(Clone, Copy)]
 pub struct Facts {
     pub number: u8,
     // The code of its own options, or the type of its attributes.
@@ -61,7 +61,7 @@ pub struct Facts {
 }
 
 // A length in octets.
-#[derive(Drop)]
+#[derive(Clone, Copy)]
 pub struct Octets(pub usize);
 
 impl Octets {
@@ -75,7 +75,7 @@ impl Octets {
 }
 
 // A length in units of 8 octets, as carrier 3 has it.
-#[derive(Drop)]
+#[derive(Clone, Copy)]
 pub struct Eights(pub usize);
 
 // The one place where units of eight become octets.

@@ -14,7 +14,7 @@ use inputs::{Read, Why, character, octet};
 use state::{Mode, State};
 
 // How a tool writes its dumps.
-#[derive(Drop)]
+#[derive(Clone, Copy)]
 pub struct Style {
     // Digits of an offset.
     pub digits: usize,
@@ -34,7 +34,7 @@ pub struct Style {
 }
 
 // How many octets there are after stars: so many; or that they stand for no whole lines; or that there is no room.
-#[derive(Drop)]
+#[derive(Clone, Copy)]
 enum Reach {
     To(usize),
     No,
@@ -42,7 +42,7 @@ enum Reach {
 }
 
 // What comes of a character: where the dump stands, and how many octets there are; or why the text is no dump; or that there is no room.
-#[derive(Drop)]
+#[derive(Clone, Copy)]
 enum Turn {
     Go(State, usize),
     Bad(usize),

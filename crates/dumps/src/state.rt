@@ -49,7 +49,7 @@ impl Mode {
 }
 
 // What a character is, as far as most modes ask.
-#[derive(Drop)]
+#[derive(Clone, Copy)]
 pub enum Class {
     Break,
     Blank,
@@ -57,7 +57,7 @@ pub enum Class {
     Other,
 }
 
-#[derive(Drop)]
+#[derive(Clone, Copy)]
 pub struct State {
     pub mode: usize,
     // Digits of the offset so far, and their value.

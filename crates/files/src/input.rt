@@ -16,7 +16,7 @@ pub const MOST: usize = 16 * Limit::INPUT;
 pub const ROOM: usize = MOST + 1;
 
 // What was read: how many octets, or that a call failed.
-#[derive(Drop)]
+#[derive(Clone, Copy)]
 pub struct Got {
     pub failed: bool,
     pub length: usize,

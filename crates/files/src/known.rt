@@ -8,7 +8,7 @@ use libc::PATH_MAX;
 use libc::types::{stat, timespec};
 
 // Mode, owner and group as the system gives them. Mode 0, which no file has: there is no file, or the system does not say.
-#[derive(Drop)]
+#[derive(Clone, Copy)]
 pub struct Known {
     pub mode: u32,
     pub owner: u32,

@@ -20,7 +20,7 @@ use numbers::{Fault, Limit};
 
 // A body's fault, or 0; its place, counted from 0; of fault 22 the reason (`reasons::Reason`), else 0; of faults 26 to 28 the key of the parameter,
 // where it has one, else `reasons::Param::NONE`.
-#[derive(Drop)]
+#[derive(Clone, Copy)]
 pub struct Trouble {
     pub fault: usize,
     pub at: usize,

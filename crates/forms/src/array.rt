@@ -36,7 +36,7 @@ impl Phase {
 }
 
 // How far the tail of an array has been read: the length so far, and why it is none, or 0.
-#[derive(Drop)]
+#[derive(Clone, Copy)]
 pub struct After {
     pub phase: usize,
     pub length: usize,

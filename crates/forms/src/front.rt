@@ -65,7 +65,7 @@ impl Phase {
 }
 
 // What has been seen of a text.
-#[derive(Drop)]
+#[derive(Clone, Copy)]
 pub struct Front {
     pub phase: usize,
     // Digits of the first group, up to 9, and whether it began with 0.

@@ -33,7 +33,7 @@ const WIDE: usize = 2;
 const WIDE_HEADER: usize = WIDE + WIDE;
 
 // A header as it stands: its code, and its length in two octets.
-#[derive(Drop)]
+#[derive(Clone, Copy)]
 struct Header {
     code: usize,
     upper: u8,
@@ -42,7 +42,7 @@ struct Header {
 
 // What the header that stands first says: nothing that can be framed, the area's end, or an option of `size` octets, its header
 // counted, which is the carrier's own or not.
-#[derive(Drop)]
+#[derive(Clone, Copy)]
 pub enum Head {
     Bad,
     End,
@@ -51,7 +51,7 @@ pub enum Head {
 
 // What stands at an index of an area: an own option with its body from `start` up to `end`, where the walk goes on; another option;
 // the area's end; or what cannot be framed.
-#[derive(Drop)]
+#[derive(Clone, Copy)]
 pub enum Step {
     Block { start: usize, end: usize },
     Skipped { end: usize },
@@ -61,7 +61,7 @@ pub enum Step {
 
 // The options 162 of an area: it cannot be framed, there is none, one with its body from `start` up to `end`, or several, with nothing to join
 // before `from`. With the second the walk ends, and the area may still be one that cannot be framed.
-#[derive(Drop)]
+#[derive(Clone, Copy)]
 pub enum Gathered {
     Broken,
     Absent,
@@ -70,7 +70,7 @@ pub enum Gathered {
 }
 
 // What joining the options 162 of an area answers: it cannot be framed, or how many octets were joined.
-#[derive(Drop)]
+#[derive(Clone, Copy)]
 pub enum Joined {
     Broken,
     Whole(usize),

@@ -12,7 +12,7 @@ use inputs::{Read, character};
 use state::State;
 
 // A kind of list.
-#[derive(Drop)]
+#[derive(Clone, Copy)]
 pub struct Kind {
     // Whether 0x stands before each group.
     pub prefix: bool,
@@ -27,7 +27,7 @@ pub struct Kind {
 }
 
 // What comes of a character: where the list stands, and how many octets there are; or why the text is no list; or that there is no room.
-#[derive(Drop)]
+#[derive(Clone, Copy)]
 pub enum Turn {
     Go(State, usize),
     Bad(usize),

@@ -7,7 +7,7 @@ use crate::Kind;
 use hexes::{is_digit, value};
 use inputs::Why;
 
-#[derive(Drop)]
+#[derive(Clone, Copy)]
 pub struct State {
     // How much of 0x has been read: 0, 1 or 2 characters.
     pub front: usize,

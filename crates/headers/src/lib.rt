@@ -19,7 +19,7 @@ use numbers::Limit;
 const MOST: usize = 65535;
 
 // What comes of a value: its options have so many octets; or there is no room for them; or no option of the carrier holds it.
-#[derive(Drop)]
+#[derive(Clone, Copy)]
 pub enum Placed {
     Next(usize),
     NoRoom,

@@ -15,7 +15,7 @@ ghost use Rattle.hexes.specs.Decoding.{Decoded, octets_in, size_in};
 use chars::put;
 use octets::{lesser, within};
 
-#[derive(Drop)]
+#[derive(Clone, Copy)]
 pub enum Hex {
     // How many octets stand at the front of the buffer.
     Octets(usize),

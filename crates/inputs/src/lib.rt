@@ -31,7 +31,7 @@ impl Why {
 }
 
 // What was read into a buffer: so many octets; or why not, and at which character; or that they are more than the buffer holds.
-#[derive(Drop)]
+#[derive(Clone, Copy)]
 pub enum Read {
     Octets(usize),
     Bad { at: usize, why: usize },

@@ -87,7 +87,7 @@ pub fn put4(out: &mut [u8], at: usize, a: &[u8]) -> usize
 // ---- the run that is shortened
 
 // A run of zero fields: the index of its first, and how many they are.
-#[derive(Drop)]
+#[derive(Clone, Copy)]
 struct Run {
     start: usize,
     count: usize,

@@ -12,7 +12,7 @@ use carriers::Carrier;
 use names::Name;
 use numbers::{Fault, Limit};
 
-#[derive(Drop)]
+#[derive(Clone, Copy)]
 pub enum Side {
     Reading,
     Writing,
@@ -21,7 +21,7 @@ pub enum Side {
 // The first fault, or 0; with fault 22 the place of the first octet of the name at which no acceptable name can continue, or the name's length
 // where it is cut short, else 0. The judge counts it from the name's first octet; what is told of a body, a block or a sheet, from where that
 // begins (`place_from`).
-#[derive(Drop)]
+#[derive(Clone, Copy)]
 pub struct Judged {
     pub fault: usize,
     pub place: usize,

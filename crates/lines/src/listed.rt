@@ -10,7 +10,7 @@ use reasons::Param;
 use words::put_reason;
 
 // A block that is discarded. Blocks are counted from 1, octets of the area from 0.
-#[derive(Drop)]
+#[derive(Clone, Copy)]
 pub struct Discard {
     pub block: usize,
     pub octet: usize,

@@ -12,7 +12,7 @@ use octets::lesser;
 const FRONT: usize = 5;
 
 // What goes with a message; 0 stands for none.
-#[derive(Drop)]
+#[derive(Clone, Copy)]
 pub struct Note {
     // The exit status that the message gives.
     pub status: usize,

@@ -12,7 +12,7 @@ ghost use Rattle.names.specs.Answered.{answer_in, named};
 
 use octets::{lesser, wide, within};
 
-#[derive(Drop)]
+#[derive(Clone, Copy)]
 pub enum Name {
     // The slice is a name.
     Good,

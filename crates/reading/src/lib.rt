@@ -31,7 +31,7 @@ const HALF: usize = 20480;
 // What a reading gives back: 0 and the sheet's length, the blocks found, the blocks discarded, the first discarded block's fault and, of
 // 22, the place in that block at which its name is wrong, else 0; or a refusal's number and zeros.
 #[repr(C)]
-#[derive(Drop)]
+#[derive(Clone, Copy)]
 pub struct Reading {
     pub number: usize,
     pub length: usize,
@@ -45,7 +45,7 @@ pub struct Reading {
 // blocks were found; whether every address of the records is known to stay; how many blocks were discarded; whether more than 16 records were
 // kept; the first discarded block's fault. (Fields that are neighbours in `Reading` are kept apart here: LLVM would load two by one
 // instruction, which waits for their separate stores.)
-#[derive(Drop)]
+#[derive(Clone, Copy)]
 struct Counts {
     place: usize,
     size: usize,

@@ -50,7 +50,7 @@ impl Reason {
 }
 
 // What stands at a place of a name in wire form.
-#[derive(Drop)]
+#[derive(Clone, Copy)]
 pub enum Mark {
     // A length octet, or the root octet.
     Length,
@@ -62,7 +62,7 @@ pub enum Mark {
 
 // A service parameter: where in its field it begins, and its key. The key is NONE where its octets are not all there, or where there is
 // no parameter.
-#[derive(Drop)]
+#[derive(Clone, Copy)]
 pub struct Param {
     pub at: usize,
     pub key: usize,

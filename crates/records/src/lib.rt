@@ -22,7 +22,7 @@ use judge::Side;
 
 // A body's fault and, of 22, its place in the body; or 0 with its record's priority and size in a sheet, and whether every address is known
 // to stay, so that the list can be copied as it stands. Of a body with a fault priority and size are 0, and `clean` means nothing.
-#[derive(Drop)]
+#[derive(Clone, Copy)]
 pub struct Examined {
     pub fault: usize,
     pub place: usize,
@@ -33,7 +33,7 @@ pub struct Examined {
 
 // How the fields of a record are given: whether the name is text or in wire form, how many octets an address has, and whether every
 // address is known to stay, so that the list can be copied as it stands.
-#[derive(Drop)]
+#[derive(Clone, Copy)]
 pub struct Given {
     pub text: bool,
     pub width: usize,

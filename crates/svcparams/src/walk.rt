@@ -9,14 +9,14 @@ use crate::size;
 use octets::get16;
 
 // The next key of a list, or that there is none.
-#[derive(Drop)]
+#[derive(Clone, Copy)]
 pub enum Look {
     End,
     Next(usize),
 }
 
 // A step's decision.
-#[derive(Drop)]
+#[derive(Clone, Copy)]
 pub enum Decision {
     // Every listed key was found.
     AllFound,
@@ -29,7 +29,7 @@ pub enum Decision {
 }
 
 // A walk's answer and the number of its steps.
-#[derive(Drop)]
+#[derive(Clone, Copy)]
 pub struct Walked {
     pub present: bool,
     pub steps: usize,

@@ -19,7 +19,7 @@ use carriers::{Carrier, Chosen};
 use numbers::{Limit, Refusal};
 
 // What a sheet's head says.
-#[derive(Drop)]
+#[derive(Clone, Copy)]
 enum Said {
     // The number of the first test that fails.
     Unfit(usize),
@@ -28,7 +28,7 @@ enum Said {
 }
 
 // What taking a sheet answers.
-#[derive(Drop)]
+#[derive(Clone, Copy)]
 pub enum Took {
     // The number of the first test that fails.
     Refused(usize),
@@ -37,7 +37,7 @@ pub enum Took {
 }
 
 // Where one record's fields stand in a sheet: each as its first index and its length; `next` is the index after the record.
-#[derive(Drop)]
+#[derive(Clone, Copy)]
 pub struct Spot {
     // Whether a whole record with mode 0 or 1 stands there; else all numbers are 0.
     pub good: bool,

@@ -16,7 +16,7 @@ use numbers::Limit;
 use taking::{Spot, Took};
 
 // What vetting a sheet answers.
-#[derive(Drop)]
+#[derive(Clone, Copy)]
 pub enum Vetted {
     // The number of the first test that fails; of 22 the place in the sheet at which the name is wrong, else 0.
     Refused {
@@ -33,7 +33,7 @@ pub enum Vetted {
 }
 
 // What weighing finds: the first fault and, of 22, its place in the sheet; or 0, whether a record is large, and the octets of the records.
-#[derive(Drop)]
+#[derive(Clone, Copy)]
 struct Weighed {
     fault: usize,
     place: usize,
