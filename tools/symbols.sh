@@ -1,5 +1,5 @@
 #!/bin/sh
-# Holds what include/dnr.h says of the library's state and calls against the archive that rt staticlib dnr writes: the functions that it calls are just
+# Holds what include/dnr.h says of the library's state and calls against the archive that tools/library.sh makes: the functions that it calls are just
 # those of the header's sentence "no call but to ..", and it has no variable. Ends in 'N passed, M failed'.
 set -u
 cd "$(dirname "$0")/.." || exit 2
@@ -31,7 +31,7 @@ of() {
 }
 
 if ! nm "$archive" >/dev/null; then
-    echo "symbols: no $archive (rt staticlib dnr): FAILED"
+    echo "symbols: no $archive (tools/library.sh makes it): FAILED"
     echo "0 passed, 1 failed"
     exit 1
 fi

@@ -1,4 +1,4 @@
-// Links libdnr.a from the folder that DNR_LIB_DIR names, else from target/staticlib, where `rt staticlib dnr` writes it.
+// Links libdnr.a from the folder that DNR_LIB_DIR names, else from target/staticlib, where `make` puts it.
 
 use std::env;
 use std::path::{Path, PathBuf};
