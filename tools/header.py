@@ -108,7 +108,7 @@ def hold_rust(source, path, functions):
 
 def exports(text):
     """Name, parameters and result of each function that a source exports."""
-    pattern = r'#\[no_mangle\]\s*pub extern "C" fn (\w+)\((.*?)\)(?: -> (\w+))?\s*(?:requires|ensures|\{)'
+    pattern = r'#\[unsafe\(no_mangle\)\]\s*pub extern "C" fn (\w+)\((.*?)\)(?: -> (\w+))?\s*(?:requires|ensures|\{)'
     for name, parameters, result in re.findall(pattern, text, re.S):
         yield name, re.findall(r"(\w+): (&(?:mut )?\[\w+\]|\w+)", parameters), result
 

@@ -31,7 +31,7 @@ def crates():
     rows = []
     for line in (pathlib.Path(__file__).resolve().parent.parent / "crates.txt").read_text().splitlines():
         heading = re.fullmatch(r"# ---- (.+)", line)
-        crate = re.fullmatch(r"(\w+):([^#]*)(?:# (.+))?", line)
+        crate = re.fullmatch(r"(\w+)(?: staticlib)?:([^#]*)(?:# (.+))?", line)
         if heading:
             rows.append((heading.group(1), []))
         elif crate:
