@@ -30,11 +30,12 @@ def tool(name):
 
 
 MOVED = tool("moved")
-IMPORT = re.compile(r"(?:ghost )?use (Rattle·([a-z0-9_]+)(?:·specs)?\.specs\.([A-Za-z0-9_.-]+?))(?:\.\{([^}]*)\}| as (\S+?));?$")
-WORD = re.compile(r"[^\s(){}\[\],;⌜⌝]+")
+IMPORT = re.compile(r"(?:ghost )?use (Rattle\.([a-z0-9_]+)\.specs\.([A-Za-z0-9_.-]+?))(?:\.\{([^}]*)\}| as (\S+?));?$")
+WORD = re.compile(r"[^\s(){}\[\],;]+")
 BINDER = re.compile(r"[({]([^(){}:]+) :")
 LAMBDA = re.compile(r"λ ([^.λ()]+)\.")
-CONTRACT = re.compile(r"\bfn (\w+)\b[^{;]*?((?:\s*(?:requires|ensures) \{.*?\}\s*?\n)+)", re.S)
+HEAD = re.compile(r"\bfn (\w+)\b(?:[^{;\[]|\[[^\]]*\])*?(?=\s(?:requires|ensures)\b)")
+CLAUSE = re.compile(r"\s*(?:requires|ensures)(?: \w+)? (?=\{)")
 
 # One file: the names that it brings in, each as (file, name) or (file, None) for a whole module; its declarations by name
 File = collections.namedtuple("File", "imports whole declared laws")
@@ -83,13 +84,25 @@ def parsed(text):
     return File(imports, whole, declared, laws)
 
 
+def clauses(text, at):
+    """The clauses of a contract that begins at an index, each without its braces."""
+    while clause := CLAUSE.match(text, at):
+        start = at = clause.end()
+        depth = 0
+        while depth or at == start:
+            depth += (text[at] == "{") - (text[at] == "}")
+            at += 1
+        yield text[start + 1 : at - 1]
+
+
 def source(text):
     """Of a .rt file: imports, and each function's contract as a declaration."""
+    text = re.sub(r"//.*", "", text)
     imports, whole, declared = {}, {}, {}
     for line in re.findall(r"^\s*(ghost use [^;]*;)", text, re.M):
         imported([line], imports, whole)
-    for name, contract in CONTRACT.findall(text):
-        declared[name] = Declared(name, [contract], True)
+    for head in HEAD.finditer(text):
+        declared[head[1]] = Declared(head[1], list(clauses(text, head.end())), True)
     return File(imports, whole, declared, set(declared))
 
 
@@ -111,7 +124,7 @@ def names_in(text):
     bound = {w for group in BINDER.findall(joined) + LAMBDA.findall(joined) for w in group.split()}
     for word in WORD.findall(joined):
         word = word.rstrip(".")
-        if word and not word.startswith(".") and word not in bound:
+        if word and not word.startswith(".") and word.partition(".")[0] not in bound:
             yield word
 
 
@@ -120,12 +133,13 @@ def used(files, file, declared):
     own = files[file]
     for word in names_in(declared.text):
         head, _, rest = word.partition(".")
-        if word in own.declared and own.declared[word] is not declared:
-            yield file, word
-        elif word in own.imports:
-            yield own.imports[word]
-        elif head in own.whole and rest:
+        if head in own.whole and rest:
             yield own.whole[head], rest.split(".")[0]
+        for name in dict.fromkeys((word, head)):
+            if name in own.declared and own.declared[name] is not declared:
+                yield file, name
+            elif name in own.imports:
+                yield own.imports[name]
 
 
 def reached(files, roots):
@@ -145,9 +159,9 @@ def reached(files, roots):
 
 # ---- the page
 
-THEOREM = re.compile(r"^\| `([^`]+)` \|.*\| `([a-z0-9]+/[A-Za-z0-9]+)` \|[^|]*\|$", re.M)
-FILE = re.compile(r"`([a-z0-9]+/[A-Z][A-Za-z0-9]*)`")
-ROOTS = re.compile(r"`([a-z0-9]+/[A-Z][A-Za-z0-9]*)`: ((?:`[^`]+`(?:, )?)+)")
+THEOREM = re.compile(r"^\| `([^`]+)` \|.*\| `([a-z0-9_]+/[A-Za-z0-9]+)` \|[^|]*\|$", re.M)
+FILE = re.compile(r"`([a-z0-9_]+/[A-Z][A-Za-z0-9]*)`")
+ROOTS = re.compile(r"`([a-z0-9_]+/[A-Z][A-Za-z0-9]*)`: ((?:`[^`]+`(?:, )?)+)")
 
 
 def part(page, heading):

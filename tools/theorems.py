@@ -5,7 +5,7 @@ import re
 import sys
 
 ROOT = pathlib.Path(__file__).resolve().parent.parent
-ROW = re.compile(r"^\| `([^`]+)` \|.*\| `([a-z0-9]+)/([A-Za-z0-9]+)` \|[^|]*\|$")
+ROW = re.compile(r"^\| `([^`]+)` \|.*\| `([a-z0-9_]+)/([A-Za-z0-9]+)` \|[^|]*\|$")
 
 
 def main():

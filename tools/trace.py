@@ -1,16 +1,19 @@
 #!/usr/bin/env python3
 """Holds docs/TRACE.md against the sources and the rules: each definition it names is declared in the file beside it, each theorem somewhere in the
-specifications, each must-fail edit is there; each rule of docs/RULES.md has a row (the forms in docs/DECISIONS.md), and each row a rule."""
+specifications, each must-fail edit is there; each rule of docs/RULES.md has a row (the forms in docs/DECISIONS.md), and each row a rule. A name with
+an underscore in the column of contracts and theorems may also be a function of the sources."""
 import pathlib
 import re
 import sys
 
 ROOT = pathlib.Path(__file__).resolve().parent.parent
 NAMES = r"((?:`[^`]+`(?!:)(?:, )?)+)"
-DEFINED = re.compile(r"`([a-z0-9]+)/([A-Z][A-Za-z0-9]*)`: " + NAMES)
-EDITS = re.compile(r"\b([a-z0-9]+)/must-fail: " + NAMES)
-THEOREM = re.compile(r"`([a-z0-9]+(?:-[a-z0-9]+)+)`")
+DEFINED = re.compile(r"`([a-z0-9_]+)/([A-Z][A-Za-z0-9]*)`: " + NAMES)
+EDITS = re.compile(r"\b([a-z0-9_]+)/must-fail: " + NAMES)
+THEOREM = re.compile(r"`([a-z0-9_]+(?:-[a-z0-9_]+)+)`")
+HOLDING = re.compile(r"`([a-z0-9]+(?:_[a-z0-9]+)+)`")
 DECLARED = r"^\s*(?:(?:abbrev|unfoldable) )?pub (?:record |data )?{}(?= )"
+FUNCTION = r"\bfn {}\b"
 RULE = re.compile(r"^(?:\*\*|\| )([A-Z]\d+)(?:\*\*| \|)", re.M)
 ROW = re.compile(r"^\| ([A-Z]\d+) ", re.M)
 
@@ -23,7 +26,11 @@ def names(run):
     return re.findall(r"`([^`]+)`", run)
 
 
-def wrong_in(row, specs):
+def below(pattern):
+    return "\n".join(file.read_text() for file in sorted(ROOT.glob(pattern)))
+
+
+def wrong_in(row, specs, code):
     for crate, module, run in DEFINED.findall(row):
         file = ROOT / "crates" / crate / "specs" / f"{module}.antt"
         text = file.read_text() if file.is_file() else ""
@@ -33,6 +40,9 @@ def wrong_in(row, specs):
     for name in THEOREM.findall(row):
         if not re.search(DECLARED.format(name), specs, re.M):
             yield f"{name}: no such theorem"
+    for name in HOLDING.findall("".join(row.split(" | ")[2:3])):
+        if not re.search(DECLARED.format(name), specs, re.M) and not re.search(FUNCTION.format(name), code):
+            yield f"{name}: no such theorem or function"
     for crate, run in EDITS.findall(row):
         for name in names(run):
             if not (ROOT / "crates" / crate / "must-fail" / f"{name}.edit").is_file():
@@ -50,9 +60,9 @@ def without_row(trace):
 
 def main():
     trace = page("TRACE.md")
-    specs = "\n".join(file.read_text() for file in sorted(ROOT.glob("crates/*/specs/**/*.antt")))
+    specs, code = below("crates/*/specs/**/*.antt"), below("crates/*/src/**/*.rt")
     rows = [row for row in trace.splitlines() if row.startswith("| ")]
-    wrong = [fault for row in rows for fault in wrong_in(row, specs)] + list(without_row(trace))
+    wrong = [fault for row in rows for fault in wrong_in(row, specs, code)] + list(without_row(trace))
     print("\n".join(wrong), end="\n" if wrong else "")
     print(f"{len(rows)} rows of docs/TRACE.md, {len(wrong)} faults")
     return 1 if wrong or not rows else 0
