@@ -15,7 +15,8 @@
  * State      There is none: no allocation, no global variable, no errno, no call but to memcpy, memmove and memset. Any number of threads
  *            may call at once, without locks, as long as nobody else writes to the buffers of a running call.
  * Stack      dnr_read needs 43 KiB, of which 40 KiB are the buffer where several options 162 of a DHCPv4 area are joined; dnr_write needs
- *            1 KiB, dnr_words 1.3 KiB (measured on x86-64; have 48 KiB for dnr_read and 4 KiB for the others).
+ *            1 KiB, dnr_words 1.3 KiB (measured on x86-64, as rattle-kit-5b built the library; have 48 KiB for dnr_read and 4 KiB for the
+ *            others).
  * Numbers    In areas, sheets and options all numbers stand most significant octet first.
  */
 #ifndef DNR_H
