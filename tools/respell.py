@@ -48,22 +48,24 @@ def snake(name):
     return "-".join(parts)
 
 
-def strings_apart(line):
-    """The line cut into pieces outside and inside of string literals, in turn."""
-    return re.split(r'(b?"(?:[^"\\]|\\.)*")', line)
+# what is a string, a comment, or neither; a string may go over several lines, and a quotation mark may stand as a character
+PIECES = re.compile(r'(?P<string>b?"(?:[^"\\]|\\.)*"|b\'"\')|(?P<comment>(?:--|//)[^\n]*)', re.S)
+# a word of RFC 9460, which comments have as it is written there
+WORDS_OF_PROSE = {"keyN"}
 
 
-def respelled(text, keep_strings):
-    def turn(piece):
-        return TOKEN.sub(lambda m: snake(m.group()), piece)
+def in_prose(name):
+    return name if name in UNDERSCORES or name in WORDS_OF_PROSE else snake(name)
 
-    if not keep_strings:
-        return turn(text)
-    out = []
-    for line in text.split("\n"):
-        pieces = strings_apart(line)
-        out.append("".join(p if i % 2 else turn(p) for i, p in enumerate(pieces)))
-    return "\n".join(out)
+
+def respelled(text):
+    out, at = [], 0
+    for m in PIECES.finditer(text):
+        out.append(TOKEN.sub(lambda n: snake(n.group()), text[at : m.start()]))
+        out.append(m.group() if m.group("string") else TOKEN.sub(lambda n: in_prose(n.group()), m.group()))
+        at = m.end()
+    out.append(TOKEN.sub(lambda n: snake(n.group()), text[at:]))
+    return "".join(out)
 
 
 def files(root):
@@ -91,7 +93,7 @@ def main():
         for old, new in sorted(turned.items()):
             if new in plain:
                 print(f"falls together: {os.path.relpath(path, root)}: {old} -> {new}")
-        new = respelled(text, path.endswith((".rt", ".edit", ".antt")))
+        new = respelled(text)
         if new != before:
             with open(path, "w", encoding="utf-8") as f:
                 f.write(new)

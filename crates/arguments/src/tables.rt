@@ -75,28 +75,28 @@ pub fn carrier_named(word: &[u8]) -> usize
         b"\x011\n\
           \x01dhcp4\n\
           \x01dhcpv4\n\
-          \x01_dhcp4\n\
-          \x01_dhc_pv4\n\
-          \x01_dhcpv4\n\
+          \x01DHCP4\n\
+          \x01DHCPv4\n\
+          \x01DHCPV4\n\
           \x022\n\
           \x02dhcp6\n\
           \x02dhcpv6\n\
-          \x02_dhcp6\n\
-          \x02_dhc_pv6\n\
-          \x02_dhcpv6\n\
+          \x02DHCP6\n\
+          \x02DHCPv6\n\
+          \x02DHCPV6\n\
           \x033\n\
           \x03ra\n\
-          \x03_ra\n\
+          \x03RA\n\
           \x044\n\
           \x04ike4\n\
-          \x04_ike4\n\
+          \x04IKE4\n\
           \x04encdns_ip4\n\
-          \x04_encdns_ip4\n\
+          \x04ENCDNS_IP4\n\
           \x055\n\
           \x05ike6\n\
-          \x05_ike6\n\
+          \x05IKE6\n\
           \x05encdns_ip6\n\
-          \x05_encdns_ip6\n",
+          \x05ENCDNS_IP6\n",
         word,
     )
 }

@@ -114,7 +114,7 @@ stated f = cond f.full (14 + length f.name + length f.addresses + length f.param
 
 -- ---- what can be laid out, and what a carrier can bring
 
--- the name_only form has no addresses and no parameters (RULES B5)
+-- the name-only form has no addresses and no parameters (RULES B5)
 abbrev pub Tail : Bool → Type 0 → Fields → Type 0
 Tail true fits f = fits
 Tail false fits f = (f.addresses ≡ []) × (f.parameters ≡ [])

@@ -25,7 +25,7 @@ pub record Numbers (c : Carrier) (p t : ℕ) : Type 0 where
   pub lifetime : t < 4294967296
   pub none : lifetime_width c ≡ 0 → t ≡ 0
 
--- the name_only form is not in carriers 4 and 5, where addresses are whole
+-- the name-only form is not in carriers 4 and 5, where addresses are whole
 abbrev pub Ranged : Carrier → Places → Type 0
 Ranged c (Bad k) = Unit {0}
 Ranged c (NameOnly p t at n) = Numbers c p t × (at ≡ name_at c 0) × (as_text c ≡ false)

@@ -233,7 +233,7 @@ k11 = record {
   says = replaced k3.area 31 (0x00 ∷ []) (0x01 ∷ []) ∷ [];
 }
 
--- K12 carrier 2, name_only options for a.example, b.example, c.example with priorities 5, 1, 5 read as 1, first 5, second 5.
+-- K12 carrier 2, name-only options for a.example, b.example, c.example with priorities 5, 1, 5 read as 1, first 5, second 5.
 abbrev pub k12 : Piece
 k12 = record {
   k = 12;

@@ -94,7 +94,7 @@ lifetime_in Text = 0
 abbrev pub lifetime_width : Carrier → ℕ
 lifetime_width c = lifetime_in (form_of c)
 
--- whether the name stands as text (RULES N4), and there is no name_only form (RULES B5)
+-- whether the name stands as text (RULES N4), and there is no name-only form (RULES B5)
 abbrev pub text_in : Form → Bool
 text_in Wire = false
 text_in Padded = false

@@ -35,7 +35,7 @@ pub enum Form {
     Wire,
     // Carrier 3: the same with a lifetime before it, a length before the parameters, and padding.
     Padded,
-    // Carriers 4 and 5: addresses, the name as text, parameters; there is no name_only form.
+    // Carriers 4 and 5: addresses, the name as text, parameters; there is no name-only form.
     Text,
 }
 
@@ -257,7 +257,7 @@ impl Carrier {
         }
     }
 
-    // Whether the name stands as text, and there is no name_only form.
+    // Whether the name stands as text, and there is no name-only form.
     pub fn as_text(self) -> bool
         ensures { result ≡ as_text self }
     {

@@ -5,7 +5,8 @@ use Rattle.std.proofs.Common.{ap, ◌∙◌, subst, true≢false, eqb-true, eq-e
 use Rattle.std.specs.Prelude.{Bool, cond, not, ◌↔◌, List, [], ◌∷◌, ℕ, ◌/◌, ◌%◌, ◌≤◌, ◌<◌, ltb, length}
 use Rattle.std.proofs.Math.Bool.{true, false}
 use Rattle.std.specs.Bool.{beq}
-use Rattle.std.proofs.Math.Logic.{inl, inr, Iff·rfl, Iff·trans, Iff·and}
+use Rattle.std.proofs.Math.Logic.{inl, inr}
+use Rattle.std.proofs.Math.Logic.Iff as iff
 use native.Mathlib.Omega.{arith}
 use Rattle.std.proofs.Math.Dec.{eqb}
 use Rattle.std.proofs.lemmas.Bool.{eqb-false, not-true, not-false}
@@ -72,8 +73,8 @@ none-wanted w wanted (a ∷ more) = go (unusable w a) wanted (none-wanted w want
 -- what is the same of each address of w octets is the same of all
 all_same : {P Q : List ℕ → Type 0} (w : ℕ) → ((a : List ℕ) → length a ≡ w → P a ↔ Q a)
     → (l : List (List ℕ)) → All (λ a. length a ≡ w) l → All P l ↔ All Q l
-all_same w each [] k = Iff·rfl
-all_same w each (a ∷ more) k = Iff·and (each a k.0) (all_same w each more k.1)
+all_same w each [] k = iff.rfl
+all_same w each (a ∷ more) k = iff.and (each a k.0) (all_same w each more k.1)
 
 -- the tests of 25 are the networks
 module _ (w : ℕ) (wide : Width w) (s : List ℕ) where
@@ -82,12 +83,12 @@ module _ (w : ℕ) (wide : Width w) (s : List ℕ) where
 
   none_stays : (none_of w (list_of w s) ≡ true) ↔ All (Unusable w) (list_of w s)
   none_stays =
-      Iff·trans stays
-      (Iff·trans (none-wanted w false (list_of w s)) (all_same w (λ a k. unusable-exactly k wide) (list_of w s) (list-wide w s)))
+      iff.trans stays
+      (iff.trans (none-wanted w false (list_of w s)) (all_same w (λ a k. unusable-exactly k wide) (list_of w s) (list-wide w s)))
 
   none-refused : (any_of w (list_of w s) ≡ false) ↔ All (λ a. Unusable w a → ⊥) (list_of w s)
   none-refused =
-      Iff·trans (none-wanted w true (list_of w s))
+      iff.trans (none-wanted w true (list_of w s))
       (all_same w (λ a k. refuted (unusable w a) (unusable-exactly k wide)) (list_of w s) (list-wide w s))
 
   pub usable-exactly : (side : Side) → (refused_of side w (list_of w s) ≡ false) ↔ Usable side w s
@@ -236,7 +237,7 @@ module _ (side : Side) (c : Carrier) (f : Fields) (octets : f.full ≡ true → 
 
   form-told : (full : Bool) → f.full ≡ full → Tells (cond full tail (name_only_fault c)) (FormBroken full side c f)
   form-told true e = tail-told side (address_width c) f.addresses f.parameters (carrier-width c) (octets e)
-  form-told false e = rule_told _ _ _ _ (as_text c) Iff·rfl (λ k q. sym q)
+  form-told false e = rule_told _ _ _ _ (as_text c) iff.rfl (λ k q. sym q)
 
   fault-told : Tells (fault_of side c f) (FirstBroken side c f)
   unfolding judged_of

@@ -2,7 +2,7 @@
 -- there are no others (RULES D6: "the records' instances one after another, none for no records"). Assumes nothing.
 use Rattle.std.specs.Prelude.{◌≡◌, refl, ◌↔◌, List, [], ◌∷◌, ℕ, length}
 use Rattle.std.proofs.Common.{sym, ap, ◌∙◌, arith}
-use Rattle.std.proofs.Math.Logic.{Iff·rfl}
+use Rattle.std.proofs.Math.Logic.Iff as iff
 use Rattle.octets.specs.Numbers.{Bytes}
 use Rattle.octets.specs.Lists.{All, flat}
 use Rattle.carriers.specs.declared.Carrier.{Carrier}
@@ -58,7 +58,7 @@ unfolding octets_of
 joined-exactly =
     by-joined (λ c. (rs : List Fields) (x : List ℕ) → (JoinedOctets c (octets_of c rs) x ↔ (x ≡ stream_of c rs)))
     (λ rs x. cut-joined (stream_of Dhcp4 rs) x)
-    (λ c e rs x. rw e Iff·rfl)
+    (λ c e rs x. rw e iff.rfl)
 
 -- so there are joined octets of the octets defined for a sheet, and only one
 pub joined-defined : (c : Carrier) (s octets x : List ℕ) (rs : List Fields) → Bytes s → IsSheet s c rs → Defined s octets

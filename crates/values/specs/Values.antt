@@ -71,7 +71,7 @@ bracketed json s = cond json (ascii "[") [] ++ (s ++ cond json (ascii "]") [])
 abbrev pub dohpath : ℕ
 dohpath = 7
 
--- a key by its name, or as key_n (RFC 9460 §2.1, §14.3.2)
+-- a key by its name, or as keyN (RFC 9460 §2.1, §14.3.2)
 unfoldable pub key_of : ℕ → List ℕ
 key_of k =
     cond (eqb k key.mandatory) (ascii "mandatory")

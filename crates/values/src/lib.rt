@@ -119,7 +119,7 @@ pub fn put_comma(out: &mut [u8], at: usize, commas: bool, first: bool) -> usize
     put_mark(out, at, commas, b',')
 }
 
-// Writes a key by its name, or as key_n (RFC 9460 §2.1).
+// Writes a key by its name, or as keyN (RFC 9460 §2.1).
 pub fn put_key(out: &mut [u8], at: usize, key: usize) -> usize
     ensures { Puts at (key_of key) out.old result out.new }
 {
