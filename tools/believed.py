@@ -35,7 +35,8 @@ WORD = re.compile(r"[^\s(){}\[\],;]+")
 BINDER = re.compile(r"[({]([^(){}:]+) :")
 LAMBDA = re.compile(r"λ ([^.λ()]+)\.")
 HEAD = re.compile(r"\bfn (\w+)\b(?:[^{;\[]|\[[^\]]*\])*?(?=\s(?:requires|ensures)\b)")
-CLAUSE = re.compile(r"\s*(?:requires|ensures)(?: \w+)? (?=\{)")
+CLAUSE = re.compile(r"\s*(?:requires|ensures)\*?(?: \w+)? (?=\{)")
+BODY = re.compile(r"\s*[{;]")
 
 # One file: the names that it brings in, each as (file, name) or (file, None) for a whole module; its declarations by name
 File = collections.namedtuple("File", "imports whole declared laws")
@@ -85,7 +86,8 @@ def parsed(text):
 
 
 def clauses(text, at):
-    """The clauses of a contract that begins at an index, each without its braces."""
+    """The clauses of a contract that begins at an index, each without its braces; a body, or nothing, follows them."""
+    begin = at
     while clause := CLAUSE.match(text, at):
         start = at = clause.end()
         depth = 0
@@ -93,6 +95,8 @@ def clauses(text, at):
             depth += (text[at] == "{") - (text[at] == "}")
             at += 1
         yield text[start + 1 : at - 1]
+    if at == begin or not BODY.match(text, at):
+        sys.exit(f"believed.py: no contract that it can read: {text[begin:at + 60].strip()}")
 
 
 def source(text):
