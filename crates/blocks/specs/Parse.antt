@@ -1,5 +1,5 @@
 -- A body split into its fields, computed (RULES B1 to B7): 20 goes before 29. Assumes nothing: these are definitions.
-use Rattle.std.specs.Prelude.{Bool, cond, ◌&&◌, List, ℕ, ◌-◌, ◌*◌, ltb, eqb, length}
+use Rattle.std.specs.Prelude.{Bool, cond, ◌&&◌, List, ℕ, ◌*◌, ltb, eqb, length}
 use Rattle.octets.specs.Numbers.{all_zero}
 use Rattle.octets.specs.Fields.{part, number, counted}
 use Rattle.numbers.specs.Fault as fault

@@ -1,5 +1,5 @@
 -- An area of values with their headers is framed as exactly those values (RULES E2, E3, W4 to W8). Assumes nothing.
-use Rattle.std.specs.Prelude.{◌≡◌, refl, Bool, false, cond, List, [], ◌∷◌, ◌++◌, map, ℕ, ◌+◌, ◌<◌, length}
+use Rattle.std.specs.Prelude.{◌≡◌, refl, Bool, false, cond, List, [], ◌∷◌, ◌++◌, map, ℕ, ◌<◌, length}
 use Rattle.std.proofs.Common.{sym, ap, ◌∙◌, arith, length-append}
 use Rattle.octets.specs.Lists.{All, flat}
 use Rattle.octets.specs.ListsLaws.{flat_append, flat_map_append, all_append}

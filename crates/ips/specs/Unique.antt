@@ -1,5 +1,5 @@
 -- A text is of one address: two addresses with the same text are the same, in IPv4 and in IPv6. Assumes nothing.
-use Rattle.std.specs.Prelude.{◌≡◌, refl, Bool, true, false, ◌⊎◌, List, [], ◌∷◌, ◌++◌, map, ℕ, zero, ◌+◌, ◌-◌, ◌/◌, ◌≤◌, ◌<◌, eqb, ltb, length, get_or, take, drop}
+use Rattle.std.specs.Prelude.{◌≡◌, refl, Bool, true, false, ◌⊎◌, List, [], ◌∷◌, ◌++◌, map, ℕ, ◌+◌, ◌-◌, ◌/◌, ◌≤◌, ◌<◌, eqb, ltb, length, get_or, take, drop}
 use Rattle.std.proofs.Common.{sym, ap, ◌∙◌, inl, inr, append-nil, append_assoc, arith, eqb-true, ltb-true, ltb-false, length-append, length-drop, take-append-drop, length-take-le, get_or-take, get_or-drop, drop-cons, ext_get_or}
 use Rattle.std.proofs.Math.Bool.{and-eq-true_iff}
 use Rattle.octets.specs.Numbers.{Octet, Bytes, at16, words, numbers_of, zeros, all_zero}

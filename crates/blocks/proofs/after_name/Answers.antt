@@ -16,4 +16,8 @@ returns-then-n-addresses c = search (rules, after-name-addresses-cut)
 pub returns : goal.returns
 returns c =
     let named = c.requires.named in
-    record { result_value = search (rules, after-name-whole); inside = omega arith; ranged = whole-ranged _ named.1 (no-lifetime _ (omega arith)) (sym named.0) c.length_width-w.ensures _ }
+    record {
+      result_value = search (rules, after-name-whole);
+      inside = omega arith;
+      ranged = whole-ranged _ named.1 (no-lifetime _ (omega arith)) (sym named.0) c.length_width-w.ensures _;
+    }

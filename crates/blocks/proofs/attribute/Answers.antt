@@ -19,5 +19,8 @@ pub returns-then-n-addresses-2 : goal.returns-then-n-addresses-2
 returns-then-n-addresses-2 c = search (rules, attribute-fields-cut)
 
 pub returns : goal.returns
-returns c =
-    record { result_value = search (rules, attribute-whole); inside = search rules; ranged = attribute-whole-ranged _ _ c.requires c.address_width.ensures (omega arith) }
+returns c = record {
+  result_value = search (rules, attribute-whole);
+  inside = search rules;
+  ranged = attribute-whole-ranged _ _ c.requires c.address_width.ensures (omega arith);
+}

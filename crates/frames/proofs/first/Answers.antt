@@ -1,6 +1,6 @@
 -- `frames::first` meets its contract: each return is one of the laws of `or_mark`, and so has its number. Assumes nothing.
 use Rattle.std.proofs.Common.{◌≡◌, sym, ap, ◌∙◌, arith, get_or}
-use mathlib.Core.Bool.{false≢true}
+use Rattle.std.proofs.lemmas.Bool.{false≢true}
 use Rattle.carriers.specs.declared.Facts.{Facts}
 use Rattle.carriers.specs.Carriers.{is_joined}
 use Rattle.frames.specs.Frame.{head_in}

@@ -1,6 +1,6 @@
 -- `pieces::cut_within` meets its contract. The loop's invariant: the options of the first i octets stand at the front, and the headers
 -- to come have just the room between these and the octets to come. Assumes nothing.
-use Rattle.std.proofs.Common.{arith, ◌-◌}
+use Rattle.std.proofs.Common.{arith}
 use Rattle.pieces.specs.CuttingLaws.{cutting-start, cutting-room, cutting-turn, cutting-done}
 use Rattle.pieces.proofs.cut_within.Goals as goal
 

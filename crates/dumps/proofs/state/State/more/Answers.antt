@@ -1,0 +1,31 @@
+-- `dumps::state::State::more` meets its contract: the tests in order. Assumes nothing.
+use Rattle.std.proofs.Common.{sym, ◌∙◌, eq-eqb, ne_eqb}
+use Rattle.dumps.specs.StatesLaws.{class-digit}
+use Rattle.dumps.proofs.state.State.more.Goals as goal
+
+pub returns-then-f-eq0 : goal.returns-then-f-eq0
+returns-then-f-eq0 c =
+    c.beside.ensures ∙ simp (sym c.class_of.ensures ∙ c.in-Digit.is, eq-eqb _ _ c.if-f-eq0.true)
+
+pub high-requires : goal.high-requires
+high-requires c =
+    class-digit _ (sym c.class_of.ensures ∙ c.in-Digit.is)
+
+pub returns-then-f-eq0-2 : goal.returns-then-f-eq0-2
+returns-then-f-eq0-2 c =
+    c.beside-then-f-eq0-2.ensures ∙ simp (sym c.class_of.ensures ∙ c.in-Other.is, eq-eqb _ _ c.if-f-eq0-2.true)
+
+pub returns-in-Break : goal.returns-in-Break
+returns-in-Break c =
+    c.cut.ensures ∙ simp (sym c.class_of.ensures ∙ c.in-Break.is)
+
+pub returns-in-Blank : goal.returns-in-Blank
+returns-in-Blank c = simp (sym c.class_of.ensures ∙ c.in-Blank.is)
+
+pub returns-else-f-eq0 : goal.returns-else-f-eq0
+returns-else-f-eq0 c =
+    c.high.ensures ∙ simp (sym c.class_of.ensures ∙ c.in-Digit.is, ne_eqb _ _ c.if-f-eq0.false)
+
+pub returns-else-f-eq0-2 : goal.returns-else-f-eq0-2
+returns-else-f-eq0-2 c =
+    c.fenced.ensures ∙ simp (sym c.class_of.ensures ∙ c.in-Other.is, ne_eqb _ _ c.if-f-eq0-2.false)

@@ -1,0 +1,23 @@
+-- `dumps::state::State::one` meets its contract: the tests in order. Assumes nothing.
+use Rattle.std.proofs.Common.{sym, ◌∙◌}
+use Rattle.dumps.specs.StatesLaws.{class-digit}
+use Rattle.dumps.proofs.state.State.one.Goals as goal
+
+pub high-requires : goal.high-requires
+high-requires c = class-digit _ (sym c.class_of.ensures ∙ c.in-Digit.is)
+
+pub returns-in-Break : goal.returns-in-Break
+returns-in-Break c =
+    c.cut.ensures ∙ simp (sym c.class_of.ensures ∙ c.in-Break.is)
+
+pub returns-in-Blank : goal.returns-in-Blank
+returns-in-Blank c =
+    c.to.ensures ∙ simp (sym c.class_of.ensures ∙ c.in-Blank.is)
+
+pub returns-in-Digit : goal.returns-in-Digit
+returns-in-Digit c =
+    c.high.ensures ∙ simp (sym c.class_of.ensures ∙ c.in-Digit.is)
+
+pub returns-in-Other : goal.returns-in-Other
+returns-in-Other c =
+    c.but.ensures ∙ simp (sym c.class_of.ensures ∙ c.in-Other.is)

@@ -1,0 +1,18 @@
+-- `dumps::state::State::rest` meets its contract: the tests in order. Assumes nothing.
+use Rattle.std.proofs.Common.{sym, ◌∙◌}
+use Rattle.dumps.proofs.state.State.rest.Goals as goal
+
+pub returns-in-Break : goal.returns-in-Break
+returns-in-Break c =
+    c.columned.ensures ∙ simp (sym c.class_of.ensures ∙ c.in-Break.is)
+
+pub returns-in-Blank : goal.returns-in-Blank
+returns-in-Blank c = simp (sym c.class_of.ensures ∙ c.in-Blank.is)
+
+pub returns-in-Digit : goal.returns-in-Digit
+returns-in-Digit c =
+    c.but.ensures ∙ simp (sym c.class_of.ensures ∙ c.in-Digit.is)
+
+pub returns-in-Other : goal.returns-in-Other
+returns-in-Other c =
+    c.but-in-Other.ensures ∙ simp (sym c.class_of.ensures ∙ c.in-Other.is)

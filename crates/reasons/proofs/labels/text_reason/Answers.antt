@@ -1,0 +1,18 @@
+-- `reasons::labels::text_reason` meets its contract. Assumes nothing.
+use Rattle.std.proofs.Common.{rules, eq-eqb}
+use Rattle.reasons.specs.NamesLaws.{text-dot, text-hyphen, text-within}
+use Rattle.reasons.specs.Names.{text_reason}
+use Rattle.reasons.proofs.labels.text_reason.Goals as goal
+
+pub returns-then-s-eq0 : goal.returns-then-s-eq0
+unfolding text_reason
+returns-then-s-eq0 c = simp (eq-eqb _ _ c.if-s-eq0.true)
+
+pub returns-then-before-eq46 : goal.returns-then-before-eq46
+returns-then-before-eq46 c = search (rules, text-dot)
+
+pub returns-then-s-at : goal.returns-then-s-at
+returns-then-s-at c = search (rules, text-hyphen)
+
+pub returns : goal.returns
+returns c = search (rules, text-within)
