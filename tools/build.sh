@@ -1,7 +1,8 @@
 #!/bin/sh
-# Links the command: build/dnr, from the archive of the proved crate `tool` (rt staticlib tool) and a C main that only hands on its exit status.
+# Builds the command: build/dnr, the program of the proved crate `tool`. rt run proves what has changed in the crate and below it, compiles and links it, and
+# runs it once.
 set -eu
 cd "$(dirname "$0")/.."
-kit=$(dirname "$(dirname "$(rt doc)")")
+(cd crates/tool && rt run -- --version >/dev/null)
 mkdir -p build
-cc -O2 -o build/dnr host/tool/main.c target/staticlib/libtool.a "$kit/lib/libos_c.a"
+cp crates/tool/out/tool build/dnr

@@ -12,6 +12,8 @@ ghost use Rattle.arguments.specs.Line.{only, but, decided, with_form, chosen, wi
 ghost use Rattle.arguments.specs.Tables.{command_of};
 ghost use Rattle.arguments.specs.Line.{heard, with_next, with_long, begun, settled_of, Argued, Begun, Given};
 
+use std::env::FillError;
+use std::rt::Env;
 use tables::Options;
 
 // What is asked for.
@@ -338,15 +340,14 @@ impl Asked {
     }
 
     // With one argument more.
-    fn with_argument(self, i: usize) -> Self
+    fn with_argument<E: Env>(self, rt: &E, i: usize) -> Self
         ensures { Argued i self result }
     {
         let mut word = io::buffer();
-        let n = os::arg(i, &mut word);
-        if os::errno() != 0 {
-            return self.with_long(i);
+        match rt.arg(i, &mut word) {
+            Ok(n) => self.with_next(i, &word[..n]),
+            Err(_) => self.with_long(i),
         }
-        self.with_next(i, &word[..n])
     }
 
     // What can only be told at the end of the line.
@@ -361,26 +362,45 @@ impl Asked {
 }
 
 // The command of the first argument.
-fn first() -> Asked
+fn first<E: Env>(rt: &E) -> Asked
     ensures { Begun result }
 {
     let mut word = io::buffer();
-    let n = os::arg(1, &mut word);
-    if os::errno() != 0 {
-        return Asked::only(0, 0).but(Wrong::LONG, 1);
+    match rt.arg(1, &mut word) {
+        Ok(n) => Asked::of_first(&word[..n]),
+        Err(_) => Asked::only(0, 0).but(Wrong::LONG, 1),
     }
-    Asked::of_first(&word[..n])
+}
+
+// Whether there is an argument i.
+fn is_there<E: Env>(rt: &E, i: usize) -> bool {
+    let mut start = [0u8; 1];
+    match rt.arg(i, &mut start) {
+        Ok(_) => true,
+        Err(FillError::TooLong) => true,
+        Err(FillError::NotPresent) => false,
+    }
+}
+
+// How many arguments there are, the program's own name among them.
+pub fn count<E: Env>(rt: &E) -> usize {
+    for i in 0..usize::MAX {
+        if !is_there(rt, i) {
+            return i;
+        }
+    }
+    usize::MAX
 }
 
 // What the arguments ask for.
-pub fn given() -> Asked
+pub fn given<E: Env>(rt: &E) -> Asked
     ensures { Given result }
 {
-    let count = os::arg_count();
-    let mut a = first();
+    let count = count(rt);
+    let mut a = first(rt);
     let mut i = 2;
     while i < count {
-        a = a.with_argument(i);
+        a = a.with_argument(rt, i);
         i += 1;
     }
     a.settled()

@@ -7,15 +7,15 @@
 // 1,048,576 octets are read.
 #![tactic(auto)]
 
-ghost use Rattle.std.specs.Prelude.{◌≡◌, true, ◌+◌, ◌≤◌, ◌<◌, length};
+ghost use Rattle.std.specs.Prelude.{◌≡◌, true, ◌+◌, ◌≤◌, ◌<◌, length, IfOk};
 ghost use Rattle.io.specs.Counts.{IsPrefixLen};
 ghost use Rattle.boundaries.specs.Filling.{all_filled};
 ghost use Rattle.boundaries.specs.Cases.{end_of, read_end, case_end, Past};
 
 use answers::Result;
-use libc::{STDIN_FILENO, STDOUT_FILENO};
 use octets::{lesser, wide};
 use reading::Reading;
+use std::io::{Print, Read};
 
 // How many octets are read.
 const MOST: usize = 1048576;
@@ -64,89 +64,93 @@ fn is_filled(s: &[u8]) -> bool
 
 // ---- lines
 
+// Prints octets; whether that could be done, no one is told.
+fn print<P: Print>(to: &P, s: &[u8]) {
+    let _ = to.write_all(s);
+}
+
 // Prints x in decimal, after a space.
-fn print_number(x: usize) {
-    io::write_all(STDOUT_FILENO, b" ");
-    io::print_decimal(STDOUT_FILENO, x as u64);
+fn print_number<P: Print>(to: &P, x: usize) {
+    let _ = print!(to; " {x}");
 }
 
 // Prints at most `PART` octets in hexadecimal.
-fn print_part(s: &[u8]) {
+fn print_part<P: Print>(to: &P, s: &[u8]) {
     let mut text = io::buffer();
     let n = hexes::put_octets(&mut text, 0, s);
-    io::write_all(STDOUT_FILENO, &text[..n]);
+    print(to, &text[..n]);
 }
 
 // Prints octets in hexadecimal, part by part.
-fn print_octets(s: &[u8]) {
+fn print_octets<P: Print>(to: &P, s: &[u8]) {
     let mut i = 0;
     while i < s.len() {
         let end = i + lesser(s.len() - i, PART);
-        print_part(&s[i..end]);
+        print_part(to, &s[i..end]);
         i = end;
     }
 }
 
 // Prints octets in hexadecimal, after a space, or `-` where there are none.
-fn print_result(s: &[u8]) {
+fn print_result<P: Print>(to: &P, s: &[u8]) {
     if s.len() == 0 {
-        io::write_all(STDOUT_FILENO, b" -");
+        print(to, b" -");
         return;
     }
-    io::write_all(STDOUT_FILENO, b" ");
-    print_octets(s);
+    print(to, b" ");
+    print_octets(to, s);
 }
 
 // Prints how a line ends: the first `length` octets, and whether the rest is as before the call.
-fn print_buffer(out: &[u8], length: usize)
+fn print_buffer<P: Print>(to: &P, out: &[u8], length: usize)
     requires { IsPrefixLen length out.now }
 {
-    print_result(&out[..length]);
+    print_result(to, &out[..length]);
     if is_filled(&out[length..]) {
-        io::write_all(STDOUT_FILENO, b" kept\n");
+        print(to, b" kept\n");
     } else {
-        io::write_all(STDOUT_FILENO, b" changed\n");
+        print(to, b" changed\n");
     }
 }
 
-fn print_reading(r: Reading) {
-    io::write_all(STDOUT_FILENO, b"r");
-    print_number(r.number);
-    print_number(r.length);
-    print_number(r.found);
-    print_number(r.discarded);
-    print_number(r.fault);
-    print_number(r.place);
+fn print_reading<P: Print>(to: &P, r: Reading) {
+    print(to, b"r");
+    print_number(to, r.number);
+    print_number(to, r.length);
+    print_number(to, r.found);
+    print_number(to, r.discarded);
+    print_number(to, r.fault);
+    print_number(to, r.place);
 }
 
-fn print_writing(w: Result) {
-    io::write_all(STDOUT_FILENO, b"w");
-    print_number(w.number);
-    print_number(w.length);
-    print_number(w.place);
+fn print_writing<P: Print>(to: &P, w: Result) {
+    print(to, b"w");
+    print_number(to, w.number);
+    print_number(to, w.length);
+    print_number(to, w.place);
 }
 
 // Prints that no whole case stands here.
-fn print_nowhere() {
-    io::write_all(STDOUT_FILENO, b"?\n");
+fn print_nowhere<P: Print>(to: &P) {
+    print(to, b"?\n");
 }
 
 // ---- cases
 
 // Reads an area into the buffer `out`, and prints the line.
-fn run_read(carrier: u8, area: &[u8], out: &mut [u8]) {
+fn run_read<P: Print>(to: &P, carrier: u8, area: &[u8], out: &mut [u8]) {
     fill(out);
     let r = reading::read(wide(carrier), area, out);
-    print_reading(r);
-    print_buffer(out, r.length);
+    print_reading(to, r);
+    print_buffer(to, out, r.length);
 }
 
 // Writes a sheet into the buffer `out`, and prints the line.
-fn run_write(sheet: &[u8], out: &mut [u8]) {
+fn run_write<P: Print>(to: &P, sheet: &[u8], out: &mut [u8]) {
     fill(out);
     let w = writing::write(sheet, out);
-    print_writing(w);
-    print_buffer(out, w.length);
+    print_writing(to, w);
+    print_buffer(to, out, w.length);
 }
 
 // Where the case ends whose room and length stand from `at` on.
@@ -168,7 +172,7 @@ fn end_of(s: &[u8], at: usize) -> End
 }
 
 // Runs the case of reading that stands from its carrier, at `at`, on.
-fn read_case(s: &[u8], at: usize, out: &mut [u8]) -> End
+fn read_case<P: Print>(to: &P, s: &[u8], at: usize, out: &mut [u8]) -> End
     requires { at ≤ length s.now }
     ensures value { result ≡ read_end s.now at }
     ensures past { Past at s.now result }
@@ -182,12 +186,12 @@ fn read_case(s: &[u8], at: usize, out: &mut [u8]) -> End
     };
     let room = lesser(octets::get32(s, sizes), out.len());
     let start = sizes + SIZES;
-    run_read(s[at], &s[start..end], &mut out[..room]);
+    run_read(to, s[at], &s[start..end], &mut out[..room]);
     End::At(end)
 }
 
 // Runs the case of writing that stands from its room, at `at`, on.
-fn write_case(s: &[u8], at: usize, out: &mut [u8]) -> End
+fn write_case<P: Print>(to: &P, s: &[u8], at: usize, out: &mut [u8]) -> End
     requires { at ≤ length s.now }
     ensures value { result ≡ end_of s.now at }
     ensures past { Past at s.now result }
@@ -197,50 +201,76 @@ fn write_case(s: &[u8], at: usize, out: &mut [u8]) -> End
     };
     let room = lesser(octets::get32(s, at), out.len());
     let start = at + SIZES;
-    run_write(&s[start..end], &mut out[..room]);
+    run_write(to, &s[start..end], &mut out[..room]);
     End::At(end)
 }
 
 // Runs the case that stands from its letter, at `at`, on.
-fn run_case(s: &[u8], at: usize, out: &mut [u8]) -> End
+fn run_case<P: Print>(to: &P, s: &[u8], at: usize, out: &mut [u8]) -> End
     requires { at < length s.now }
     ensures value { result ≡ case_end s.now at }
     ensures past { Past (at + 1) s.now result }
 {
     if s[at] == b'r' {
-        return read_case(s, at + 1, out);
+        return read_case(to, s, at + 1, out);
     }
     if s[at] == b'w' {
-        return write_case(s, at + 1, out);
+        return write_case(to, s, at + 1, out);
     }
     End::Nowhere
 }
 
 // Runs the cases of s with buffers that are parts of `out`.
-fn run(s: &[u8], out: &mut [u8]) {
+fn run<P: Print>(to: &P, s: &[u8], out: &mut [u8]) {
     let mut at: usize = 0;
     while at < s.len() {
-        let End::At(end) = run_case(s, at, out) else {
-            print_nowhere();
+        let End::At(end) = run_case(to, s, at, out) else {
+            print_nowhere(to);
             return;
         };
         at = end;
     }
 }
 
-// Runs the cases of standard input, which is read to `input`.
-fn run_input(input: &mut [u8], out: &mut [u8]) {
-    let n = io::read_full(STDIN_FILENO, input);
-    run(&input[..n], out);
+// Reads until `buf` is full or the input ends.
+fn read_full<F: Read>(from: &mut F, buf: &mut [u8]) -> std::io::Result<usize>
+    ensures { IfOk result (λ n. IsPrefixLen n buf.new) }
+{
+    let mut n = 0;
+    while n < buf.len() {
+        let more = from.read(&mut buf[n..])?;
+        if more == 0 {
+            return Ok(n);
+        }
+        n += more;
+    }
+    Ok(n)
+}
+
+// Runs the cases of an input, which is read to `input`.
+fn run_input<F: Read, P: Print>(
+    from: &mut F,
+    to: &P,
+    input: &mut [u8],
+    out: &mut [u8],
+) -> std::io::Result<()> {
+    let n = read_full(from, input)?;
+    run(to, &input[..n], out);
+    Ok(())
 }
 
 // The same with an array: its length is known by its type, and no proof counts a million elements.
-fn run_array(input: &mut [u8; MOST], out: &mut [u8]) {
-    run_input(input, out);
+fn run_array<F: Read, P: Print>(
+    from: &mut F,
+    to: &P,
+    input: &mut [u8; MOST],
+    out: &mut [u8],
+) -> std::io::Result<()> {
+    run_input(from, to, input, out)
 }
 
-fn main() {
+fn main(rt: HostRuntime) -> std::io::Result<()> {
     let mut input = [0u8; MOST];
     let mut out = io::large_buffer();
-    run_array(&mut input, &mut out);
+    run_array(&mut rt.stdin(), &rt, &mut input, &mut out)
 }

@@ -1,10 +1,6 @@
 // The text of `dnr --help`.
 
-// Prints the text; answers whether it could.
-pub fn print(fd: i32) -> bool {
-    io::write_all(
-        fd,
-        b"usage: dnr read CARRIER [AREA] [-o SHEET] [--json] [--value] [--strict] [--force] [FORM]
+pub const TEXT: &[u8] = b"usage: dnr read CARRIER [AREA] [-o SHEET] [--json] [--value] [--strict] [--force] [FORM]
        dnr write [SHEET] [-o AREA] [--json] [FORM]
        dnr show [SHEET] [--json] [FORM]
        dnr octets [FILE] [-o OCTETS] [--json] [FORM]
@@ -31,6 +27,4 @@ FORM         --hex (text), --raw (octets as they are) or --base64; with none,
 
 exit status  0 done, 1 refused by a number, 2 wrong use, no octets, or a file,
              3 done, and the answer is no
-",
-    )
-}
+";

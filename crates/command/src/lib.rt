@@ -17,10 +17,9 @@ ghost use Rattle.command.specs.Numbers.{reading_of, less, Gives, ReadAs, write_n
 
 use arguments::{Asked, Command};
 use carriers::{Carrier, Chosen};
-use files::{input, messages, output};
+use files::{System, input, messages, output};
 use forms::places;
 use inputs::Read;
-use libc::{STDERR_FILENO, STDOUT_FILENO};
 use numbers::{Fault, Limit, Refusal};
 use octets::lesser;
 use reading::Reading;
@@ -72,43 +71,43 @@ fn hint(carrier: usize, area: &[u8]) -> usize
 }
 
 // Says that the area is refused; where it cannot be framed, another carrier may find records.
-fn refuse(a: Asked, name: &[u8], area: &[u8], number: usize) -> i32
+fn refuse<R: System>(rt: &R, a: Asked, name: &[u8], area: &[u8], number: usize) -> i32
     ensures { result ≡ pos status.refused }
 {
     if number == Refusal::FRAMING {
-        return messages::refused(a.json, name, number, hint(a.carrier, area));
+        return messages::refused(rt, a.json, name, number, hint(a.carrier, area));
     }
-    messages::refused(a.json, name, number, 0)
+    messages::refused(rt, a.json, name, number, 0)
 }
 
 // Says how many blocks were discarded; where all were, another carrier may find records.
-fn tell_less(a: Asked, name: &[u8], area: &[u8], r: Reading) {
+fn tell_less<R: System>(rt: &R, a: Asked, name: &[u8], area: &[u8], r: Reading) {
     if r.discarded == 0 {
         return;
     }
     if r.discarded < r.found {
-        messages::less(a.json, name, r.discarded, r.found, 0);
+        messages::less(rt, a.json, name, r.discarded, r.found, 0);
         return;
     }
-    messages::less(a.json, name, r.discarded, r.found, hint(a.carrier, area));
+    messages::less(rt, a.json, name, r.discarded, r.found, hint(a.carrier, area));
 }
 
 // Says that nothing was found, or what was left out: the discarded blocks and the dropped addresses.
-fn tell(a: Asked, name: &[u8], area: &[u8], r: Reading) {
+fn tell<R: System>(rt: &R, a: Asked, name: &[u8], area: &[u8], r: Reading) {
     if r.found == 0 {
-        messages::nothing(a.json, name, a.carrier, area.len(), hint(a.carrier, area));
+        messages::nothing(rt, a.json, name, a.carrier, area.len(), hint(a.carrier, area));
         return;
     }
-    tell_less(a, name, area, r);
+    tell_less(rt, a, name, area, r);
     if let Chosen::Known(c) = Carrier::of(a.carrier) {
-        telling::list(a.json, name, c, area);
+        telling::list(rt, a.json, name, c, area);
     }
 }
 
 // Whether the file that would be replaced is a sheet with records.
-fn has_records(a: Asked) -> bool {
+fn has_records<R: System>(rt: &R, a: Asked) -> bool {
     let mut old = [0u8; Limit::SHEET];
-    let got = input::load(a.output, a.front, &mut old);
+    let got = input::load(rt, a.output, a.front, &mut old);
     if got.failed {
         return false;
     }
@@ -120,26 +119,26 @@ fn has_records(a: Asked) -> bool {
 }
 
 // Saves a sheet. A file that has records is not replaced by a sheet that has none, unless that is asked for.
-fn save_sheet(a: Asked, r: Reading, sheet: &[u8]) -> i32
+fn save_sheet<R: System>(rt: &R, a: Asked, r: Reading, sheet: &[u8]) -> i32
     ensures { Delivered result }
 {
     if r.found != r.discarded {
-        return output::save(a.json, a.output, a.front, sheet);
+        return output::save(rt, a.json, a.output, a.front, sheet);
     }
     if a.force {
-        return output::save(a.json, a.output, a.front, sheet);
+        return output::save(rt, a.json, a.output, a.front, sheet);
     }
-    if has_records(a) {
-        return output::keep(a.json, a.output, a.front);
+    if has_records(rt, a) {
+        return output::keep(rt, a.json, a.output, a.front);
     }
-    output::save(a.json, a.output, a.front, sheet)
+    output::save(rt, a.json, a.output, a.front, sheet)
 }
 
 // Saves a sheet; in JSON its length is then printed.
-fn give_saved(a: Asked, r: Reading, sheet: &[u8], text: &mut [u8]) -> i32
+fn give_saved<R: System>(rt: &R, a: Asked, r: Reading, sheet: &[u8], text: &mut [u8]) -> i32
     ensures { Delivered result }
 {
-    let status = save_sheet(a, r, sheet);
+    let status = save_sheet(rt, a, r, sheet);
     if status != 0 {
         return status;
     }
@@ -147,18 +146,18 @@ fn give_saved(a: Asked, r: Reading, sheet: &[u8], text: &mut [u8]) -> i32
         return status;
     }
     let n = results::put_saved(text, r.found, r.discarded, r.fault, r.place, sheet.len());
-    output::print(a.json, &text[..n])
+    output::print(rt, a.json, &text[..n])
 }
 
 // Prints a reading, or saves its sheet.
-fn give_reading(a: Asked, r: Reading, sheet: &[u8], text: &mut [u8]) -> i32
+fn give_reading<R: System>(rt: &R, a: Asked, r: Reading, sheet: &[u8], text: &mut [u8]) -> i32
     ensures { Delivered result }
 {
     if a.output != 0 {
-        return give_saved(a, r, sheet, text);
+        return give_saved(rt, a, r, sheet, text);
     }
     let n = results::put(text, a.json, r.found, r.discarded, r.fault, r.place, sheet);
-    output::print(a.json, &text[..n])
+    output::print(rt, a.json, &text[..n])
 }
 
 // The status of a reading whose sheet was given with a status: with `--strict` no, where nothing was found or something was discarded.
@@ -181,75 +180,75 @@ fn settled(strict: bool, r: Reading, status: i32) -> i32
 }
 
 // Reads an area.
-fn read(a: Asked, name: &[u8], area: &[u8], text: &mut [u8]) -> i32
+fn read<R: System>(rt: &R, a: Asked, name: &[u8], area: &[u8], text: &mut [u8]) -> i32
     ensures { ReadAs a.strict (reading_of a.carrier area.now) result }
 {
     let mut sheet = [0u8; Limit::SHEET];
     let r = reading::read(a.carrier, area, &mut sheet);
     if r.number != 0 {
-        return refuse(a, name, area, r.number);
+        return refuse(rt, a, name, area, r.number);
     }
     let n = r.length;
-    let status = give_reading(a, r, &sheet[..n], text);
-    tell(a, name, area, r);
+    let status = give_reading(rt, a, r, &sheet[..n], text);
+    tell(rt, a, name, area, r);
     settled(a.strict, r, status)
 }
 
 // ---- write, show and octets
 
 // Prints octets as hexadecimal text, or saves them.
-fn give_octets(a: Asked, s: &[u8], text: &mut [u8]) -> i32
+fn give_octets<R: System>(rt: &R, a: Asked, s: &[u8], text: &mut [u8]) -> i32
     ensures { Delivered result }
 {
     if a.output != 0 {
-        return output::save_octets(a.json, a.output, a.front, s);
+        return output::save_octets(rt, a.json, a.output, a.front, s);
     }
-    output::print_hex(a.json, s, text)
+    output::print_hex(rt, a.json, s, text)
 }
 
 // Says that a sheet is refused; with 22 also at which octet, and why the resolver's name there is bad.
-fn refuse_sheet(a: Asked, name: &[u8], sheet: &[u8], number: usize, place: usize) -> i32
+fn refuse_sheet<R: System>(rt: &R, a: Asked, name: &[u8], sheet: &[u8], number: usize, place: usize) -> i32
     ensures { result ≡ pos status.refused }
 {
     if number == Fault::NAME {
         let reason = findings::sheet::reason(sheet, place);
-        return messages::refused_at(a.json, name, place, reason);
+        return messages::refused_at(rt, a.json, name, place, reason);
     }
-    messages::refused(a.json, name, number, 0)
+    messages::refused(rt, a.json, name, number, 0)
 }
 
 // Writes the octets of a sheet.
-fn write(a: Asked, name: &[u8], sheet: &[u8], text: &mut [u8]) -> i32
+fn write<R: System>(rt: &R, a: Asked, name: &[u8], sheet: &[u8], text: &mut [u8]) -> i32
     ensures { Answers (write_number sheet.now) result }
 {
     let mut octets = [0u8; OCTETS];
     let w = writing::write(sheet, &mut octets);
     if w.number != 0 {
-        return refuse_sheet(a, name, sheet, w.number, w.place);
+        return refuse_sheet(rt, a, name, sheet, w.number, w.place);
     }
     let n = w.length;
-    give_octets(a, &octets[..n], text)
+    give_octets(rt, a, &octets[..n], text)
 }
 
 // Prints a sheet.
-fn print_sheet(sheet: &[u8], json: bool, text: &mut [u8]) -> i32
+fn print_sheet<R: System>(rt: &R, sheet: &[u8], json: bool, text: &mut [u8]) -> i32
     ensures { Delivered result }
 {
     let n = showing::show(sheet, text, json);
-    output::print(json, &text[..n])
+    output::print(rt, json, &text[..n])
 }
 
 // Shows a sheet that writing accepts: one that passes, and of which no record is large (44).
-fn show(a: Asked, name: &[u8], sheet: &[u8], text: &mut [u8]) -> i32
+fn show<R: System>(rt: &R, a: Asked, name: &[u8], sheet: &[u8], text: &mut [u8]) -> i32
     ensures { Shows (vetting.told (vet_of sheet.now)) result }
 {
     match vetting::vet(sheet) {
-        Vetted::Refused { number, place } => refuse_sheet(a, name, sheet, number, place),
+        Vetted::Refused { number, place } => refuse_sheet(rt, a, name, sheet, number, place),
         Vetted::Sheet { large, .. } => {
             if large {
-                return messages::refused(a.json, name, Refusal::LARGE, 0);
+                return messages::refused(rt, a.json, name, Refusal::LARGE, 0);
             }
-            print_sheet(sheet, a.json, text)
+            print_sheet(rt, sheet, a.json, text)
         }
     }
 }
@@ -257,27 +256,27 @@ fn show(a: Asked, name: &[u8], sheet: &[u8], text: &mut [u8]) -> i32
 // ---- the command
 
 // Does what is asked with the octets that were given.
-fn perform(a: Asked, name: &[u8], s: &[u8]) -> i32
+fn perform<R: System>(rt: &R, a: Asked, name: &[u8], s: &[u8]) -> i32
     ensures { Performs a s.now result }
 {
     let mut text = [0u8; TEXT];
-    perform_in(a, name, s, &mut text)
+    perform_in(rt, a, name, s, &mut text)
 }
 
 // The same with room for the text. Where a long array is lent as an array, no proof computes its length.
-fn perform_in(a: Asked, name: &[u8], s: &[u8], text: &mut [u8; TEXT]) -> i32
+fn perform_in<R: System>(rt: &R, a: Asked, name: &[u8], s: &[u8], text: &mut [u8; TEXT]) -> i32
     ensures { Performs a s.now result }
 {
     if a.command == Command::READ {
-        return read(a, name, s, text);
+        return read(rt, a, name, s, text);
     }
     if a.command == Command::WRITE {
-        return write(a, name, s, text);
+        return write(rt, a, name, s, text);
     }
     if a.command == Command::SHOW {
-        return show(a, name, s, text);
+        return show(rt, a, name, s, text);
     }
-    give_octets(a, s, text)
+    give_octets(rt, a, s, text)
 }
 
 // Reads the input as it is asked for: its octets, or the options of its values.
@@ -295,89 +294,91 @@ fn decode(a: Asked, text: &[u8], out: &mut [u8]) -> Read
 }
 
 // Takes the input, or says why it spells no octets.
-fn perform_on(a: Asked, name: &[u8], text: &[u8]) -> i32
+fn perform_on<R: System>(rt: &R, a: Asked, name: &[u8], text: &[u8]) -> i32
     ensures { Takes a (input_of a text.now room) result }
 {
     let mut given = [0u8; Limit::INPUT];
     match decode(a, text, &mut given) {
         Read::Octets(n) => {
             let end = lesser(n, Limit::INPUT);
-            perform(a, name, &given[..end])
+            perform(rt, a, name, &given[..end])
         }
-        Read::Bad { at, why } => messages::unread(a.json, name, places::line(text, at), why),
-        Read::Long => messages::refused(a.json, name, Refusal::INPUT, 0),
+        Read::Bad { at, why } => messages::unread(rt, a.json, name, places::line(text, at), why),
+        Read::Long => messages::refused(rt, a.json, name, Refusal::INPUT, 0),
     }
 }
 
 // Reads the input to `text`, and does what is asked with it.
-fn run_on(a: Asked, name: &[u8], text: &mut [u8]) -> i32
+fn run_on<R: System>(rt: &R, a: Asked, name: &[u8], text: &mut [u8]) -> i32
     ensures { Exited result }
 {
-    let got = input::read(a.json, a.input, name, text);
+    let got = input::read(rt, a.json, a.input, name, text);
     if got.failed {
         return 2;
     }
     let n = got.length;
     if input::MOST < n {
-        return messages::long(a.json, name);
+        return messages::long(rt, a.json, name);
     }
-    perform_on(a, name, &text[..n])
+    perform_on(rt, a, name, &text[..n])
 }
 
 // The same with the name that messages give the input.
-fn run_in(a: Asked, text: &mut [u8; input::ROOM]) -> i32
+fn run_in<R: System>(rt: &R, a: Asked, text: &mut [u8; input::ROOM]) -> i32
     ensures { Exited result }
 {
     let mut path = io::buffer();
-    let n = input::name(a.input, &mut path);
-    run_on(a, &path[..n], text)
+    let n = input::name(rt, a.input, &mut path);
+    run_on(rt, a, &path[..n], text)
 }
 
 // The same with room for the input.
-fn run(a: Asked) -> i32
+fn run<R: System>(rt: &R, a: Asked) -> i32
     ensures { Exited result }
 {
     let mut text = [0u8; input::ROOM];
-    run_in(a, &mut text)
+    run_in(rt, a, &mut text)
 }
 
 // Prints the help that was asked for.
-fn print_help() -> i32
+fn print_help<R: System>(rt: &R) -> i32
     ensures { Delivered result }
 {
-    if help::print(STDOUT_FILENO) {
-        return 0;
-    }
-    messages::failed(false, b"standard output")
+    output::print(rt, false, help::TEXT)
+}
+
+// Says on standard error how the command is used; whether it could be written, no one is told.
+fn say_help<R: System>(rt: &R) {
+    let _ = rt.errors().write_all(help::TEXT);
 }
 
 // Prints the version.
-fn print_version(json: bool) -> i32
+fn print_version<R: System>(rt: &R, json: bool) -> i32
     ensures { Delivered result }
 {
     if json {
-        return output::print(json, b"{\"version\":\"0.3.0\"}\n");
+        return output::print(rt, json, b"{\"version\":\"0.3.0\"}\n");
     }
-    output::print(json, b"dnr 0.3.0\n")
+    output::print(rt, json, b"dnr 0.3.0\n")
 }
 
 // The command, with the arguments of the process; its answer is the exit status.
-pub fn execute() -> i32
+pub fn execute<R: System>(rt: &R) -> i32
     ensures { Exited result }
 {
-    if os::arg_count() < 2 {
-        help::print(STDERR_FILENO);
+    if arguments::count(rt) < 2 {
+        say_help(rt);
         return 2;
     }
-    let a = arguments::given();
+    let a = arguments::given(rt);
     if a.wrong != 0 {
-        return messages::usage(a);
+        return messages::usage(rt, a);
     }
     if a.command == Command::HELP {
-        return print_help();
+        return print_help(rt);
     }
     if a.command == Command::VERSION {
-        return print_version(a.json);
+        return print_version(rt, a.json);
     }
-    run(a)
+    run(rt, a)
 }

@@ -1,11 +1,12 @@
 // What the system knows of a file: its kind and its permissions, its owner and its group.
-// The two calls `of_open` and `of_path` are proved by a walk of their code: the prover does not follow a reference to a struct by itself.
 ghost use Rattle.std.specs.Prelude.{◌≡◌};
-ghost use Rattle.libc.specs.Io.{Ended};
+ghost use Rattle.std.specs.Fs.{metadata_mode};
 ghost use Rattle.files.specs.Modes.{regular, permissions, narrowed};
 
-use libc::PATH_MAX;
-use libc::types::{stat, timespec};
+use std::fs::{File, Metadata};
+use std::os::unix::fs::MetadataExt;
+use std::rt::Files;
+use std::{fs, io};
 
 // Mode, owner and group as the system gives them. Mode 0, which no file has: there is no file, or the system does not say.
 #[derive(Clone, Copy)]
@@ -26,66 +27,27 @@ pub fn none() -> Known
     }
 }
 
-// What a call of the system fills.
-fn unfilled() -> stat {
-    let epoch = timespec {
-        tv_sec: 0,
-        tv_nsec: 0,
-    };
-    stat {
-        st_dev: 0,
-        st_ino: 0,
-        st_nlink: 0,
-        st_mode: 0,
-        st_uid: 0,
-        st_gid: 0,
-        __pad: 0,
-        st_rdev: 0,
-        st_size: 0,
-        st_blksize: 0,
-        st_blocks: 0,
-        st_atim: epoch,
-        st_mtim: epoch,
-        st_ctim: epoch,
-        __unused: [0; 3],
-    }
-}
-
 // What of it is used.
-fn taken(s: stat) -> Known
-    ensures { (result.mode ≡ s.st_mode) × (result.owner ≡ s.st_uid) × (result.group ≡ s.st_gid) }
+fn taken(about: &Metadata) -> Known
+    ensures { result.mode ≡ metadata_mode about.now }
 {
     Known {
-        mode: s.st_mode,
-        owner: s.st_uid,
-        group: s.st_gid,
+        mode: about.mode(),
+        owner: about.uid(),
+        group: about.gid(),
     }
-}
-
-// Fills `s` for what is open. A call that fails leaves it as it is.
-fn of_open(fd: i32, mut s: stat) -> stat {
-    libc::fstat(fd, &mut s);
-    s
-}
-
-// Fills `s` for the file at a path. A call that fails leaves it as it is.
-fn of_path(path: &[u8; PATH_MAX], mut s: stat) -> stat
-    requires { Ended path.now }
-{
-    libc::stat(path, &mut s);
-    s
 }
 
 // What is known of what is open.
-pub fn open(fd: i32) -> Known {
-    taken(of_open(fd, unfilled()))
+pub fn open(file: &File) -> io::Result<Known> {
+    let about = file.metadata()?;
+    Ok(taken(&about))
 }
 
 // What is known of the file at a path, which is not opened: a pipe would wait for its other end.
-pub fn at(path: &[u8; PATH_MAX]) -> Known
-    requires { Ended path.now }
-{
-    taken(of_path(path, unfilled()))
+pub fn at<R: Files>(rt: &R, path: &str) -> io::Result<Known> {
+    let about = fs::metadata(rt, path)?;
+    Ok(taken(&about))
 }
 
 // Whether a mode is that of a regular file.

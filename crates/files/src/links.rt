@@ -1,27 +1,16 @@
 // The file that a path leads to when its last name is a symbolic link, so that a file is replaced where it is and the link stays.
-ghost use Rattle.std.specs.Prelude.{◌≡◌, ◌≤◌, length};
+ghost use Rattle.std.specs.Prelude.{◌≡◌, ◌≤◌, length, IfOk};
 ghost use Rattle.io.specs.Counts.{IsPrefixLen};
-ghost use Rattle.libc.specs.Io.{Ended};
 ghost use Rattle.files.specs.Paths.{folder_of, place_of};
 
+use crate::paths;
+use crate::paths::PATH_MAX;
 use chars::put_all;
-use libc::PATH_MAX;
-
-// Where the last octet of a path stands for C: it is 0.
-const LAST: usize = PATH_MAX - 1;
+use std::rt::Files;
+use std::{fs, io};
 
 // How many links are followed, as the system does.
 const MOST: usize = 40;
-
-// A path as C takes it.
-pub fn ended(path: &[u8]) -> [u8; PATH_MAX]
-    ensures { Ended result }
-{
-    let mut whole = io::buffer();
-    put_all(&mut whole, 0, path);
-    whole[LAST] = 0;
-    whole
-}
 
 // The index after the last slash.
 pub fn folder(path: &[u8]) -> usize
@@ -49,39 +38,51 @@ fn place(path: &[u8], first: u8) -> usize
     folder(path)
 }
 
-// Puts in the place of a path of n octets where a link leads, and returns how long that is; 0 where the path is no link, or is longer than C takes:
-// cut, it would be the path of another file.
-fn step(path: &mut [u8], n: usize) -> usize
+// Puts what a link says in the place of its path of n octets, and returns how long that is; 0 where it says nothing.
+fn put_link(path: &mut [u8], n: usize, link: &[u8]) -> usize
     requires { n ≤ length path.old }
     ensures { IsPrefixLen result path.new }
 {
-    if LAST < n {
-        return 0;
-    }
-    let mut link = io::buffer();
-    let got = libc::readlink(&ended(&path[..n]), &mut link);
-    let k = io::count(got, &link);
-    if k == 0 {
+    if link.len() == 0 {
         return 0;
     }
     let at = place(&path[..n], link[0]);
-    put_all(path, at, &link[..k])
+    put_all(path, at, link)
+}
+
+// Puts in the place of a path of n octets where a link leads, and returns how long that is; 0 where the path is no link, or is longer than the
+// system takes: cut, it would be the path of another file.
+fn step<R: Files + Alloc>(rt: &R, path: &mut [u8], n: usize) -> io::Result<usize>
+    requires { n ≤ length path.old }
+    ensures { IfOk result (λ k. IsPrefixLen k path.new) }
+{
+    if PATH_MAX <= n {
+        return Ok(0);
+    }
+    let text = paths::text(&path[..n])?;
+    match fs::read_link(rt, text) {
+        Ok(link) => Ok(put_link(path, n, link.as_str().as_bytes())),
+        Err(why) => match why.raw_os_error() {
+            Some(_) => Ok(0),
+            None => Err(why),
+        },
+    }
 }
 
 // Puts in the place of a path of n octets where it leads, and returns how long that is.
-pub fn follow(path: &mut [u8], n: usize) -> usize
+pub fn follow<R: Files + Alloc>(rt: &R, path: &mut [u8], n: usize) -> io::Result<usize>
     requires { n ≤ length path.old }
-    ensures { IsPrefixLen result path.new }
+    ensures { IfOk result (λ k. IsPrefixLen k path.new) }
 {
     let mut m = n;
     let mut turns: usize = 0;
     while turns < MOST {
-        let next = step(path, m);
+        let next = step(rt, path, m)?;
         if next == 0 {
-            return m;
+            return Ok(m);
         }
         m = next;
         turns += 1;
     }
-    m
+    Ok(m)
 }

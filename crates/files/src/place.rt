@@ -1,159 +1,261 @@
 // A file that is made or replaced whole: its octets go to a new file in the same folder, which takes its name once they are on their device.
 // Of the file that was there its permissions stay, and its owner and group where the system lets them.
-ghost use Rattle.std.specs.Prelude.{true, [], ◌∷◌, ◌≡◌};
+ghost use Rattle.std.specs.Prelude.{true, [], ◌∷◌, ◌≡◌, IfOk};
+ghost use Rattle.io.specs.Counts.{IsPrefixLen};
 ghost use Rattle.files.specs.Modes.{permissions, narrowed};
 ghost use Rattle.files.specs.Status.{among, Delivered};
 
 use crate::known::Known;
-use crate::{known, links, messages};
+use crate::paths::PATH_MAX;
+use crate::{System, closing, known, links, messages, paths};
 use chars::put_all;
-use libc::PATH_MAX;
+use std::fs::{File, OpenOptions, Permissions};
+use std::io::{Error, ErrorKind, Write};
+use std::os::unix::fs::{OpenOptionsExt, PermissionsExt, fchown};
+use std::rt::Files;
+use std::{fs, io};
 
 // Octets of a folder's path with the name of a new file.
 const PART: usize = PATH_MAX + 16;
 
-// The owner that fchown leaves as it is (POSIX: -1).
-const SAME: u32 = 4294967295;
+// Letters at the end of a new file's name.
+const LETTERS: usize = 6;
+
+// How many names are tried for a new file: as many as there are of three letters (glibc's mkstemp tries as many).
+const TRIES: usize = 62 * 62 * 62;
 
 // ---- what stays of the old file
 
 // Gives what is open the owner and group of the old file, or its group alone, and returns what it may allow then.
-fn hand_over(fd: i32, old: Known) -> u32
+fn hand_over(file: &File, old: Known) -> u32
     ensures { among result (permissions old.mode ∷ narrowed old.mode ∷ []) ≡ true }
 {
-    if libc::fchown(fd, old.owner, old.group) == 0 {
+    if fchown(file, Some(old.owner), Some(old.group)).is_ok() {
         return known::allowed(old.mode);
     }
-    if libc::fchown(fd, SAME, old.group) == 0 {
+    if fchown(file, None, Some(old.group)).is_ok() {
         return known::allowed(old.mode);
     }
     known::allowed_less(old.mode)
 }
 
 // Makes what is open as the old file was. Permissions come last: a change of owner drops some, and they say what the owner that it has may do.
-fn keep(fd: i32, old: Known) -> bool {
+fn keep(file: &File, old: Known) -> io::Result<()> {
     if old.mode == 0 {
-        return true;
+        return Ok(());
     }
-    let mode = hand_over(fd, old);
-    libc::fchmod(fd, mode) == 0
+    let mode = hand_over(file, old);
+    file.set_permissions(Permissions::from_mode(mode))
 }
 
 // ---- the new file
 
-// Makes a file whose name ends in six letters that the system finds. What replaces a file is its owner's alone until it is as the old file was;
-// what replaces none is made a second time, since only so it has the permissions that new files of this process have.
-fn make(part: &mut [u8], old: Known) -> i32 {
-    let fd = os::create_temp(part);
-    if fd < 0 {
-        return fd;
+// The letter of an octet: a digit, a capital or a small one.
+fn letter(x: u8) -> u8 {
+    let k = x % 62;
+    if k < 10 {
+        return b'0' + k;
     }
-    if old.mode != 0 {
-        return fd;
+    if k < 36 {
+        return b'A' + (k - 10);
     }
-    libc::close(fd);
-    if os::unlink(part) != 0 {
-        return -1;
+    b'a' + (k - 36)
+}
+
+// Letters that the system finds.
+fn letters<R: System>(rt: &R) -> io::Result<[u8; LETTERS]> {
+    let mut found = [0u8; LETTERS];
+    rt.fill_bytes(&mut found)?;
+    for x in found.iter_mut() {
+        *x = letter(*x);
     }
-    os::create(part)
+    Ok(found)
+}
+
+// The permissions that a new file is asked for: what replaces a file is its owner's alone until it is as the old file was; what replaces none has
+// the permissions that new files of this process have.
+fn asked(old: Known) -> u32 {
+    if old.mode == 0 { 0o666 } else { 0o600 }
+}
+
+// Makes a file, which is there for nobody else.
+fn create<R: System>(rt: &R, part: &[u8], old: Known) -> io::Result<File> {
+    OpenOptions::new()
+        .write(true)
+        .create_new(true)
+        .mode(asked(old))
+        .open(rt, paths::text(part)?)
+}
+
+// Puts letters after the first `at` octets of a name, and makes a file of that name, or none where another file has it. Returns how long the name is.
+fn try_letters<R: System>(
+    rt: &R,
+    part: &mut [u8],
+    at: usize,
+    old: Known,
+) -> io::Result<(Option<File>, usize)>
+    ensures { IfOk result (λ r. IsPrefixLen r.1 part.new) }
+{
+    let found = letters(rt)?;
+    let n = put_all(part, at, &found);
+    match create(rt, &part[..n], old) {
+        Ok(file) => Ok((Some(file), n)),
+        Err(why) => {
+            if why.kind() == ErrorKind::AlreadyExists {
+                return Ok((None, n));
+            }
+            Err(why)
+        }
+    }
+}
+
+// Makes a file whose name is the first `at` octets of `part` and letters that make it one of no other file. Returns how long the name is.
+fn make<R: System>(rt: &R, part: &mut [u8], at: usize, old: Known) -> io::Result<(File, usize)>
+    ensures { IfOk result (λ r. IsPrefixLen r.1 part.new) }
+{
+    for _ in 0..TRIES {
+        let (made, n) = try_letters(rt, part, at, old)?;
+        if let Some(file) = made {
+            return Ok((file, n));
+        }
+    }
+    Err(Error::from(ErrorKind::AlreadyExists))
 }
 
 // Says why no file could be made. That it was to stand beside the target matters only where there is one, which itself can be written.
-fn say_unmade(json: bool, name: &[u8], old: Known) {
+fn say_unmade<R: System>(rt: &R, json: bool, name: &[u8], old: Known, why: Error) {
     if old.mode == 0 {
-        messages::failed(json, name);
+        messages::failed(rt, json, name, why);
     } else {
-        messages::failed_beside(json, name);
+        messages::failed_beside(rt, json, name, why);
     }
 }
 
-// Writes octets until they are on their device; answers whether that could be done, and errno says why not.
-fn write_whole(fd: i32, old: Known, s: &[u8]) -> bool {
-    if !keep(fd, old) {
-        return false;
-    }
-    if !io::write_all(fd, s) {
-        return false;
-    }
-    libc::fsync(fd) == 0
+// Writes octets until they are on their device.
+fn write_whole(file: &mut File, old: Known, s: &[u8]) -> io::Result<()> {
+    keep(file, old)?;
+    file.write_all(s)?;
+    file.sync_all()
 }
 
-// The same, and closes the file; says why where one of them cannot be done.
-fn fill(json: bool, fd: i32, old: Known, name: &[u8], s: &[u8]) -> bool {
-    if !write_whole(fd, old, s) {
-        messages::failed(json, name);
-        libc::close(fd);
-        return false;
-    }
-    if libc::close(fd) != 0 {
-        messages::failed(json, name);
-        return false;
-    }
-    true
+// The same, and closes the file.
+fn fill<R: System>(rt: &R, mut file: File, old: Known, s: &[u8]) -> io::Result<()> {
+    write_whole(&mut file, old, s)?;
+    closing::close(rt, file)
 }
 
 // ---- its name
 
 // Asks that the new name outlasts a loss of power. Whether it does, nobody is told: the file is replaced, some systems sync no folder, and where the
 // name is lost the old file is there, whole.
-fn sync_folder(folder: &[u8]) {
-    let fd = os::open_read(folder);
-    if 0 <= fd {
-        libc::fsync(fd);
-        libc::close(fd);
+fn sync_folder<R: System>(rt: &R, folder: &[u8]) {
+    let Ok(text) = paths::text(folder) else {
+        return;
+    };
+    if let Ok(file) = fs::open(rt, text) {
+        let _ = file.sync_all();
     }
 }
 
 // The same for the folder of a path, which is this one where the path names none.
-fn sync_folder_of(path: &[u8]) {
+fn sync_folder_of<R: System>(rt: &R, path: &[u8]) {
     let n = links::folder(path);
     if n == 0 {
-        sync_folder(b".");
+        sync_folder(rt, b".");
     } else {
-        sync_folder(&path[..n]);
+        sync_folder(rt, &path[..n]);
     }
 }
 
+// Takes a new file away that is not to be.
+fn unlink<R: System>(rt: &R, part: &[u8]) {
+    if let Ok(text) = paths::text(part) {
+        let _ = fs::remove_file(rt, text);
+    }
+}
+
+// Gives a new file the name `path`.
+fn rename<R: System>(rt: &R, part: &[u8], path: &[u8]) -> io::Result<()> {
+    fs::rename(rt, paths::text(part)?, paths::text(path)?)
+}
+
 // Writes octets to a new file `part`, and gives it the name `path`.
-fn replace_by(json: bool, part: &mut [u8], path: &[u8], old: Known, name: &[u8], s: &[u8]) -> i32
+fn fill_and_name<R: System>(
+    rt: &R,
+    file: File,
+    part: &[u8],
+    path: &[u8],
+    old: Known,
+    s: &[u8],
+) -> io::Result<()> {
+    fill(rt, file, old, s)?;
+    rename(rt, part, path)
+}
+
+// Makes a new file `part` of octets, of which the first `at` octets are given, and gives it the name `path`.
+fn replace_by<R: System>(
+    rt: &R,
+    json: bool,
+    part: &mut [u8],
+    at: usize,
+    path: &[u8],
+    old: Known,
+    name: &[u8],
+    s: &[u8],
+) -> i32
     ensures { Delivered result }
 {
-    let fd = make(part, old);
-    if fd < 0 {
-        say_unmade(json, name, old);
+    match make(rt, part, at, old) {
+        Ok((file, n)) => replace_with(rt, json, file, &part[..n], path, old, name, s),
+        Err(why) => {
+            say_unmade(rt, json, name, old, why);
+            2
+        }
+    }
+}
+
+// Writes octets to the new file `part`, and gives it the name `path`; takes it away where one of them cannot be done.
+fn replace_with<R: System>(
+    rt: &R,
+    json: bool,
+    file: File,
+    part: &[u8],
+    path: &[u8],
+    old: Known,
+    name: &[u8],
+    s: &[u8],
+) -> i32
+    ensures { Delivered result }
+{
+    if let Err(why) = fill_and_name(rt, file, part, path, old, s) {
+        messages::failed(rt, json, name, why);
+        unlink(rt, part);
         return 2;
     }
-    if !fill(json, fd, old, name, s) {
-        os::unlink(part);
-        return 2;
-    }
-    if os::rename(part, path) != 0 {
-        messages::failed(json, name);
-        os::unlink(part);
-        return 2;
-    }
-    sync_folder_of(path);
+    sync_folder_of(rt, path);
     0
 }
 
 // Makes a file of octets at a path, or replaces it. The new file's name is short and has nothing of the target's: it fits wherever that one does.
 // It is hidden, so that whoever reads all files of a folder sees whole results alone.
-fn replace_at(json: bool, path: &[u8], old: Known, name: &[u8], s: &[u8]) -> i32
+fn replace_at<R: System>(rt: &R, json: bool, path: &[u8], old: Known, name: &[u8], s: &[u8]) -> i32
     ensures { Delivered result }
 {
     let mut part = [0u8; PART];
     let at = links::folder(path);
     let from = put_all(&mut part, 0, &path[..at]);
-    let n = put_all(&mut part, from, b".dnr.XXXXXX");
-    replace_by(json, &mut part[..n], path, old, name, s)
+    let n = put_all(&mut part, from, b".dnr.");
+    replace_by(rt, json, &mut part, n, path, old, name, s)
 }
 
 // Makes a file of octets, or replaces the one that a name leads to.
-pub fn replace(json: bool, name: &[u8], old: Known, s: &[u8]) -> i32
+pub fn replace<R: System>(rt: &R, json: bool, name: &[u8], old: Known, s: &[u8]) -> i32
     ensures { Delivered result }
 {
-    let mut path = io::buffer();
+    let mut path = [0u8; PATH_MAX];
     let n = put_all(&mut path, 0, name);
-    let m = links::follow(&mut path, n);
-    replace_at(json, &path[..m], old, name, s)
+    match links::follow(rt, &mut path, n) {
+        Ok(m) => replace_at(rt, json, &path[..m], old, name, s),
+        Err(why) => messages::failed(rt, json, name, why),
+    }
 }

@@ -12,7 +12,7 @@ ghost use Rattle.telling.specs.Discarded.{discards_body, discards_joined, Counte
 
 use blocks::Places;
 use carriers::Carrier;
-use files::messages;
+use files::{System, messages};
 use findings::Trouble;
 use frames::{Gathered, Joined, Step};
 use lines::listed::Discard;
@@ -31,7 +31,7 @@ fn octet(c: Carrier, area: &[u8], i: usize) -> usize
 }
 
 // Says that block k is discarded.
-fn tell_discarded(json: bool, name: &[u8], k: usize, octet: usize, t: Trouble) {
+fn tell_discarded<R: System>(rt: &R, json: bool, name: &[u8], k: usize, octet: usize, t: Trouble) {
     let d = Discard {
         block: k,
         octet,
@@ -39,11 +39,12 @@ fn tell_discarded(json: bool, name: &[u8], k: usize, octet: usize, t: Trouble) {
         reason: t.reason,
         key: t.key,
     };
-    messages::discarded(json, name, d);
+    messages::discarded(rt, json, name, d);
 }
 
 // Says which of some addresses are dropped. They are of block k, and begin at `start`.
-fn tell_addresses(
+fn tell_addresses<R: System>(
+    rt: &R,
     json: bool,
     name: &[u8],
     c: Carrier,
@@ -60,14 +61,15 @@ fn tell_addresses(
         let next = at + w;
         let a = &s[at..next];
         if addresses::dropped(w, a) {
-            messages::dropped(json, name, k, octet(c, area, start + at), a);
+            messages::dropped(rt, json, name, k, octet(c, area, start + at), a);
         }
         at = next;
     }
 }
 
 // Says which addresses of a body are dropped. The body is of block k, and begins at `start`.
-fn tell_dropped(
+fn tell_dropped<R: System>(
+    rt: &R,
     json: bool,
     name: &[u8],
     c: Carrier,
@@ -86,7 +88,7 @@ fn tell_dropped(
         } => {
             let end = addresses + alen;
             let from = start + addresses;
-            tell_addresses(json, name, c, area, k, from, &body[addresses..end]);
+            tell_addresses(rt, json, name, c, area, k, from, &body[addresses..end]);
         }
         Places::NameOnly { .. } => {}
         Places::Bad { .. } => {}
@@ -94,7 +96,8 @@ fn tell_dropped(
 }
 
 // Carriers 2 to 5: the body of block k, which begins at `start`. Returns 1 where it is discarded, else 0.
-fn tell_block(
+fn tell_block<R: System>(
+    rt: &R,
     json: bool,
     name: &[u8],
     c: Carrier,
@@ -108,15 +111,15 @@ fn tell_block(
 {
     let t = findings::examine(c, body);
     if t.fault != 0 {
-        tell_discarded(json, name, k, start + t.at, t);
+        tell_discarded(rt, json, name, k, start + t.at, t);
         return 1;
     }
-    tell_dropped(json, name, c, area, k, start, body);
+    tell_dropped(rt, json, name, c, area, k, start, body);
     0
 }
 
 // Carriers 2 to 5: the blocks one after another. Returns how many are discarded.
-fn list_blocks(json: bool, name: &[u8], c: Carrier, area: &[u8]) -> usize
+fn list_blocks<R: System>(rt: &R, json: bool, name: &[u8], c: Carrier, area: &[u8]) -> usize
     requires { is_joined c ≡ false }
     ensures { Counted c (frame c area.now) result }
 {
@@ -127,7 +130,7 @@ fn list_blocks(json: bool, name: &[u8], c: Carrier, area: &[u8]) -> usize
         match frames::next_block(c, area, at) {
             Step::Block { start, end } => {
                 k += 1;
-                n += tell_block(json, name, c, area, k, start, &area[start..end]);
+                n += tell_block(rt, json, name, c, area, k, start, &area[start..end]);
                 at = end;
             }
             Step::Skipped { end } => {
@@ -144,7 +147,7 @@ fn list_blocks(json: bool, name: &[u8], c: Carrier, area: &[u8]) -> usize
 }
 
 // Carrier 1: the instances of joined data without a fault.
-fn list_instances(json: bool, name: &[u8], area: &[u8], joined: &[u8])
+fn list_instances<R: System>(rt: &R, json: bool, name: &[u8], area: &[u8], joined: &[u8])
     requires { length joined.now ≤ length area.now }
 {
     let mut at: usize = 0;
@@ -156,6 +159,7 @@ fn list_instances(json: bool, name: &[u8], area: &[u8], joined: &[u8])
         }
         let end = start + long;
         tell_dropped(
+            rt,
             json,
             name,
             Carrier::Dhcp4,
@@ -169,32 +173,32 @@ fn list_instances(json: bool, name: &[u8], area: &[u8], joined: &[u8])
 }
 
 // Carrier 1: the one block of joined data. Returns 1 where it is discarded, else 0.
-fn tell_joined(json: bool, name: &[u8], area: &[u8], joined: &[u8]) -> usize
+fn tell_joined<R: System>(rt: &R, json: bool, name: &[u8], area: &[u8], joined: &[u8]) -> usize
     requires { length joined.now ≤ length area.now }
     ensures { result ≡ discards_joined joined.now }
 {
     let t = findings::examine_joined(joined);
     if t.fault != 0 {
-        tell_discarded(json, name, 1, findings::place(area, t.at), t);
+        tell_discarded(rt, json, name, 1, findings::place(area, t.at), t);
         return 1;
     }
-    list_instances(json, name, area, joined);
+    list_instances(rt, json, name, area, joined);
     0
 }
 
 // Carrier 1, of an area with an own option, with room for the joined data. Returns how many blocks are discarded.
-fn list_within(json: bool, name: &[u8], area: &[u8], buffer: &mut [u8]) -> usize
+fn list_within<R: System>(rt: &R, json: bool, name: &[u8], area: &[u8], buffer: &mut [u8]) -> usize
     requires { (length area.now ≤ length buffer.old) × Some (frame Dhcp4 area.now) }
     ensures { Counted Dhcp4 (frame Dhcp4 area.now) result }
 {
     match frames::join(area, buffer) {
         Joined::Broken => 0,
-        Joined::Whole(n) => tell_joined(json, name, area, &buffer[..n]),
+        Joined::Whole(n) => tell_joined(rt, json, name, area, &buffer[..n]),
     }
 }
 
 // Carrier 1: without an own option there is no block, and else one. Returns how many blocks are discarded.
-fn list_joined(json: bool, name: &[u8], area: &[u8]) -> usize
+fn list_joined<R: System>(rt: &R, json: bool, name: &[u8], area: &[u8]) -> usize
     requires { length area.now ≤ limit.input }
     ensures { Counted Dhcp4 (frame Dhcp4 area.now) result }
 {
@@ -202,11 +206,11 @@ fn list_joined(json: bool, name: &[u8], area: &[u8]) -> usize
         return 0;
     }
     let mut buffer = [0u8; Limit::INPUT];
-    list_within(json, name, area, &mut buffer)
+    list_within(rt, json, name, area, &mut buffer)
 }
 
 // Lists what is left out of an area that can be read. Returns how many blocks are discarded.
-pub fn list(json: bool, name: &[u8], c: Carrier, area: &[u8]) -> usize
+pub fn list<R: System>(rt: &R, json: bool, name: &[u8], c: Carrier, area: &[u8]) -> usize
     ensures { length area.now ≤ limit.input → Counted c (frame c area.now) result }
 {
     if Limit::INPUT < area.len() {
@@ -214,7 +218,7 @@ pub fn list(json: bool, name: &[u8], c: Carrier, area: &[u8]) -> usize
     }
     let f = c.facts();
     if f.joined {
-        return list_joined(json, name, area);
+        return list_joined(rt, json, name, area);
     }
-    list_blocks(json, name, c, area)
+    list_blocks(rt, json, name, c, area)
 }

@@ -4,7 +4,7 @@
 // Each function that writes takes the index at which it starts, and returns the index after what it wrote.
 #![tactic(auto)]
 
-ghost use Rattle.std.specs.Prelude.{◌≡◌, ◌+◌, ◌≤◌, length, drop};
+ghost use Rattle.std.specs.Prelude.{◌≡◌, ◌+◌, ◌≤◌, length, drop, IfOk};
 ghost use Rattle.io.specs.Counts.{IsPrefixLen};
 ghost use Rattle.chars.specs.Puts.{Puts};
 ghost use Rattle.names.specs.Names.{IsName};
@@ -19,8 +19,8 @@ ghost use Rattle.vectors.specs.Answers as answers;
 
 use chars::{put, put_all, put_number};
 use hexes::Hex;
-use libc::{STDIN_FILENO, STDOUT_FILENO};
 use names::Name;
+use std::io::Read;
 
 // Writes x in decimal, after a space.
 fn put_decimal(out: &mut [u8], at: usize, x: usize) -> usize
@@ -236,10 +236,25 @@ fn run(s: &[u8], out: &mut [u8]) -> usize
     o
 }
 
-fn main() {
+// Reads until `buf` is full or the input ends.
+fn fill<F: Read>(from: &mut F, buf: &mut [u8]) -> std::io::Result<usize>
+    ensures { IfOk result (λ n. IsPrefixLen n buf.new) }
+{
+    let mut n = 0;
+    while n < buf.len() {
+        let more = from.read(&mut buf[n..])?;
+        if more == 0 {
+            return Ok(n);
+        }
+        n += more;
+    }
+    Ok(n)
+}
+
+fn main(rt: HostRuntime) -> std::io::Result<()> {
     let mut s = io::large_buffer();
-    let n = io::read_full(STDIN_FILENO, &mut s);
+    let n = fill(&mut rt.stdin(), &mut s)?;
     let mut out = io::large_buffer();
     let m = run(&s[..n], &mut out);
-    io::write_all(STDOUT_FILENO, &out[..m]);
+    rt.write_all(&out[..m])
 }

@@ -1,0 +1,10 @@
+-- `arguments::tables::carrier_named` meets its contract: the octets of its table are those of the definition. Assumes nothing.
+use Rattle.std.proofs.Common.{refl, ◌∙◌}
+use Rattle.words.specs.Encoded.{encoded, plain, unbroken}
+use Rattle.words.specs.EncodedLaws.{number-encoded}
+use Rattle.arguments.specs.Tables.{carriers}
+use Rattle.arguments.proofs.tables.carrier_named.Goals as goal
+
+pub returns : goal.returns
+unfolding carriers encoded plain unbroken
+returns c = c.number_of.ensures ∙ number-encoded carriers _ refl
