@@ -29,7 +29,7 @@ target/proved: $(SOURCES)
 $(LIBRARY): target/proved tools/library.sh
 	sh tools/library.sh
 
-build/dnr: target/proved tools/build.sh $(wildcard host/tool/*)
+build/dnr: target/proved tools/build.sh
 	sh tools/build.sh
 
 bench: $(LIBRARY)
