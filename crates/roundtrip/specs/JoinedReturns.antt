@@ -1,5 +1,5 @@
 -- Carrier 1: accepted records come back from their joined instances, cut into options. Assumes nothing.
-use Rattle.std.specs.Prelude.{◌≡◌, refl, List, [], ◌∷◌, map, ℕ, ◌+◌, ◌-◌, ◌≤◌, ◌<◌, length}
+use Rattle.std.specs.Prelude.{◌≡◌, refl, List, [], ◌∷◌, map, ℕ, ◌+◌, ◌≤◌, ◌<◌, length}
 use Rattle.std.proofs.Common.{ap, ap₂, ◌∙◌, append-nil, arith}
 use Rattle.octets.specs.Lists.{All, flat}
 use Rattle.numbers.specs.Limit as limit

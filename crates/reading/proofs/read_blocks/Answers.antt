@@ -1,6 +1,6 @@
 -- `reading::read_blocks` meets its contract. The invariant: what is counted tells of the blocks passed, and nothing is written. The measure
 -- is what is left of the area. Assumes nothing.
-use Rattle.std.proofs.Common.{◌≡◌, refl, sym, ap, ◌∙◌, [], ◌∷◌, ◌++◌, arith, ℕ, ◌-◌, length, length-set}
+use Rattle.std.proofs.Common.{◌≡◌, refl, sym, ap, ◌∙◌, [], ◌∷◌, ◌++◌, arith, ℕ, length, length-set}
 use Rattle.frames.specs.declared.Step.{Step}
 use Rattle.frames.specs.Frame.{frame}
 use Rattle.frames.specs.Step.{step_at}

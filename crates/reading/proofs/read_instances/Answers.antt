@@ -1,6 +1,6 @@
 -- `reading::read_instances` meets its contract. The invariant: the records of the instances passed are held, and nothing is written. The
 -- measure is what is left of the joined data. Assumes nothing.
-use Rattle.std.proofs.Common.{refl, sym, ap, ◌∙◌, [], ◌∷◌, ◌++◌, arith, ◌+◌, ◌-◌, ◌≤◌, length, length-set}
+use Rattle.std.proofs.Common.{refl, sym, ap, ◌∙◌, [], ◌∷◌, ◌++◌, arith, ◌+◌, ◌≤◌, length, length-set}
 use Rattle.carriers.specs.declared.Carrier.TheVariants.{Dhcp4}
 use Rattle.frames.specs.GatherLaws.{part_length}
 use Rattle.order.specs.declared.Slot.{Slot}

@@ -1,5 +1,5 @@
 -- `svcparams::anywhere::rises` meets its contract. The loop's invariant: what is left of the field decides. Assumes nothing.
-use Rattle.std.proofs.Common.{rules, arith, ◌-◌}
+use Rattle.std.proofs.Common.{rules, arith}
 use Rattle.svcparams.specs.TilingLaws.{size-head}
 use Rattle.svcparams.specs.WalkLaws.{climb-start, climb-end, climb-low, climb-next}
 use Rattle.svcparams.proofs.anywhere.rises.Goals as goal
