@@ -14,8 +14,8 @@ use Rattle.svcparams.specs.Entries.{keys_in}
 use Rattle.svcparams.specs.TilingLaws.{entries-tiled}
 use Rattle.svcparams.specs.Accepted.{put, field_of, Fits, Ordered, Hinted, Allowed}
 use Rattle.svcparams.specs.FieldLaws.{put-size, put_first, put_rest, field-octets}
-use Rattle.svcparams.specs.AcceptedLaws.{means-hint, values-means, means-values}
-use Rattle.svcparams.specs.Exactly.{tiled-exactly, hint-exactly, value-exactly}
+use Rattle.svcparams.proofs.AcceptedLaws.{means-hint, values-means, means-values}
+use Rattle.svcparams.proofs.Exactly.{tiled-exactly, hint-exactly, value-exactly}
 use Rattle.reasons.specs.declared.Param as told
 use Rattle.reasons.specs.Params.{param, nothing, wrong_of, wrong_from, param_for}
 use Rattle.reasons.specs.ParamsLaws.{whole-wrong}

@@ -2,7 +2,7 @@
 -- Assumes nothing.
 use Rattle.std.proofs.Common.{arith}
 use Rattle.octets.specs.NumbersLaws.{bytes-at}
-use Rattle.findings.specs.JoinedLaws.{joined-none, passing-start, passing-short, passing-past, passing-place, passing-found, passing-next, passing-end}
+use Rattle.findings.proofs.JoinedLaws.{joined-none, passing-start, passing-short, passing-past, passing-place, passing-found, passing-next, passing-end}
 use Rattle.findings.proofs.examine_joined.Goals as goal
 
 pub returns-then-joined-eq0 : goal.returns-then-joined-eq0

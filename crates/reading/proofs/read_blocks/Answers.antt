@@ -5,7 +5,7 @@ use Rattle.frames.specs.declared.Step.{Step}
 use Rattle.frames.specs.Frame.{frame}
 use Rattle.frames.specs.Step.{step_at}
 use Rattle.frames.specs.Laws.{step_block, step-body, step-skipped}
-use Rattle.frames.specs.GatherLaws.{part_length}
+use Rattle.frames.proofs.GatherLaws.{part_length}
 use Rattle.frames.specs.SkipLaws.{skips-forward, skips-step, skips-then}
 use Rattle.judge.specs.Place.{judged, place_from}
 use Rattle.order.specs.declared.Slot.{Slot}
