@@ -5,7 +5,7 @@ use native.Mathlib.Omega.{arith}
 use borrow.Author.Rules.{rules}
 use lib.ListN.{length}
 use lib.Seq.{length-take-le}
-use Rattle.answers.specs.AnswersLaws.{writes-fits}
+use Rattle.answers.proofs.AnswersLaws.{writes-fits}
 use Rattle.command.specs.NumbersLaws.{write-refused, write_done}
 use Rattle.command.proofs.write.Statement.{statement}
 use Rattle.command.proofs.write.Tie as tie

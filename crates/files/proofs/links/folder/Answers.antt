@@ -1,4 +1,4 @@
-use Rattle.std.proofs.Common.{◌≡◌, ◌≤◌, arith, ◌∙◌}
+use Rattle.std.proofs.Common.{arith, ◌∙◌}
 use Rattle.files.specs.PathsLaws.{slash-here, slash-before, slash-none}
 use Rattle.files.proofs.links.folder.Goals as goal
 

@@ -1,0 +1,7 @@
+-- `lines::put_count` meets its contract: its parts one after another. Assumes nothing.
+use Rattle.chars.specs.PutsLaws.{puts_then}
+use Rattle.lines.proofs.put_count.Goals as goal
+
+pub returns : goal.returns
+returns c =
+    puts_then c.put_all-next.ensures.puts c.put_number.ensures.puts

@@ -1,0 +1,10 @@
+-- `lines::put_failed` meets its contract: its parts one after another. Assumes nothing.
+use Rattle.chars.specs.PutsLaws.{puts_then}
+use Rattle.lines.specs.Messages.{failed_of}
+use Rattle.lines.proofs.put_failed.Goals as goal
+
+pub returns : goal.returns
+unfolding failed_of
+returns c =
+    let whole = puts_then c.put_about-next.ensures.puts (puts_then c.put_count-end.ensures c.put_all.ensures.puts) in
+    record { prefix_len = c.put_all.ensures.prefix_len; puts = whole }

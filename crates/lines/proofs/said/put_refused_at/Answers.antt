@@ -1,0 +1,11 @@
+-- `lines::said::put_refused_at` meets its contract: its parts one after another. Assumes nothing.
+use Rattle.chars.specs.PutsLaws.{puts_then}
+use Rattle.lines.specs.Said.{refused_at_of}
+use Rattle.lines.proofs.said.put_refused_at.Goals as goal
+
+pub returns : goal.returns
+unfolding refused_at_of
+returns c =
+    let back = puts_then c.put_all-from.ensures.puts c.put_cause.ensures.puts in
+    let whole = puts_then c.put_about-next.ensures.puts (puts_then c.put_count-placed.ensures back) in
+    record { prefix_len = c.put_cause.ensures.prefix_len; puts = whole }
