@@ -30,7 +30,7 @@ def tool(name):
 
 
 MOVED = tool("moved")
-IMPORT = re.compile(r"(?:ghost )?use (Rattle\.([a-z0-9_]+)\.specs\.([A-Za-z0-9_.-]+?))(?:\.\{([^}]*)\}| as (\S+?));?$")
+IMPORT = re.compile(r"(?:ghost )?use (Rattle\.([a-z0-9_]+)\.(?:specs|proofs)\.([A-Za-z0-9_.-]+?))(?:\.\{([^}]*)\}| as (\S+?));?$")
 WORD = re.compile(r"[^\s(){}\[\],;]+")
 BINDER = re.compile(r"[({]([^(){}:]+) :")
 LAMBDA = re.compile(r"λ ([^.λ()]+)\.")
@@ -111,11 +111,15 @@ def source(text):
 
 
 def all_files():
+    """Of specs/, of the laws that stand in proofs/ beside the folders of the functions, and of src/; Lib.antt only names the files beside it."""
     files = {}
-    for path in sorted(ROOT.glob("crates/*/specs/**/*.antt")):
-        crate = path.relative_to(ROOT / "crates").parts[0]
-        inner = path.relative_to(ROOT / "crates" / crate / "specs").with_suffix("")
-        files[f"{crate}/{inner}"] = parsed(path.read_text())
+    for path in [*sorted(ROOT.glob("crates/*/specs/**/*.antt")), *sorted(ROOT.glob("crates/*/proofs/*.antt"))]:
+        crate, part = path.relative_to(ROOT / "crates").parts[:2]
+        name = f"{crate}/{path.relative_to(ROOT / 'crates' / crate / part).with_suffix('')}"
+        if name in files:
+            sys.exit(f"believed.py: {name} stands in specs/ and in proofs/")
+        if path.name != "Lib.antt":
+            files[name] = parsed(path.read_text())
     for path in sorted(ROOT.glob("crates/*/src")):
         crate = path.parent.name
         files[f"{crate}/src"] = source("\n".join(p.read_text() for p in sorted(path.glob("*.rt"))))

@@ -1,5 +1,6 @@
 #!/usr/bin/env python3
-"""Holds docs/PROOFS.md against the sources: each theorem named in a table is declared, under that name, in the file beside it."""
+"""Holds docs/PROOFS.md against the sources: each theorem named in a table is declared, under that name, in the file beside it, which stands in the
+crate's specs/ or in its proofs/."""
 import pathlib
 import re
 import sys
@@ -12,10 +13,11 @@ def main():
     rows = [m for m in map(ROW.match, (ROOT / "docs/PROOFS.md").read_text().splitlines()) if m]
     wrong = []
     for name, crate, module in (m.groups() for m in rows):
-        file = ROOT / "crates" / crate / "specs" / f"{module}.antt"
+        files = [ROOT / "crates" / crate / part / f"{module}.antt" for part in ("specs", "proofs")]
+        found = [file for file in files if file.is_file()]
         declared = re.compile(rf"^\s*pub {re.escape(name)} :", re.M)
-        if not file.is_file() or not declared.search(file.read_text()):
-            wrong.append(f"{name}: not declared in crates/{crate}/specs/{module}.antt")
+        if len(found) != 1 or not declared.search(found[0].read_text()):
+            wrong.append(f"{name}: not declared in one file {module}.antt of crates/{crate}/specs and crates/{crate}/proofs")
     print("\n".join(wrong), end="\n" if wrong else "")
     print(f"{len(rows) - len(wrong)} theorems named in docs/PROOFS.md are where it says")
     return 1 if wrong or not rows else 0

@@ -1,7 +1,7 @@
 #!/usr/bin/env python3
-"""Holds docs/TRACE.md against the sources and the rules: each definition it names is declared in the file beside it, each theorem somewhere in the
-specifications, each must-fail edit is there; each rule of docs/RULES.md has a row (the forms in docs/DECISIONS.md), and each row a rule. A name with
-an underscore in the column of contracts and theorems may also be a function of the sources."""
+"""Holds docs/TRACE.md against the sources and the rules: each definition it names is declared in the file beside it, in specs/ or proofs/, each theorem
+somewhere in the specifications or among the laws of proofs/, each must-fail edit is there; each rule of docs/RULES.md has a row (the forms in
+docs/DECISIONS.md), and each row a rule. A name with an underscore in the column of contracts and theorems may also be a function of the sources."""
 import pathlib
 import re
 import sys
@@ -32,11 +32,12 @@ def below(pattern):
 
 def wrong_in(row, specs, code):
     for crate, module, run in DEFINED.findall(row):
-        file = ROOT / "crates" / crate / "specs" / f"{module}.antt"
-        text = file.read_text() if file.is_file() else ""
+        files = [ROOT / "crates" / crate / part / f"{module}.antt" for part in ("specs", "proofs")]
+        found = [file for file in files if file.is_file()]
+        text = found[0].read_text() if len(found) == 1 else ""
         for name in names(run):
             if not re.search(DECLARED.format(re.escape(name)), text, re.M):
-                yield f"{name}: not declared in {file.relative_to(ROOT)}"
+                yield f"{name}: not declared in one file {module}.antt of crates/{crate}/specs and crates/{crate}/proofs"
     for name in THEOREM.findall(row):
         if not re.search(DECLARED.format(name), specs, re.M):
             yield f"{name}: no such theorem"
@@ -60,7 +61,7 @@ def without_row(trace):
 
 def main():
     trace = page("TRACE.md")
-    specs, code = below("crates/*/specs/**/*.antt"), below("crates/*/src/**/*.rt")
+    specs, code = below("crates/*/specs/**/*.antt") + below("crates/*/proofs/*.antt"), below("crates/*/src/**/*.rt")
     rows = [row for row in trace.splitlines() if row.startswith("| ")]
     wrong = [fault for row in rows for fault in wrong_in(row, specs, code)] + list(without_row(trace))
     print("\n".join(wrong), end="\n" if wrong else "")
