@@ -1,6 +1,7 @@
 // The text of `dnr --help`.
 
-pub const TEXT: &[u8] = b"usage: dnr read CARRIER [AREA] [-o SHEET] [--json] [--value] [--strict] [--force] [FORM]
+pub const TEXT: &[u8] =
+    b"usage: dnr read CARRIER [AREA] [-o SHEET] [--json] [--value] [--strict] [--force] [FORM]
        dnr write [SHEET] [-o AREA] [--json] [FORM]
        dnr show [SHEET] [--json] [FORM]
        dnr octets [FILE] [-o OCTETS] [--json] [FORM]

@@ -89,13 +89,27 @@ fn tell_less<R: System>(rt: &R, a: Asked, name: &[u8], area: &[u8], r: Reading) 
         messages::less(rt, a.json, name, r.discarded, r.found, 0);
         return;
     }
-    messages::less(rt, a.json, name, r.discarded, r.found, hint(a.carrier, area));
+    messages::less(
+        rt,
+        a.json,
+        name,
+        r.discarded,
+        r.found,
+        hint(a.carrier, area),
+    );
 }
 
 // Says that nothing was found, or what was left out: the discarded blocks and the dropped addresses.
 fn tell<R: System>(rt: &R, a: Asked, name: &[u8], area: &[u8], r: Reading) {
     if r.found == 0 {
-        messages::nothing(rt, a.json, name, a.carrier, area.len(), hint(a.carrier, area));
+        messages::nothing(
+            rt,
+            a.json,
+            name,
+            a.carrier,
+            area.len(),
+            hint(a.carrier, area),
+        );
         return;
     }
     tell_less(rt, a, name, area, r);
@@ -207,7 +221,14 @@ fn give_octets<R: System>(rt: &R, a: Asked, s: &[u8], text: &mut [u8]) -> i32
 }
 
 // Says that a sheet is refused; with 22 also at which octet, and why the resolver's name there is bad.
-fn refuse_sheet<R: System>(rt: &R, a: Asked, name: &[u8], sheet: &[u8], number: usize, place: usize) -> i32
+fn refuse_sheet<R: System>(
+    rt: &R,
+    a: Asked,
+    name: &[u8],
+    sheet: &[u8],
+    number: usize,
+    place: usize,
+) -> i32
     ensures { result ≡ pos status.refused }
 {
     if number == Fault::NAME {
