@@ -14,7 +14,7 @@ use Rattle.carriers.specs.declared.Carrier.TheVariants.{Router}
 use Rattle.carriers.specs.declared.Form.{Form}
 use Rattle.carriers.specs.declared.Form.TheVariants.{Wire, Padded, Text}
 use Rattle.carriers.specs.Carriers.{length_width, form_of, lifetime_in, lifetime_width, address_width}
-use Rattle.carriers.specs.CarriersLaws.{padded-router, length-width, address-width}
+use Rattle.carriers.proofs.CarriersLaws.{padded-router, length-width, address-width}
 use Rattle.blocks.specs.Block.{Fields, name_only, whole, put_opening, put_after_name, padding_after, put_after_name_padded, put_attribute, layout_by, layout, FitsNamed, FitsRouter, FitsAttribute, FitsBy, Fits, PossibleBy, Possible}
 use Rattle.blocks.specs.Parse.{Parsed, bad, fields, short, opening, after_name, is_padding, padded, after_name_padded, attribute, parse_by, parse}
 

@@ -9,7 +9,7 @@ use Rattle.carriers.specs.declared.Carrier.TheVariants.{Router}
 use Rattle.carriers.specs.declared.Form.{Form}
 use Rattle.carriers.specs.declared.Form.TheVariants.{Wire, Padded, Text}
 use Rattle.carriers.specs.Carriers.{length_width, form_of, lifetime_width, address_width}
-use Rattle.carriers.specs.CarriersLaws.{padded-router}
+use Rattle.carriers.proofs.CarriersLaws.{padded-router}
 use Rattle.blocks.specs.Block.{Fields}
 use Rattle.blocks.specs.Parse.{Parsed, bad, fields, short, opening, after_name, is_padding, padded, after_name_padded, attribute, parse_by, parse}
 

@@ -6,6 +6,5 @@ pub mod Places
 pub mod Together
 pub mod PlacesLaws
 pub mod Holding
-pub mod HoldingLaws
 pub mod NameLaws
 pub mod Parse

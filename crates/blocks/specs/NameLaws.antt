@@ -10,7 +10,7 @@ use Rattle.carriers.specs.declared.Carrier.{Carrier}
 use Rattle.carriers.specs.declared.Form.{Form}
 use Rattle.carriers.specs.declared.Form.TheVariants.{Wire, Padded, Text}
 use Rattle.carriers.specs.Carriers.{form_of, length_width, lifetime_width, text_in, as_text}
-use Rattle.carriers.specs.CarriersLaws.{text-width}
+use Rattle.carriers.proofs.CarriersLaws.{text-width}
 use Rattle.blocks.specs.Block.{Fields, layout_by, layout, put_opening, put_attribute, put_after_name, put_after_name_padded, name_at}
 use Rattle.blocks.specs.Holding.{Laid}
 

@@ -18,7 +18,7 @@ use Rattle.carriers.specs.declared.Carrier.{Carrier}
 use Rattle.carriers.specs.declared.Carrier.TheVariants.{Router}
 use Rattle.carriers.specs.declared.Form.{Form}
 use Rattle.carriers.specs.Carriers.{length_width, form_of, lifetime_width, address_width, as_text}
-use Rattle.carriers.specs.CarriersLaws.{text-width, wire-form, text-form}
+use Rattle.carriers.proofs.CarriersLaws.{text-width, wire-form, text-form}
 use Rattle.blocks.specs.declared.Places.{Places}
 use Rattle.blocks.specs.declared.Places.TheVariants.{Bad, NameOnly, Full}
 use Rattle.blocks.specs.Block.{whole, name_at}

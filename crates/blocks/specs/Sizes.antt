@@ -10,7 +10,7 @@ use Rattle.carriers.specs.declared.Carrier.TheVariants.{Router}
 use Rattle.carriers.specs.declared.Form.{Form}
 use Rattle.carriers.specs.declared.Form.TheVariants.{Wire, Padded, Text}
 use Rattle.carriers.specs.Carriers.{header_of, form_of, length_width, lifetime_in, lifetime_width, address_width, text_in}
-use Rattle.carriers.specs.CarriersLaws.{by-body, address-width, length-room, text-width, padded-router}
+use Rattle.carriers.proofs.CarriersLaws.{by-body, address-width, length-room, text-width, padded-router}
 use Rattle.blocks.specs.Block.{Fields, gap, option_size, layout_by, layout, size_by, size_of, FitsBy, Fits, PossibleBy, Possible, stated}
 
 size-router : (f : Fields) (b : Bool) → f.full ≡ b → length (layout_by Padded Router f) ≡ size_of Router f

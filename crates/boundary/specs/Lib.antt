@@ -2,4 +2,3 @@ pub mod Piece
 pub mod Table
 pub mod Test
 pub mod TestLaws
-pub mod Boundary

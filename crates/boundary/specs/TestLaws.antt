@@ -9,7 +9,7 @@ use Rattle.numbers.specs.Refusal as refusal
 use Rattle.carriers.specs.declared.Carrier.{Carrier}
 use Rattle.carriers.specs.declared.Chosen.TheVariants.{Known}
 use Rattle.carriers.specs.Carriers.{chosen_of, number_of}
-use Rattle.carriers.specs.CarriersLaws.{chosen-number}
+use Rattle.carriers.proofs.CarriersLaws.{chosen-number}
 use Rattle.blocks.specs.Block.{Fields, head_with, fields_of}
 use Rattle.reading.specs.Reading.{read_of}
 use Rattle.reading.specs.Result.{Done, done}
@@ -23,7 +23,7 @@ use Rattle.answers.specs.Answers as writing
 use Rattle.reading.specs.Reading as answered
 use Rattle.reading.specs.RoomLaws as read_room
 use Rattle.written.specs.Writing as wrote
-use Rattle.written.specs.RoomLaws as write_room
+use Rattle.written.proofs.RoomLaws as write_room
 use Rattle.boundary.specs.Piece.{Back, again, others, Claim, octets, sheet_octets, part_octets, number, ends, joined, options, replaced, short, enough, Piece, Means, IsRead, IsWritten, IsOther, Returns, Holds}
 use Rattle.boundary.specs.Test.{every, same_bit, same_record, same_records, same_taken, is_done, is_refused, is_written, passes, reads, writes, returns, takes, good}
 

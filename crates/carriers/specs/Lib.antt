@@ -1,3 +1,2 @@
 pub mod Carriers
 pub mod Told
-pub mod CarriersLaws

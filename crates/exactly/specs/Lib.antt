@@ -1,9 +1,5 @@
 pub mod Answers
 pub mod Yielding
 pub mod PartsLaws
-pub mod BlockLaws
-pub mod AnswersLaws
 pub mod Wrong
-pub mod WrongLaws
-pub mod Exactly
 pub mod Sizes

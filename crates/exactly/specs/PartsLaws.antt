@@ -8,7 +8,7 @@ use Rattle.carriers.specs.declared.Carrier.TheVariants.{Router}
 use Rattle.carriers.specs.declared.Form.{Form}
 use Rattle.carriers.specs.declared.Form.TheVariants.{Wire, Padded, Text}
 use Rattle.carriers.specs.Carriers.{length_width, lifetime_width, address_width, form_of}
-use Rattle.carriers.specs.CarriersLaws.{padded-router}
+use Rattle.carriers.proofs.CarriersLaws.{padded-router}
 use Rattle.blocks.specs.Block.{Fields, put_opening, put_after_name, put_after_name_padded, put_attribute, padding, layout_by, layout}
 
 pub counted-left : (w : ℕ) (x l : List ℕ) → Bytes (put_counted w x l) → Bytes x

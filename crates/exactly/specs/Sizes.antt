@@ -12,7 +12,7 @@ use Rattle.carriers.specs.declared.Carrier.TheVariants.{Dhcp4}
 use Rattle.carriers.specs.declared.Chosen.{Chosen}
 use Rattle.carriers.specs.declared.Chosen.TheVariants.{Known, Unknown}
 use Rattle.carriers.specs.Carriers.{chosen_of, header_of}
-use Rattle.carriers.specs.CarriersLaws.{by-joined}
+use Rattle.carriers.proofs.CarriersLaws.{by-joined}
 use Rattle.frames.specs.Frame.{Framed, framed, frame}
 use Rattle.frames.specs.Area.{blocks_of}
 use Rattle.frames.specs.Frame as area

@@ -8,13 +8,9 @@ pub mod SizesLaws
 pub mod PlacedLaws
 pub mod WithinLaws
 pub mod ExaminedLaws
-pub mod JoinedLaws
 pub mod Told
-pub mod FaultLaws
 pub mod OctetLaws
 pub mod StandLaws
-pub mod NameLaws
 pub mod PaddingLaws
 pub mod Sheet
 pub mod SheetLaws
-pub mod Exactly

@@ -8,8 +8,8 @@ use Rattle.carriers.specs.declared.Carrier.{Carrier}
 use Rattle.frames.specs.Frame.{Framed, fault, framed, onto, frame}
 use Rattle.frames.specs.Step.{part}
 use Rattle.frames.specs.Laws.{fault-framed, step_end, step-fault, step-skipped, step_block}
-use Rattle.frames.specs.GatherLaws.{part_length}
-use Rattle.frames.specs.AreaLaws.{framed-same}
+use Rattle.frames.proofs.GatherLaws.{part_length}
+use Rattle.frames.proofs.AreaLaws.{framed-same}
 use Rattle.findings.specs.Spots.{Spot, spots_of, place_in}
 use Rattle.findings.specs.Told.{body_at, Lies}
 use Rattle.findings.specs.SpotsLaws.{spots_at, spots-block, spots-skipped, spots-end, spots-fault, by-steps}

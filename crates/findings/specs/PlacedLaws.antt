@@ -11,20 +11,20 @@ use Rattle.numbers.specs.Fault as fault
 use Rattle.numbers.specs.Limit as limit
 use Rattle.carriers.specs.declared.Carrier.{Carrier}
 use Rattle.carriers.specs.Carriers.{address_width, as_text}
-use Rattle.carriers.specs.CarriersLaws.{by_address}
+use Rattle.carriers.proofs.CarriersLaws.{by_address}
 use Rattle.names.specs.declared.Name.{Name}
 use Rattle.names.specs.declared.Name.TheVariants.{Good, Bad}
 use Rattle.addresses.specs.Addresses.{list_of}
 use Rattle.svcparams.specs.Params.{size_of, params_fault}
 use Rattle.svcparams.specs.Entries.{keys_in}
 use Rattle.svcparams.specs.Key as key
-use Rattle.svcparams.specs.Exactly as params
+use Rattle.svcparams.proofs.Exactly as params
 use Rattle.blocks.specs.Block.{Fields, name_at}
 use Rattle.judge.specs.declared.Side.TheVariants.{Reading}
 use Rattle.judge.specs.declared.Judged.{Judged}
 use Rattle.judge.specs.Place.{judged}
 use Rattle.judge.specs.Judge.{name_of, refused_of, tail_fault, name_only_fault, on_name, judged_of}
-use Rattle.judge.specs.PlaceLaws.{bad-exactly}
+use Rattle.judge.proofs.PlaceLaws.{bad-exactly}
 use Rattle.reasons.specs.declared.Param.{Param}
 use Rattle.reasons.specs.Params.{on, unordered_from, wrong_of, wrong_from, param_for}
 use Rattle.findings.specs.Troubles.{address_length_at, addresses_at, parameters_at, limit_at, field_place}

@@ -12,7 +12,7 @@ use Rattle.numbers.specs.Fault as fault
 use Rattle.numbers.specs.Limit as limit
 use Rattle.carriers.specs.declared.Carrier.{Carrier}
 use Rattle.carriers.specs.Carriers.{length_width, lifetime_in, lifetime_width, address_width, as_text}
-use Rattle.carriers.specs.CarriersLaws.{by_length, address-width}
+use Rattle.carriers.proofs.CarriersLaws.{by_length, address-width}
 use Rattle.blocks.specs.Block.{name_at}
 use Rattle.findings.specs.Troubles.{near16, padding_at, past_padding, laid_place, address_length_at, addresses_at, parameters_at, limit_at, field_place}
 

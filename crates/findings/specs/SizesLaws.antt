@@ -11,12 +11,12 @@ use Rattle.carriers.specs.declared.Carrier.TheVariants.{Router}
 use Rattle.carriers.specs.declared.Form.{Form}
 use Rattle.carriers.specs.declared.Form.TheVariants.{Wire, Padded, Text}
 use Rattle.carriers.specs.Carriers.{form_of, length_width, lifetime_width, text_in, as_text}
-use Rattle.carriers.specs.CarriersLaws.{padded-router}
+use Rattle.carriers.proofs.CarriersLaws.{padded-router}
 use Rattle.blocks.specs.Block.{Fields, size_by, name_at}
 use Rattle.blocks.specs.Sizes.{length-layout}
 use Rattle.blocks.specs.Parse.{bad, fields, is_padding, padded, parse}
 use Rattle.blocks.specs.Holding.{Laid, put_tail, HoldsPadded, HoldsBy, Holds}
-use Rattle.blocks.specs.HoldingLaws.{holds_read, holds-or-short, fields-bad}
+use Rattle.blocks.proofs.HoldingLaws.{holds_read, holds-or-short, fields-bad}
 use Rattle.findings.specs.Troubles.{address_length_at, addresses_at, parameters_at}
 use Rattle.findings.specs.Sizes.{Sized}
 

@@ -13,7 +13,7 @@ use Rattle.carriers.specs.declared.Carrier.TheVariants.{Router}
 use Rattle.carriers.specs.declared.Form.{Form}
 use Rattle.carriers.specs.declared.Form.TheVariants.{Wire, Padded, Text}
 use Rattle.carriers.specs.Carriers.{form_of, length_width, lifetime_in, lifetime_width, address_width, text_in, as_text}
-use Rattle.carriers.specs.CarriersLaws.{padded-router, by_address}
+use Rattle.carriers.proofs.CarriersLaws.{padded-router, by_address}
 use Rattle.blocks.specs.Block.{Fields, layout_by, layout, put_opening, put_after_name, put_attribute, FitsNamed, FitsAttribute, FitsBy, Fits}
 use Rattle.blocks.specs.Parse.{fields, parse}
 use Rattle.blocks.specs.Holding.{Laid, put_tail, HoldsPadded, HoldsBy}

@@ -14,7 +14,7 @@ use Rattle.blocks.specs.Block.{Fields}
 use Rattle.blocks.specs.Parse.{Parsed, bad, fields, parse}
 use Rattle.blocks.specs.Faults.{parse-fault}
 use Rattle.blocks.specs.Holding.{Padding, put_tail, FormBy, HoldsPadded, Holds, Misfilled}
-use Rattle.blocks.specs.HoldingLaws.{misfilled-exactly}
+use Rattle.blocks.proofs.HoldingLaws.{misfilled-exactly}
 use Rattle.judge.specs.declared.Side.TheVariants.{Reading}
 use Rattle.judge.specs.Judge.{fault_of}
 use Rattle.records.specs.Yielded.{on_parsed}

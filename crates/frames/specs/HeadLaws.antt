@@ -7,7 +7,7 @@ use Rattle.octets.specs.Numbers.{at16, number_at}
 use Rattle.octets.specs.NumbersLaws.{number-8, number-16, number-local}
 use Rattle.carriers.specs.declared.Carrier.{Carrier}
 use Rattle.carriers.specs.Carriers.{code_of, head_width, header_of, in_eights, is_joined, octets, Apart}
-use Rattle.carriers.specs.CarriersLaws.{headed}
+use Rattle.carriers.proofs.CarriersLaws.{headed}
 use Rattle.frames.specs.declared.Head.{Head}
 use Rattle.frames.specs.declared.Head.TheVariants.{Bad, End, Option}
 use Rattle.frames.specs.Frame.{whole_size, code_in, size_in, head_in, or_mark, first_of}

@@ -9,10 +9,6 @@ pub mod Laws
 pub mod SkipLaws
 pub mod WalkLaws
 pub mod ToldLaws
-pub mod GatherLaws
 pub mod BodyLaws
 pub mod Emit
-pub mod EmitLaws
-pub mod Cutting
 pub mod Area
-pub mod AreaLaws

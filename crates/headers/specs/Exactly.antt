@@ -6,11 +6,11 @@ use Rattle.octets.specs.ListsLaws.{flat_append, flat_map_append, all_append}
 use Rattle.carriers.specs.declared.Carrier.{Carrier}
 use Rattle.carriers.specs.declared.Carrier.TheVariants.{Dhcp4}
 use Rattle.carriers.specs.Carriers.{is_joined}
-use Rattle.carriers.specs.CarriersLaws.{by-joined}
+use Rattle.carriers.proofs.CarriersLaws.{by-joined}
 use Rattle.frames.specs.Frame.{frame}
 use Rattle.frames.specs.Area.{joined}
 use Rattle.frames.specs.Emit.{option_of, Fits, options_of}
-use Rattle.frames.specs.EmitLaws.{frame-options}
+use Rattle.frames.proofs.EmitLaws.{frame-options}
 use Rattle.pieces.specs.Pieces.{pieces, cut_of}
 use Rattle.pieces.specs.PiecesLaws.{pieces-fit, pieces-flat}
 use Rattle.headers.specs.Headers.{padded_of, Held, area_of, Framed}

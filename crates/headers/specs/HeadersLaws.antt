@@ -13,9 +13,9 @@ use Rattle.carriers.specs.declared.Carrier.{Carrier}
 use Rattle.carriers.specs.declared.Carrier.TheVariants.{Dhcp4, Dhcp6, Router, Ike4, Ike6}
 use Rattle.carriers.specs.declared.Facts.{Facts}
 use Rattle.carriers.specs.Carriers.{facts_of, header_of, in_eights, is_joined}
-use Rattle.carriers.specs.CarriersLaws.{headed}
+use Rattle.carriers.proofs.CarriersLaws.{headed}
 use Rattle.frames.specs.Emit.{head_of, option_of, Fits}
-use Rattle.frames.specs.EmitLaws.{option-length}
+use Rattle.frames.proofs.EmitLaws.{option-length}
 use Rattle.pieces.specs.Pieces.{cut_of, cut_octets}
 use Rattle.pieces.specs.PiecesLaws.{cut-length}
 use Rattle.inputs.specs.Why as why

@@ -11,7 +11,7 @@ use Rattle.numbers.specs.Fault as fault
 use Rattle.numbers.specs.Limit as limit
 use Rattle.carriers.specs.declared.Carrier.{Carrier}
 use Rattle.carriers.specs.Carriers.{address_width, as_text}
-use Rattle.carriers.specs.CarriersLaws.{by_address}
+use Rattle.carriers.proofs.CarriersLaws.{by_address}
 use Rattle.names.specs.declared.Name.{Name}
 use Rattle.names.specs.declared.Name.TheVariants.{Good, Bad}
 use Rattle.names.specs.Names.{IsName}

@@ -5,5 +5,3 @@ pub mod JudgeLaws
 pub mod Outcomes
 pub mod Numbered
 pub mod Allowed
-pub mod AllowedLaws
-pub mod PlaceLaws

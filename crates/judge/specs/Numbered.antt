@@ -9,7 +9,7 @@ use Rattle.names.specs.declared.Name.{Name}
 use Rattle.names.specs.declared.Name.TheVariants.{Good, Bad}
 use Rattle.addresses.specs.Addresses.{list_of}
 use Rattle.svcparams.specs.Params.{params_fault}
-use Rattle.svcparams.specs.Exactly as params
+use Rattle.svcparams.proofs.Exactly as params
 use Rattle.blocks.specs.Block.{Fields}
 use Rattle.judge.specs.declared.Side.{Side}
 use Rattle.judge.specs.Place.{judged}

@@ -7,12 +7,12 @@ use Rattle.carriers.specs.declared.Carrier.TheVariants.{Dhcp4, Router}
 use Rattle.carriers.specs.declared.Form.{Form}
 use Rattle.carriers.specs.declared.Form.TheVariants.{Wire, Padded, Text}
 use Rattle.carriers.specs.Carriers.{header_of, is_joined, address_width, form_of, text_in, as_text, Plain}
-use Rattle.carriers.specs.CarriersLaws.{headed, by_address, length-width, few-addresses, length-room, by-router}
+use Rattle.carriers.proofs.CarriersLaws.{headed, by_address, length-width, few-addresses, length-room, by-router}
 use Rattle.texts.specs.Convert.{text-length}
 use Rattle.blocks.specs.Block.{Fields, layout, unpadded, size_by, FitsBy, Fits}
 use Rattle.blocks.specs.Sizes.{length-layout, layout-possible, fits-full}
 use Rattle.frames.specs.Emit as emit
-use Rattle.frames.specs.EmitLaws.{option-length}
+use Rattle.frames.proofs.EmitLaws.{option-length}
 use Rattle.frames.specs.WalkLaws.{apart-false}
 use Rattle.layouts.specs.Layouts.{carried_as, carried_of, own_option, instance_of, joined_of}
 use Rattle.layouts.specs.Writable.{Writable, overhead, most_addresses, most_body, body_by, body_octets, option_octets, instance_octets, joined_octets}

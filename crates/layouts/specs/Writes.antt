@@ -19,7 +19,7 @@ use Rattle.blocks.specs.Block.{Fields, put_after_name, padding_of, layout_by, la
 use Rattle.frames.specs.Emit.{head_of}
 use Rattle.blocks.specs.Places.{Named}
 use Rattle.blocks.specs.Sizes.{length-layout}
-use Rattle.carriers.specs.CarriersLaws.{length-width, text-width, wire-form, text-form}
+use Rattle.carriers.proofs.CarriersLaws.{length-width, text-width, wire-form, text-form}
 use Rattle.layouts.specs.Layouts.{carried_as, carried_of, own_option, instance_of}
 use Rattle.layouts.specs.Writable.{body_by, body_octets}
 use Rattle.layouts.specs.LayoutsLaws.{body-length}

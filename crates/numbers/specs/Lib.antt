@@ -1,4 +1,3 @@
 pub mod Refusal
 pub mod Fault
 pub mod Limit
-pub mod LimitLaws

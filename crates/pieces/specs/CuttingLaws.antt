@@ -7,7 +7,7 @@ use Rattle.octets.specs.Over.{Wrote}
 use Rattle.octets.specs.OverLaws.{wrote_none, then, over-behind}
 use Rattle.carriers.specs.declared.Carrier.TheVariants.{Dhcp4}
 use Rattle.frames.specs.Emit.{head_of, option_of}
-use Rattle.frames.specs.EmitLaws.{option-length}
+use Rattle.frames.proofs.EmitLaws.{option-length}
 use Rattle.pieces.specs.Pieces.{cut_of, cut_octets}
 use Rattle.pieces.specs.PiecesLaws.{cut-none, cut_step}
 use Rattle.pieces.specs.Cutting.{Cutting}

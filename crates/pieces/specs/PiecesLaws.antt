@@ -6,7 +6,7 @@ use Rattle.octets.specs.Lists.{All, flat}
 use Rattle.carriers.specs.declared.Carrier.TheVariants.{Dhcp4}
 use Rattle.frames.specs.Frame.{frame, framed}
 use Rattle.frames.specs.Emit.{option_of, Fits, options_of}
-use Rattle.frames.specs.EmitLaws.{option-length, frame-options}
+use Rattle.frames.proofs.EmitLaws.{option-length, frame-options}
 use Rattle.pieces.specs.Pieces.{chunks, pieces, cut_of, cut_octets}
 
 -- nothing for no octets

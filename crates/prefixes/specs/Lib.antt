@@ -1,5 +1,1 @@
 pub mod Prefix
-pub mod DelimitingLaws
-pub mod PrefixLaws
-pub mod JoinedLaws
-pub mod AnswersLaws

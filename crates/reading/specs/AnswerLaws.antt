@@ -14,13 +14,13 @@ use Rattle.carriers.specs.declared.Carrier.TheVariants.{Dhcp4}
 use Rattle.carriers.specs.declared.Chosen.{Chosen}
 use Rattle.carriers.specs.declared.Chosen.TheVariants.{Known, Unknown}
 use Rattle.carriers.specs.Carriers.{chosen_of, is_joined}
-use Rattle.carriers.specs.CarriersLaws.{other-joined}
+use Rattle.carriers.proofs.CarriersLaws.{other-joined}
 use Rattle.octets.specs.Lists.{flat}
 use Rattle.frames.specs.Frame.{Framed, framed, frame}
 use Rattle.frames.specs.Area.{joined}
 use Rattle.frames.specs.declared.Joined.{Joined}
 use Rattle.frames.specs.Gather.{Several, Joins}
-use Rattle.frames.specs.GatherLaws.{joins-whole}
+use Rattle.frames.proofs.GatherLaws.{joins-whole}
 use Rattle.frames.specs.declared.Step.{Step}
 use Rattle.frames.specs.Step.{step_at}
 use Rattle.frames.specs.WalkLaws.{walked_end, walked-fault}

@@ -1,6 +1,6 @@
 -- RULES D1, over the contract of reading: a refusal gives its number alone and leaves every octet of the buffer (RULES T6), and a result leaves
 -- every octet past its length (RULES T7). Assumes nothing.
-use Rattle.std.specs.Prelude.{◌≡◌, List, ℕ, length, drop}
+use Rattle.std.specs.Prelude.{◌≡◌, List, ℕ, drop}
 use Rattle.std.proofs.Common.{sym, ap, ◌∙◌}
 use Rattle.octets.specs.OverLaws.{over-past}
 use Rattle.reading.specs.declared.Reading.{Reading}

@@ -1,5 +1,5 @@
 -- Which parameter is the first that breaks the order of a field: along the field, what stands before it. Assumes nothing.
-use Rattle.std.specs.Prelude.{◌≡◌, refl, cond, ◌||◌, ℕ, zero, suc, ◌+◌, ◌-◌, ◌≤◌, ◌<◌, ltb, eqb, length, drop}
+use Rattle.std.specs.Prelude.{◌≡◌, refl, cond, ◌||◌, ℕ, zero, suc, ◌+◌, ◌≤◌, ◌<◌, ltb, eqb, length, drop}
 use Rattle.std.proofs.Math.Path.{sym, ap}
 use Rattle.std.proofs.Common.{◌∙◌, subst, arith, length-drop, eqb-true, ltb-true, ltb-false}
 use mathlib.Core.List.{List, [], ◌∷◌, ◌++◌, append_assoc}
@@ -15,7 +15,7 @@ use Rattle.svcparams.specs.Param.{Param, keys}
 use Rattle.svcparams.specs.Params.{size_of, first, params_fault}
 use Rattle.svcparams.specs.Accepted.{Ascending, put, field_of, Fits}
 use Rattle.svcparams.specs.FieldLaws.{put-size, first-laid}
-use Rattle.svcparams.specs.Exactly.{parameters-exactly}
+use Rattle.svcparams.proofs.Exactly.{parameters-exactly}
 use Rattle.reasons.specs.declared.Param as told
 use Rattle.reasons.specs.Params.{param, none, unordered_from, param_for}
 use Rattle.reasons.specs.ParamsLaws.{short-unordered, whole-unordered}

@@ -1,5 +1,5 @@
 -- Which parameter is the first hint, or the first with a value that its key does not allow: along the parameters of a field. Assumes nothing.
-use Rattle.std.specs.Prelude.{◌≡◌, refl, ◌⊎◌, Bool, true, false, cond, not, ◌||◌, List, [], ◌∷◌, ◌++◌, ℕ, ◌+◌, ◌-◌, eqb, length}
+use Rattle.std.specs.Prelude.{◌≡◌, refl, ◌⊎◌, Bool, true, false, cond, not, ◌||◌, List, [], ◌∷◌, ◌++◌, ℕ, ◌+◌, eqb, length}
 use Rattle.std.proofs.Common.{sym, ap, ap₂, ◌∙◌, subst, inl, inr, true≢false, arith, length-append, eqb-true}
 use Rattle.std.proofs.lemmas.Bool.{not-true, not-false}
 use Rattle.octets.specs.Cases.{by-test}
@@ -14,8 +14,8 @@ use Rattle.svcparams.specs.Entries.{keys_in}
 use Rattle.svcparams.specs.TilingLaws.{entries-tiled}
 use Rattle.svcparams.specs.Accepted.{put, field_of, Fits, Ordered, Hinted, Allowed}
 use Rattle.svcparams.specs.FieldLaws.{put-size, put_first, put_rest, field-octets}
-use Rattle.svcparams.specs.AcceptedLaws.{means-hint, values-means, means-values}
-use Rattle.svcparams.specs.Exactly.{tiled-exactly, hint-exactly, value-exactly}
+use Rattle.svcparams.proofs.AcceptedLaws.{means-hint, values-means, means-values}
+use Rattle.svcparams.proofs.Exactly.{tiled-exactly, hint-exactly, value-exactly}
 use Rattle.reasons.specs.declared.Param as told
 use Rattle.reasons.specs.Params.{param, nothing, wrong_of, wrong_from, param_for}
 use Rattle.reasons.specs.ParamsLaws.{whole-wrong}

@@ -8,7 +8,7 @@ use Rattle.octets.specs.Over.{Wrote}
 use Rattle.numbers.specs.Limit as limit
 use Rattle.carriers.specs.declared.Carrier.{Carrier}
 use Rattle.carriers.specs.Carriers.{address_width}
-use Rattle.carriers.specs.CarriersLaws.{few-addresses}
+use Rattle.carriers.proofs.CarriersLaws.{few-addresses}
 use Rattle.texts.specs.Texts.{wire_of}
 use Rattle.texts.specs.Convert.{wire-length}
 use Rattle.addresses.specs.Addresses.{list_of, kept_of}
@@ -19,7 +19,7 @@ use Rattle.judge.specs.declared.Judged.{Judged}
 use Rattle.judge.specs.Place.{judged, place_from, from}
 use Rattle.judge.specs.Judge.{judged_by, fault_of}
 use Rattle.judge.specs.JudgeLaws.{carrier-width, fault-passed}
-use Rattle.judge.specs.PlaceLaws.{place-within}
+use Rattle.judge.proofs.PlaceLaws.{place-within}
 use Rattle.records.specs.declared.Examined.{Examined}
 use Rattle.records.specs.Records.{staying, name_as, keep_of, head_size, tail_size, record_of}
 use Rattle.records.specs.Yielded.{yield_of}

@@ -22,7 +22,7 @@ use Rattle.judge.specs.Place.{judged, from}
 use Rattle.judge.specs.Judge.{judged_by, fault_of}
 use Rattle.judge.specs.Passed.{Passed}
 use Rattle.judge.specs.JudgeLaws.{carrier-width, fault-passed}
-use Rattle.judge.specs.PlaceLaws.{place-within}
+use Rattle.judge.proofs.PlaceLaws.{place-within}
 use Rattle.records.specs.declared.Examined.{Examined}
 use Rattle.records.specs.declared.Given.{Given}
 use Rattle.records.specs.Records.{Outcome, faulty, kept, staying, name_as, keep_of, head_size, record_of}

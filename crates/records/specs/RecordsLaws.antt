@@ -9,7 +9,7 @@ use Rattle.numbers.specs.Limit as limit
 use Rattle.carriers.specs.declared.Carrier.{Carrier}
 use Rattle.carriers.specs.declared.Carrier.TheVariants.{Router}
 use Rattle.carriers.specs.Carriers.{address_width, as_text}
-use Rattle.carriers.specs.CarriersLaws.{addresses-octets}
+use Rattle.carriers.proofs.CarriersLaws.{addresses-octets}
 use Rattle.names.specs.declared.Name.TheVariants.{Good}
 use Rattle.names.specs.Wire.{name_check}
 use Rattle.names.specs.Exact as names

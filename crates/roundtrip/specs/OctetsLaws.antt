@@ -8,10 +8,10 @@ use Rattle.numbers.specs.Limit as limit
 use Rattle.carriers.specs.declared.Carrier.{Carrier}
 use Rattle.carriers.specs.declared.Carrier.TheVariants.{Dhcp4}
 use Rattle.carriers.specs.Carriers.{is_joined, Plain}
-use Rattle.carriers.specs.CarriersLaws.{by-joined}
+use Rattle.carriers.proofs.CarriersLaws.{by-joined}
 use Rattle.frames.specs.Frame.{frame, framed}
 use Rattle.frames.specs.Emit as emit
-use Rattle.frames.specs.EmitLaws.{option-length, frame-options}
+use Rattle.frames.proofs.EmitLaws.{option-length, frame-options}
 use Rattle.frames.specs.WalkLaws.{apart-false}
 use Rattle.blocks.specs.Block.{Fields}
 use Rattle.pieces.specs.PiecesLaws.{cut-length}
@@ -20,7 +20,7 @@ use Rattle.layouts.specs.Writable.{most_body}
 use Rattle.layouts.specs.LayoutsLaws.{header-small, writable-body, writable-emits}
 use Rattle.written.specs.Octets.{octets_of}
 use Rattle.written.specs.Accepted.{Sound}
-use Rattle.written.specs.AcceptedLaws.{writable}
+use Rattle.written.proofs.AcceptedLaws.{writable}
 use Rattle.roundtrip.specs.Returns.{body_of, bodies_of}
 
 -- ---- so many octets a record at most

@@ -2,15 +2,7 @@ pub mod Key
 pub mod Params
 pub mod Entries
 pub mod TilingLaws
-pub mod WalkLaws
-pub mod ValueLaws
 pub mod Accepted
 pub mod FieldLaws
-pub mod AcceptedLaws
-pub mod VerdictLaws
-pub mod Exactly
 pub mod Param
 pub mod Merge
-pub mod MergeLaws
-pub mod MergeTurns
-pub mod MergeExactly

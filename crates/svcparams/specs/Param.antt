@@ -1,6 +1,5 @@
 -- A service parameter, and the keys of several (RULES P1). Assumes nothing: these are definitions.
 use Rattle.std.specs.Prelude.{ℕ, List, [], ◌∷◌}
-use Rattle.svcparams.specs.Key as key
 
 -- a key and a value; the length between them is the value's (RULES P1)
 pub record Param : Type 0 where

@@ -14,7 +14,7 @@ use Rattle.numbers.specs.Limit as limit
 use Rattle.carriers.specs.declared.Carrier.{Carrier}
 use Rattle.carriers.specs.declared.Chosen.{Chosen}
 use Rattle.carriers.specs.Carriers.{chosen_of, number_of}
-use Rattle.carriers.specs.CarriersLaws.{chosen-number, number-room, number-chosen, chosen-unknown}
+use Rattle.carriers.proofs.CarriersLaws.{chosen-number, number-room, number-chosen, chosen-unknown}
 use Rattle.blocks.specs.Block.{Fields}
 use Rattle.records.specs.Records.{record_of}
 use Rattle.sheets.specs.Sheets.{letters, edition, front_size, version_at, carrier_at, count_at, front_of, records_of, sheet_of}

@@ -9,7 +9,7 @@ use Rattle.octets.specs.Fields.{put_counted}
 use Rattle.octets.specs.FieldsLaws.{part-read, number_read, counted-read, part_says, number-says, counted-says}
 use Rattle.carriers.specs.declared.Carrier.{Carrier}
 use Rattle.carriers.specs.Carriers.{address_width, lifetime_width}
-use Rattle.carriers.specs.CarriersLaws.{address-width}
+use Rattle.carriers.proofs.CarriersLaws.{address-width}
 use Rattle.blocks.specs.Block.{Fields, name_only, whole}
 use Rattle.records.specs.Records.{tail_of, record_of}
 use Rattle.taking.specs.Taking.{Records, none, misplaced, full_fields, one_record}

@@ -12,7 +12,7 @@ use Rattle.octets.specs.Numbers.{at16, at32, Bytes}
 use Rattle.octets.specs.NumbersLaws.{bytes-at, bytes-get_or}
 use Rattle.carriers.specs.declared.Carrier.{Carrier}
 use Rattle.carriers.specs.Carriers.{address_width}
-use Rattle.carriers.specs.CarriersLaws.{address-width}
+use Rattle.carriers.proofs.CarriersLaws.{address-width}
 use Rattle.records.specs.Records.{head_size, lifetime_at, mode_at, name_length_at, tail_size, record_of}
 use Rattle.records.specs.RecordsLaws.{length-record}
 use Rattle.taking.specs.declared.Spot.{Spot}

@@ -11,7 +11,6 @@ use Rattle.records.specs.Records.{head_size}
 use Rattle.sheets.specs.Sheets.{front_size, count_at}
 use Rattle.taking.specs.declared.Spot.{Spot}
 use Rattle.taking.specs.declared.Took.TheVariants.{Refused, Sheet}
-use Rattle.octets.specs.Lists.{same}
 use Rattle.taking.specs.Taking.{Records, records, onto, records_from, Taken, refuse, sheet, take_of}
 use Rattle.taking.specs.Taking as taking
 use Rattle.taking.specs.Took.{took_of}

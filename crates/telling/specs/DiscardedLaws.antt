@@ -10,7 +10,7 @@ use Rattle.octets.specs.Over.{over, Wrote}
 use Rattle.carriers.specs.declared.Carrier.{Carrier}
 use Rattle.carriers.specs.declared.Carrier.TheVariants.{Dhcp4}
 use Rattle.carriers.specs.Carriers.{is_joined, header_of}
-use Rattle.carriers.specs.CarriersLaws.{by-joined}
+use Rattle.carriers.proofs.CarriersLaws.{by-joined}
 use Rattle.numbers.specs.Fault as number
 use Rattle.frames.specs.declared.Step.{Step}
 use Rattle.frames.specs.declared.Gathered.{Gathered}
@@ -23,7 +23,7 @@ use Rattle.frames.specs.Walk.{Walked}
 use Rattle.frames.specs.Gather.{Tells, Joins}
 use Rattle.frames.specs.Laws.{step_block, step-skipped}
 use Rattle.frames.specs.WalkLaws.{walked_start, walked_block, walked-skipped, walked_end, walked-fault}
-use Rattle.frames.specs.GatherLaws.{joins-broken, joins-whole}
+use Rattle.frames.proofs.GatherLaws.{joins-broken, joins-whole}
 use Rattle.judge.specs.Place.{judged}
 use Rattle.records.specs.Records.{Outcome, faulty, kept, further}
 use Rattle.records.specs.Yielded.{outcome_of}
@@ -34,7 +34,7 @@ use Rattle.reading.specs.YieldLaws.{discarded-more, discarded-few}
 use Rattle.findings.specs.declared.Trouble.{Trouble}
 use Rattle.findings.specs.Troubles.{trouble_of, joined_trouble}
 use Rattle.findings.specs.Told.{fault_in, block_fault}
-use Rattle.findings.specs.Exactly.{trouble-fault, joined-fault}
+use Rattle.findings.proofs.Exactly.{trouble-fault, joined-fault}
 use Rattle.telling.specs.Discarded.{discards_body, discards_joined, Counted, Some}
 
 -- ---- a fault has a number

@@ -1,4 +1,2 @@
 pub mod Vetting
 pub mod Weighing
-pub mod WeighingLaws
-pub mod VettingLaws

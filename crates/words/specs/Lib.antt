@@ -2,4 +2,3 @@ pub mod Words
 pub mod Encoded
 pub mod EncodedLaws
 pub mod Strings
-pub mod StringsLaws

@@ -6,12 +6,12 @@ use Rattle.octets.specs.Numbers.{Bytes}
 use Rattle.numbers.specs.Fault as fault
 use Rattle.answers.specs.declared.Result.{Result}
 use Rattle.answers.specs.Answers.{Answer, refuse, written, told, Writes}
-use Rattle.answers.specs.AnswersLaws.{writes_as}
+use Rattle.answers.proofs.AnswersLaws.{writes_as}
 use Rattle.written.specs.Writing.{write_of}
 use Rattle.written.specs.Answers.{Answers}
-use Rattle.written.specs.AnswersLaws.{write-exactly}
+use Rattle.written.proofs.AnswersLaws.{write-exactly}
 use Rattle.written.specs.Wrong.{WrongName}
-use Rattle.written.specs.WrongLaws.{wrong-exactly, no_place}
+use Rattle.written.proofs.WrongLaws.{wrong-exactly, no_place}
 
 -- whatever a call of `write` returned and left is what one of the answers that stand there says
 pub call-writes : (s out out' : List ℕ) (w : Result) → Bytes s

@@ -10,7 +10,7 @@ use Rattle.carriers.specs.declared.Carrier.{Carrier}
 use Rattle.carriers.specs.declared.Carrier.TheVariants.{Dhcp4}
 use Rattle.carriers.specs.declared.Facts.{Facts}
 use Rattle.carriers.specs.Carriers.{facts_of, is_joined, Plain}
-use Rattle.carriers.specs.CarriersLaws.{other-joined}
+use Rattle.carriers.proofs.CarriersLaws.{other-joined}
 use Rattle.blocks.specs.Block.{Fields}
 use Rattle.frames.specs.WalkLaws.{false-apart}
 use Rattle.pieces.specs.Pieces.{cut_of, cut_octets}
@@ -25,10 +25,10 @@ use Rattle.taking.specs.Standing.{Step}
 use Rattle.taking.specs.StandingLaws.{stands-is, standing-none, standing-step, taken-standing}
 use Rattle.taking.specs.Exactly.{sheet-taken}
 use Rattle.vetting.specs.Weighing.{cut_at, share_of}
-use Rattle.vetting.specs.WeighingLaws.{stream-none, stream-one, fields-cut}
+use Rattle.vetting.proofs.WeighingLaws.{stream-none, stream-one, fields-cut}
 use Rattle.written.specs.Octets.{octets_of}
 use Rattle.written.specs.Accepted.{Sound}
-use Rattle.written.specs.AcceptedLaws.{writable}
+use Rattle.written.proofs.AcceptedLaws.{writable}
 use Rattle.writing.specs.Laying.{records_of, Ready, Laying, total_of, Measured}
 
 -- ---- by the carrier's row of the table

@@ -10,11 +10,11 @@ use Rattle.vetting.specs.declared.Vetted.TheVariants.{Refused, Sheet}
 use Rattle.vetting.specs.Vetting.{Vetted, vet_of, any_large}
 use Rattle.vetting.specs.Vetting as vetting
 use Rattle.vetting.specs.Weighing.{most}
-use Rattle.vetting.specs.VettingLaws.{told-refused, told-sheet, vetted-small}
+use Rattle.vetting.proofs.VettingLaws.{told-refused, told-sheet, vetted-small}
 use Rattle.written.specs.Writing.{write_records, write_vetted, write_of}
 use Rattle.answers.specs.Answers.{refuse, written}
 use Rattle.written.specs.Octets.{octets_of}
-use Rattle.written.specs.AcceptedLaws.{vetted-accepted}
+use Rattle.written.proofs.AcceptedLaws.{vetted-accepted}
 use Rattle.writing.specs.Laying.{records_in, records_of, Found, Ready, total_of}
 use Rattle.writing.specs.LayingLaws.{total-octets}
 

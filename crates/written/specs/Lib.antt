@@ -1,11 +1,6 @@
 pub mod Writing
 pub mod Accepted
-pub mod AcceptedLaws
-pub mod DefinedLaws
-pub mod RoomLaws
 pub mod Answers
 pub mod Octets
 pub mod Defined
-pub mod AnswersLaws
 pub mod Wrong
-pub mod WrongLaws

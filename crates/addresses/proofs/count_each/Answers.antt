@@ -1,6 +1,6 @@
 -- `addresses::count_each` meets its contract. The loop's invariant: the count so far, with those kept of the addresses that are left,
 -- is the whole count. Assumes nothing.
-use Rattle.std.proofs.Common.{rules, arith, ap, ◌-◌, length, not}
+use Rattle.std.proofs.Common.{rules, arith, ap, length, not}
 use Rattle.addresses.specs.AddressesLaws.{part-wide, kept-drop, kept-keep, kept-end}
 use Rattle.addresses.specs.CountLaws.{count-start}
 use Rattle.addresses.proofs.count_each.Goals as goal

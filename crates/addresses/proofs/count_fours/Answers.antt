@@ -1,6 +1,6 @@
 -- `addresses::count_fours` meets its contract. The loop's invariant: the count so far, with those kept of the addresses that are left,
 -- is the whole count. Assumes nothing.
-use Rattle.std.proofs.Common.{arith, ◌-◌, length-take, length-drop}
+use Rattle.std.proofs.Common.{arith, length-take, length-drop}
 use Rattle.addresses.specs.AddressesLaws.{sixteen}
 use Rattle.addresses.specs.CountLaws.{count-start, count-four, count-part, count-end}
 use Rattle.addresses.proofs.count_fours.Goals as goal

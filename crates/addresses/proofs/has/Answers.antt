@@ -1,5 +1,5 @@
 -- `addresses::has` meets its contract. The loop's invariant: the addresses that are left decide. Assumes nothing.
-use Rattle.std.proofs.Common.{rules, ◌-◌}
+use Rattle.std.proofs.Common.{rules}
 use Rattle.addresses.specs.AddressesLaws.{part-wide, look-start, look-end, look-found, look-next}
 use Rattle.addresses.proofs.has.Goals as goal
 

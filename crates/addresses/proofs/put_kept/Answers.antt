@@ -1,6 +1,6 @@
 -- `addresses::put_kept` meets its contract. The loop's invariant: what is written, with those kept of the addresses that are left, is
 -- the whole list of those kept. Assumes nothing.
-use Rattle.std.proofs.Common.{rules, false, ◌-◌}
+use Rattle.std.proofs.Common.{rules}
 use Rattle.addresses.specs.AddressesLaws.{part-wide}
 use Rattle.addresses.proofs.PutKeptSteps.{keeping-done, keeping-drop, keeping-keep, keeping-room, keeping_start}
 use Rattle.addresses.proofs.put_kept.Goals as goal

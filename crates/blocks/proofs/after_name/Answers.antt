@@ -1,6 +1,6 @@
 -- `blocks::after_name` meets its contract: a law of `PlacesLaws` for each way out. Assumes nothing.
 use Rattle.std.proofs.Common.{sym, arith, rules}
-use Rattle.carriers.specs.CarriersLaws.{length-width}
+use Rattle.carriers.proofs.CarriersLaws.{length-width}
 use Rattle.blocks.specs.PlacesLaws.{after-name-length-cut, after-name-addresses-cut, after-name-whole, no-lifetime, whole-ranged}
 use Rattle.blocks.proofs.after_name.Goals as goal
 

@@ -1,6 +1,6 @@
 -- `blocks::attribute` meets its contract: a law of `PlacesLaws` for each way out. Assumes nothing.
 use Rattle.std.proofs.Common.{le_of_lt, arith, rules}
-use Rattle.carriers.specs.CarriersLaws.{addresses-octets}
+use Rattle.carriers.proofs.CarriersLaws.{addresses-octets}
 use Rattle.blocks.specs.PlacesLaws.{attribute-whole-ranged, attribute-fixed-cut, attribute-fields-cut, attribute-whole}
 use Rattle.blocks.proofs.attribute.Goals as goal
 

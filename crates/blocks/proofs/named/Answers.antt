@@ -1,6 +1,6 @@
 -- `blocks::named` meets its contract: a law of `PlacesLaws` for each way out. Assumes nothing.
 use Rattle.std.proofs.Common.{refl, sym, arith, rules}
-use Rattle.carriers.specs.CarriersLaws.{length-width}
+use Rattle.carriers.proofs.CarriersLaws.{length-width}
 use Rattle.blocks.specs.Parse.{after_name}
 use Rattle.blocks.specs.PlacesLaws.{fixed-cut, name-cut, named-opens, named-alone, named-followed, no-lifetime, alone-ranged}
 use Rattle.blocks.proofs.named.Goals as goal

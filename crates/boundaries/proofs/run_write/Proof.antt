@@ -2,7 +2,7 @@
 use borrow.Author.Rules.{rules}
 use native.Mathlib.Omega.{arith}
 use Rattle.io.proofs.Counting.{prefix_len_of_le}
-use Rattle.answers.specs.AnswersLaws.{writes-fits}
+use Rattle.answers.proofs.AnswersLaws.{writes-fits}
 use Rattle.boundaries.proofs.run_write.Statement.{statement}
 use Rattle.boundaries.proofs.run_write.Tie as tie
 

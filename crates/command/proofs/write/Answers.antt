@@ -1,6 +1,6 @@
 -- `command::write` meets its contract: the octets that were written lie within their buffer, and the number decides. Assumes nothing.
 use Rattle.std.proofs.Common.{sym, ◌≤◌, arith, rules, length, length-take-le}
-use Rattle.answers.specs.AnswersLaws.{writes-fits}
+use Rattle.answers.proofs.AnswersLaws.{writes-fits}
 use Rattle.command.specs.NumbersLaws.{write-refused, write_done}
 use Rattle.command.proofs.write.Goals as goal
 

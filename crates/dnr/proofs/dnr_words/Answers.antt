@@ -1,6 +1,6 @@
 -- `dnr::dnr_words` meets its contract: the words are written as far as there is room, and then their closing octet. Assumes nothing.
 use Rattle.std.proofs.Common.{arith}
-use Rattle.words.specs.StringsLaws.{string-none, string-closed}
+use Rattle.words.proofs.StringsLaws.{string-none, string-closed}
 use Rattle.dnr.proofs.dnr_words.Goals as goal
 
 pub returns-then-text-eq0 : goal.returns-then-text-eq0

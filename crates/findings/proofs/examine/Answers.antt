@@ -2,7 +2,7 @@
 use Rattle.std.proofs.Common.{◌+◌, arith}
 use Rattle.octets.specs.NumbersLaws.{bytes-at}
 use Rattle.records.specs.PlacesLaws.{name-only-inside, full-inside}
-use Rattle.frames.specs.GatherLaws.{part_length}
+use Rattle.frames.proofs.GatherLaws.{part_length}
 use Rattle.findings.specs.ExaminedLaws.{trouble-laid, trouble-bare, trouble-full, full-parts}
 use Rattle.findings.proofs.examine.Goals as goal
 

@@ -1,8 +1,8 @@
 -- `findings::examine_joined` meets its contract. The invariant: the instances passed have no fault. The measure is what is left of the data.
 -- Assumes nothing.
-use Rattle.std.proofs.Common.{arith, ◌-◌}
+use Rattle.std.proofs.Common.{arith}
 use Rattle.octets.specs.NumbersLaws.{bytes-at}
-use Rattle.findings.specs.JoinedLaws.{joined-none, passing-start, passing-short, passing-past, passing-place, passing-found, passing-next, passing-end}
+use Rattle.findings.proofs.JoinedLaws.{joined-none, passing-start, passing-short, passing-past, passing-place, passing-found, passing-next, passing-end}
 use Rattle.findings.proofs.examine_joined.Goals as goal
 
 pub returns-then-joined-eq0 : goal.returns-then-joined-eq0

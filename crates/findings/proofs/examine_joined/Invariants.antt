@@ -1,5 +1,5 @@
 use Rattle.std.proofs.Common.{◌-◌, length}
-use Rattle.findings.specs.JoinedLaws.{Passing}
+use Rattle.findings.proofs.JoinedLaws.{Passing}
 use Rattle.findings.proofs.examine_joined.Given as goal
 
 abbrev pub invariant-loop-at : goal.invariant-loop-at

@@ -1,5 +1,5 @@
 -- `findings::past_padding` meets its contract. The invariant: the octets passed are at most 7 zeros. The measure is what is left. Assumes nothing.
-use Rattle.std.proofs.Common.{refl, sym, ◌∙◌, arith, ◌-◌, ◌<◌}
+use Rattle.std.proofs.Common.{refl, sym, ◌∙◌, arith, ◌<◌}
 use Rattle.findings.specs.PlacesLaws.{past-other, past-many, past-turn, past_end}
 use Rattle.findings.proofs.past_padding.Goals as goal
 

@@ -1,6 +1,6 @@
 -- `findings::place` meets its contract. The invariant: octet j is octet `left` of the bodies that are still to come. The measure is what is left of
 -- the area. Assumes nothing.
-use Rattle.std.proofs.Common.{◌≡◌, sym, ◌∙◌, arith, ◌-◌}
+use Rattle.std.proofs.Common.{◌≡◌, sym, ◌∙◌, arith}
 use Rattle.carriers.specs.declared.Carrier.TheVariants.{Dhcp4}
 use Rattle.frames.specs.declared.Step.{Step}
 use Rattle.frames.specs.Step.{step_at}

@@ -2,7 +2,7 @@
 -- of the area. Assumes nothing.
 use Rattle.std.proofs.Common.{sym, arith}
 use Rattle.frames.specs.Laws.{step_block, step-skipped}
-use Rattle.frames.specs.GatherLaws.{gathering-first, gathering-skipped, gathering-end}
+use Rattle.frames.proofs.GatherLaws.{gathering-first, gathering-skipped, gathering-end}
 use Rattle.frames.proofs.gather.Goals as goal
 
 pub loop-start-smaller-in-Block : goal.loop-start-smaller-in-Block

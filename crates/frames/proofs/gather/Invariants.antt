@@ -1,5 +1,5 @@
 use Rattle.std.proofs.Common.{◌-◌, length}
-use Rattle.frames.specs.GatherLaws.{Gathering}
+use Rattle.frames.proofs.GatherLaws.{Gathering}
 use Rattle.frames.proofs.gather.Given as goal
 
 abbrev pub invariant-loop-start : goal.invariant-loop-start

@@ -6,7 +6,7 @@ use Rattle.octets.specs.Numbers.{number_at}
 use Rattle.carriers.specs.declared.Carrier.{Carrier}
 use Rattle.carriers.specs.declared.Facts.{Facts}
 use Rattle.carriers.specs.Carriers.{facts_of, header_of, head_width, bare_code, octets}
-use Rattle.carriers.specs.CarriersLaws.{headed}
+use Rattle.carriers.proofs.CarriersLaws.{headed}
 use Rattle.frames.specs.declared.Head.{Head}
 use Rattle.frames.specs.Frame.{whole_size, code_in, size_in}
 use Rattle.frames.specs.HeadLaws.{head-short, head-none, head-option}

@@ -2,7 +2,7 @@
 -- of the area. Assumes nothing.
 use Rattle.std.proofs.Common.{sym, arith}
 use Rattle.frames.specs.Laws.{step_block, step-skipped}
-use Rattle.frames.specs.GatherLaws.{joining-start, joining-room, joining-block, joining-skipped, joining-end}
+use Rattle.frames.proofs.GatherLaws.{joining-start, joining-room, joining-block, joining-skipped, joining-end}
 use Rattle.frames.proofs.join.Goals as goal
 
 pub loop-start-init : goal.loop-start-init

@@ -1,5 +1,5 @@
 use Rattle.std.proofs.Common.{◌-◌, length}
-use Rattle.frames.specs.GatherLaws.{Joining}
+use Rattle.frames.proofs.GatherLaws.{Joining}
 use Rattle.frames.proofs.join.Given as goal
 
 abbrev pub invariant-loop-start : goal.invariant-loop-start

@@ -2,7 +2,7 @@
 use Rattle.std.proofs.Common.{arith}
 use Rattle.octets.specs.NumbersLaws.{length-be}
 use Rattle.carriers.specs.Carriers.{head_width, header_of, in_eights}
-use Rattle.frames.specs.EmitLaws.{said-small, row-width, row-code, row-said, row_wrote}
+use Rattle.frames.proofs.EmitLaws.{said-small, row-width, row-code, row-said, row_wrote}
 use Rattle.frames.proofs.put_header.Goals as goal
 
 pub length_said-said-requires : goal.length_said-said-requires

@@ -2,7 +2,7 @@
 use Rattle.std.proofs.Common.{arith, subst, ℕ, ◌+◌, length}
 use Rattle.carriers.specs.Carriers.{head_width, header_of, in_eights}
 use Rattle.frames.specs.Emit.{CanSay}
-use Rattle.frames.specs.EmitLaws.{option-length, head-length}
+use Rattle.frames.proofs.EmitLaws.{option-length, head-length}
 use Rattle.headers.specs.Headers.{padded_of}
 use Rattle.headers.specs.HeadersLaws.{most-few, padded-length, padded-fits, option-wrote}
 use Rattle.headers.proofs.put_option.Goals as goal

@@ -1,5 +1,5 @@
 -- `judge::place_from` meets its contract: with fault 22, and with any other. Assumes nothing.
-use Rattle.judge.specs.PlaceLaws.{place-name, place_none}
+use Rattle.judge.proofs.PlaceLaws.{place-name, place_none}
 use Rattle.judge.proofs.place_from.Goals as goal
 
 pub returns-then-fault-eq-NAME : goal.returns-then-fault-eq-NAME

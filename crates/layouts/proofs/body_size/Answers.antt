@@ -2,7 +2,7 @@
 use Rattle.std.proofs.Common.{arith, ◌≡◌, sym, ap, ◌∙◌, ℕ, ◌+◌, ◌≤◌, ◌<◌}
 use Rattle.carriers.specs.declared.Form.{Form}
 use Rattle.carriers.specs.Carriers.{form_of}
-use Rattle.carriers.specs.CarriersLaws.{length-width}
+use Rattle.carriers.proofs.CarriersLaws.{length-width}
 use Rattle.layouts.specs.Writable.{overhead, body_by}
 use Rattle.layouts.specs.LayoutsLaws.{body-small}
 use Rattle.layouts.proofs.body_size.Goals as goal

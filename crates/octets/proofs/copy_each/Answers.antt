@@ -1,5 +1,5 @@
 -- `octets::copy_each` meets its contract. The loop's invariant: the first j bytes of `src` are laid over `out` from `at`. Assumes nothing.
-use Rattle.std.proofs.Common.{arith, ◌≡◌, refl, sym, ◌∙◌, ℕ, ◌-◌, List, take, length-set, take_all}
+use Rattle.std.proofs.Common.{arith, ◌≡◌, refl, sym, ◌∙◌, ℕ, List, take, length-set, take_all}
 use Rattle.octets.specs.OverLaws.{over-nil, over-take}
 use Rattle.octets.proofs.copy_each.Goals as goal
 

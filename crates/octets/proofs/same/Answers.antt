@@ -1,5 +1,5 @@
 -- `octets::same` meets its contract: what is left of both decides, at each turn as at the start. Assumes nothing.
-use Rattle.std.proofs.Common.{refl, ◌∙◌, ◌-◌, arith, rules}
+use Rattle.std.proofs.Common.{refl, ◌∙◌, arith, rules}
 use Rattle.octets.specs.SameLaws.{same_length, same_turn, same_not, same_end}
 use Rattle.octets.proofs.same.Goals as goal
 

@@ -1,5 +1,5 @@
 -- `octets::zeros` meets its contract. The loop's invariant: what is left decides. Assumes nothing.
-use Rattle.std.proofs.Common.{arith, refl, ◌∙◌, ◌-◌}
+use Rattle.std.proofs.Common.{arith, refl, ◌∙◌}
 use Rattle.octets.specs.NumbersLaws.{zero_turn, zero-not, zero-end}
 use Rattle.octets.proofs.zeros.Goals as goal
 

@@ -5,7 +5,7 @@ use Rattle.carriers.specs.declared.Carrier.TheVariants.{Dhcp4}
 use Rattle.frames.specs.declared.Gathered.TheVariants.{One, Many}
 use Rattle.frames.specs.Frame.{Framed, frame}
 use Rattle.frames.specs.Gather.{GatheredFrom}
-use Rattle.frames.specs.GatherLaws.{part_length}
+use Rattle.frames.proofs.GatherLaws.{part_length}
 use Rattle.frames.specs.ToldLaws.{number-fault, number-framed}
 use Rattle.reading.specs.Reading.{read_framed}
 use Rattle.reading.specs.TallyLaws.{holds-none, holds-ready, shows-none}

@@ -1,6 +1,6 @@
 -- `reading::put_sheet` meets its contract. The invariant: the records of the first i slots are laid after the sheet's head. The measure is
 -- what is left of the count. Assumes nothing.
-use Rattle.std.proofs.Common.{◌≡◌, sym, ap, ◌∙◌, arith, ◌-◌, ◌<◌, length, get_or, get_or-take}
+use Rattle.std.proofs.Common.{◌≡◌, sym, ap, ◌∙◌, arith, ◌<◌, length, get_or, get_or-take}
 use Rattle.octets.specs.OverLaws.{over-length}
 use Rattle.order.specs.Listed.{none, listed}
 use Rattle.sheets.specs.SheetsLaws.{length-sheet}

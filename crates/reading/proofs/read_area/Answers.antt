@@ -1,7 +1,6 @@
 -- `reading::read_area` meets its contract: carrier 1 is read joined, the others block by block. Assumes nothing.
-use Rattle.std.proofs.Common.{◌≡◌, ap, ⊎_elim, arith, length}
+use Rattle.std.proofs.Common.{ap, arith, length}
 use Rattle.carriers.specs.declared.Carrier.{Carrier}
-use Rattle.carriers.specs.declared.Carrier.TheVariants.{Dhcp4}
 use Rattle.frames.specs.Frame.{frame}
 use Rattle.reading.specs.Reading.{read_framed}
 use Rattle.reading.specs.AnswerLaws.{reads_as}

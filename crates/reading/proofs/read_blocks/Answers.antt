@@ -1,11 +1,11 @@
 -- `reading::read_blocks` meets its contract. The invariant: what is counted tells of the blocks passed, and nothing is written. The measure
 -- is what is left of the area. Assumes nothing.
-use Rattle.std.proofs.Common.{◌≡◌, refl, sym, ap, ◌∙◌, [], ◌∷◌, ◌++◌, arith, ℕ, ◌-◌, length, length-set}
+use Rattle.std.proofs.Common.{◌≡◌, refl, sym, ap, ◌∙◌, [], ◌∷◌, ◌++◌, arith, ℕ, length, length-set}
 use Rattle.frames.specs.declared.Step.{Step}
 use Rattle.frames.specs.Frame.{frame}
 use Rattle.frames.specs.Step.{step_at}
 use Rattle.frames.specs.Laws.{step_block, step-body, step-skipped}
-use Rattle.frames.specs.GatherLaws.{part_length}
+use Rattle.frames.proofs.GatherLaws.{part_length}
 use Rattle.frames.specs.SkipLaws.{skips-forward, skips-step, skips-then}
 use Rattle.judge.specs.Place.{judged, place_from}
 use Rattle.order.specs.declared.Slot.{Slot}

@@ -1,8 +1,8 @@
 -- `reading::read_instances` meets its contract. The invariant: the records of the instances passed are held, and nothing is written. The
 -- measure is what is left of the joined data. Assumes nothing.
-use Rattle.std.proofs.Common.{refl, sym, ap, ◌∙◌, [], ◌∷◌, ◌++◌, arith, ◌+◌, ◌-◌, ◌≤◌, length, length-set}
+use Rattle.std.proofs.Common.{refl, sym, ap, ◌∙◌, [], ◌∷◌, ◌++◌, arith, ◌+◌, ◌≤◌, length, length-set}
 use Rattle.carriers.specs.declared.Carrier.TheVariants.{Dhcp4}
-use Rattle.frames.specs.GatherLaws.{part_length}
+use Rattle.frames.proofs.GatherLaws.{part_length}
 use Rattle.order.specs.declared.Slot.{Slot}
 use Rattle.order.specs.Listed.{listed}
 use Rattle.order.specs.ListedLaws.{listed_next}

@@ -5,7 +5,7 @@ use Rattle.frames.specs.declared.Joined.{Joined}
 use Rattle.frames.specs.Frame.{Framed, frame}
 use Rattle.frames.specs.Told.{joined_length}
 use Rattle.frames.specs.Gather.{Joins}
-use Rattle.frames.specs.GatherLaws.{joins-broken}
+use Rattle.frames.proofs.GatherLaws.{joins-broken}
 use Rattle.reading.specs.Reading.{read_framed}
 use Rattle.reading.specs.AnswerLaws.{reads_as, reads-refused, many-room, many-length, answer-many}
 use Rattle.reading.proofs.read_within.Goals as goal

@@ -1,5 +1,5 @@
 -- `showing::put_addresses` meets its contract. The loop's invariant: the addresses before index i are written. Assumes nothing.
-use Rattle.std.proofs.Common.{refl, ap, map, ℕ, ◌+◌, ◌-◌, arith}
+use Rattle.std.proofs.Common.{refl, ap, map, ℕ, ◌+◌, arith}
 use Rattle.addresses.specs.Addresses.{list_of}
 use Rattle.chars.specs.PutsLaws.{puts-as}
 use Rattle.values.specs.Values as values

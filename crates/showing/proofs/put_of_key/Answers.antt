@@ -1,5 +1,5 @@
 -- `showing::put_of_key` meets its contract: a value by its key. Assumes nothing.
-use Rattle.std.proofs.Common.{⊎_elim, ne_eqb}
+use Rattle.std.proofs.Common.{ne_eqb}
 use Rattle.chars.specs.PutsLaws.{puts-as}
 use Rattle.showing.specs.Showing.{value_by}
 use Rattle.showing.specs.ParameterLaws.{value-port, value-string}

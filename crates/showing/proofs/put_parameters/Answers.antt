@@ -1,5 +1,5 @@
 -- `showing::put_parameters` meets its contract. The loop's invariant: the parameters before index i are written. Assumes nothing.
-use Rattle.std.proofs.Common.{refl, ◌+◌, ◌-◌, arith}
+use Rattle.std.proofs.Common.{refl, ◌+◌, arith}
 use Rattle.values.specs.ListLaws.{listed_start, listed-past, listed-end}
 use Rattle.showing.specs.Showing.{parameters_of}
 use Rattle.showing.specs.ParameterLaws.{params-short, params-cut, params-next}

@@ -1,6 +1,6 @@
 -- `showing::put_records` meets its contract. The loop's invariant: whatever records the sheet has, those before index i are written. It ends since a
 -- record has an octet. Assumes nothing.
-use Rattle.std.proofs.Common.{refl, ◌-◌, arith}
+use Rattle.std.proofs.Common.{refl, arith}
 use borrow.Author.Tests.{not-false}
 use Rattle.showing.specs.SheetLaws.{lined-start, lined-good, lined-next, lined-end}
 use Rattle.showing.proofs.put_records.Goals as goal

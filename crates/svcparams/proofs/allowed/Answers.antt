@@ -1,6 +1,6 @@
 -- `svcparams::allowed` meets its contract. Assumes nothing.
 use Rattle.std.proofs.Common.{rules}
-use Rattle.svcparams.specs.ValueLaws.{value-mandatory}
+use Rattle.svcparams.proofs.ValueLaws.{value-mandatory}
 use Rattle.svcparams.proofs.allowed.Goals as goal
 
 pub returns-then-key-eq-MANDATORY : goal.returns-then-key-eq-MANDATORY

@@ -1,6 +1,6 @@
 -- `svcparams::alpn` meets its contract. The loop's invariant: what is left of the value decides. Assumes nothing.
-use Rattle.std.proofs.Common.{rules, ◌-◌}
-use Rattle.svcparams.specs.ValueLaws.{alpn-none, strings-start, strings-end, strings-empty, strings-over, strings-next}
+use Rattle.std.proofs.Common.{rules}
+use Rattle.svcparams.proofs.ValueLaws.{alpn-none, strings-start, strings-end, strings-empty, strings-over, strings-next}
 use Rattle.svcparams.proofs.alpn.Goals as goal
 
 pub returns-then-v-eq0 : goal.returns-then-v-eq0

@@ -1,5 +1,5 @@
 use Rattle.std.proofs.Common.{◌-◌, length}
-use Rattle.svcparams.specs.ValueLaws.{Strings}
+use Rattle.svcparams.proofs.ValueLaws.{Strings}
 use Rattle.svcparams.proofs.alpn.Given as goal
 
 abbrev pub invariant-loop-at : goal.invariant-loop-at

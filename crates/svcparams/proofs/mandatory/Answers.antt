@@ -1,6 +1,6 @@
 -- `svcparams::mandatory` meets its contract. Assumes nothing.
 use Rattle.std.proofs.Common.{rules}
-use Rattle.svcparams.specs.ValueLaws.{mandatory-none, mandatory-odd, mandatory-walked}
+use Rattle.svcparams.proofs.ValueLaws.{mandatory-none, mandatory-odd, mandatory-walked}
 use Rattle.svcparams.proofs.mandatory.Goals as goal
 
 pub returns-then-m-eq0 : goal.returns-then-m-eq0

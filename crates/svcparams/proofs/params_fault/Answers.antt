@@ -1,7 +1,7 @@
 -- `svcparams::params_fault` meets its contract. The loop's invariant: what is left of the field decides. Assumes nothing.
-use Rattle.std.proofs.Common.{rules, arith, ◌-◌}
+use Rattle.std.proofs.Common.{rules, arith}
 use Rattle.svcparams.specs.TilingLaws.{size-head}
-use Rattle.svcparams.specs.WalkLaws.{order-start, order-bad, order-low, order-invalid, order-next, order-hint, order_value, order-none, climb-start, climb-next, climb-over}
+use Rattle.svcparams.proofs.WalkLaws.{order-start, order-bad, order-low, order-invalid, order-next, order-hint, order_value, order-none, climb-start, climb-next, climb-over}
 use Rattle.svcparams.proofs.params_fault.Goals as goal
 
 pub loop-at-init : goal.loop-at-init

@@ -1,5 +1,5 @@
 use Rattle.std.proofs.Common.{◌-◌, length}
-use Rattle.svcparams.specs.WalkLaws.{InOrder, Climbing}
+use Rattle.svcparams.proofs.WalkLaws.{InOrder, Climbing}
 use Rattle.svcparams.proofs.params_fault.Given as goal
 
 abbrev pub invariant-loop-at : goal.invariant-loop-at

@@ -1,6 +1,6 @@
 -- `svcparams::plain` meets its contract. Assumes nothing.
 use Rattle.std.proofs.Common.{rules}
-use Rattle.svcparams.specs.ValueLaws.{value-alpn, value-no-default-alpn, value-port, value-other}
+use Rattle.svcparams.proofs.ValueLaws.{value-alpn, value-no-default-alpn, value-port, value-other}
 use Rattle.svcparams.proofs.plain.Goals as goal
 
 pub returns-then-key-eq-ALPN : goal.returns-then-key-eq-ALPN

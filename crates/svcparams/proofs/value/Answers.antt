@@ -1,6 +1,6 @@
 -- `svcparams::value` meets its contract. Assumes nothing.
 use Rattle.std.proofs.Common.{rules, sym, ◌∙◌}
-use Rattle.svcparams.specs.ValueLaws.{value-mandatory}
+use Rattle.svcparams.proofs.ValueLaws.{value-mandatory}
 use Rattle.svcparams.proofs.value.Goals as goal
 
 pub returns-then-key-eq-NO_DEFAULT_ALPN : goal.returns-then-key-eq-NO_DEFAULT_ALPN

@@ -1,7 +1,7 @@
 -- `svcparams::values` meets its contract. The loop's invariant: what is left of the field decides. Assumes nothing.
-use Rattle.std.proofs.Common.{rules, arith, ◌-◌}
+use Rattle.std.proofs.Common.{rules, arith}
 use Rattle.svcparams.specs.TilingLaws.{size-head}
-use Rattle.svcparams.specs.WalkLaws.{values-start, values-end, values-high, values-beside, values-bad, values-next}
+use Rattle.svcparams.proofs.WalkLaws.{values-start, values-end, values-high, values-beside, values-bad, values-next}
 use Rattle.svcparams.proofs.values.Goals as goal
 
 pub loop-s-init : goal.loop-s-init

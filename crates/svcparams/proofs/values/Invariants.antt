@@ -1,5 +1,5 @@
 use Rattle.std.proofs.Common.{◌-◌, length}
-use Rattle.svcparams.specs.WalkLaws.{Valued}
+use Rattle.svcparams.proofs.WalkLaws.{Valued}
 use Rattle.svcparams.proofs.values.Given as goal
 
 abbrev pub invariant-loop-s : goal.invariant-loop-s

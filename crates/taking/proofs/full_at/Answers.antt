@@ -1,6 +1,6 @@
 -- `taking::full_at` meets its contract: each part tested against what is left of the sheet. Assumes nothing.
 use Rattle.std.proofs.Common.{◌≤◌, mul-le-mul, arith, rules}
-use Rattle.carriers.specs.CarriersLaws.{address-width}
+use Rattle.carriers.proofs.CarriersLaws.{address-width}
 use Rattle.taking.specs.SpotLaws.{full-1, full-2, full-3, full-4, full-5}
 use Rattle.taking.proofs.full_at.Goals as goal
 

@@ -4,7 +4,7 @@ use Rattle.std.proofs.Common.{◌≡◌, sym, ◌∙◌, arith}
 use Rattle.frames.specs.declared.Step.{Step}
 use Rattle.frames.specs.Step.{step_at}
 use Rattle.frames.specs.Laws.{step_block, step-skipped}
-use Rattle.frames.specs.GatherLaws.{part_length}
+use Rattle.frames.proofs.GatherLaws.{part_length}
 use Rattle.telling.specs.DiscardedLaws.{counting-start, counting-block, counting-skipped, counting-end, counting-fault}
 use Rattle.telling.proofs.list_blocks.Goals as goal
 

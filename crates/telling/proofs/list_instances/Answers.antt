@@ -1,6 +1,6 @@
 -- `telling::list_instances` meets its contract. The invariant: the walk is within the data. The measure is what is left of them. Assumes nothing.
 use Rattle.std.proofs.Common.{arith, ◌+◌, ◌≤◌, length}
-use Rattle.frames.specs.GatherLaws.{part_length}
+use Rattle.frames.proofs.GatherLaws.{part_length}
 use Rattle.telling.proofs.list_instances.Goals as goal
 
 pub tell_dropped-requires : goal.tell_dropped-requires

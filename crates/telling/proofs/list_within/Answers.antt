@@ -7,7 +7,7 @@ use Rattle.frames.specs.declared.Joined.{Joined}
 use Rattle.frames.specs.Frame.{frame}
 use Rattle.frames.specs.Told.{joined_length}
 use Rattle.frames.specs.Gather.{Joins}
-use Rattle.frames.specs.GatherLaws.{joins-whole}
+use Rattle.frames.proofs.GatherLaws.{joins-whole}
 use Rattle.telling.specs.DiscardedLaws.{counted-broken, counted-whole}
 use Rattle.telling.proofs.list_within.Goals as goal
 

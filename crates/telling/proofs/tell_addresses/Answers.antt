@@ -1,7 +1,7 @@
 -- `telling::tell_addresses` meets its contract. The invariant: the walk is within the addresses. The measure is what is left. Assumes nothing.
 use Rattle.std.proofs.Common.{sym, subst, arith}
 use Rattle.addresses.specs.Addresses.{Width}
-use Rattle.carriers.specs.CarriersLaws.{by_address}
+use Rattle.carriers.proofs.CarriersLaws.{by_address}
 use Rattle.addresses.specs.AddressesLaws.{part-wide, four, sixteen}
 use Rattle.telling.proofs.tell_addresses.Goals as goal
 

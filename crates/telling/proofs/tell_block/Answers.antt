@@ -1,7 +1,7 @@
 -- `telling::tell_block` meets its contract: the place of a trouble is within the body, and with a trouble it is discarded. Assumes nothing.
 use Rattle.std.proofs.Common.{arith}
 use Rattle.octets.specs.NumbersLaws.{bytes-at}
-use Rattle.findings.specs.Exactly.{trouble-within}
+use Rattle.findings.proofs.Exactly.{trouble-within}
 use Rattle.telling.specs.DiscardedLaws.{body-discarded, body_kept}
 use Rattle.telling.proofs.tell_block.Goals as goal
 

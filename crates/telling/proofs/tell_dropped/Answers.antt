@@ -3,7 +3,7 @@ use Rattle.std.proofs.Common.{◌≡◌, List, arith, ℕ, ◌+◌, ◌≤◌, l
 use Rattle.blocks.specs.declared.Places.{Places}
 use Rattle.blocks.specs.declared.Places.TheVariants.{Full}
 use Rattle.blocks.specs.Places.{Inside}
-use Rattle.frames.specs.GatherLaws.{part_length}
+use Rattle.frames.proofs.GatherLaws.{part_length}
 use Rattle.telling.proofs.tell_dropped.Goals as goal
 
 addresses-inside : (b : List ℕ) {s : Places} {p t i n j m q k : ℕ} → s ≡ Full p t i n j m q k → Inside b s → j + m ≤ length b

@@ -1,7 +1,7 @@
 -- `telling::tell_joined` meets its contract: a trouble's place is within the joined data, and with a trouble they are discarded. Assumes nothing.
 use Rattle.std.proofs.Common.{arith}
 use Rattle.octets.specs.NumbersLaws.{bytes-at}
-use Rattle.findings.specs.Exactly.{joined-within}
+use Rattle.findings.proofs.Exactly.{joined-within}
 use Rattle.telling.specs.DiscardedLaws.{joined-discarded, joined-kept}
 use Rattle.telling.proofs.tell_joined.Goals as goal
 

@@ -1,5 +1,5 @@
 -- `texts::to_text` meets its contract. The loop's invariant: the first i octets of the text stand in their place. Assumes nothing.
-use Rattle.std.proofs.Common.{arith, refl, ◌-◌, length-set}
+use Rattle.std.proofs.Common.{arith, refl, length-set}
 use Rattle.texts.specs.Turns.{text-start, text-dot, text-octet, text-done}
 use Rattle.texts.proofs.to_text.Goals as goal
 

@@ -1,4 +1,4 @@
-use Rattle.std.proofs.Common.{◌≡◌, ◌-◌, length}
+use Rattle.std.proofs.Common.{◌≡◌, length}
 use Rattle.texts.specs.Turns.{Wired}
 use Rattle.texts.proofs.to_wire.Given as goal
 

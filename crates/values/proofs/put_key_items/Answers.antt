@@ -1,5 +1,5 @@
 -- `values::put_key_items` meets its contract. The loop's invariant: the keys before index i are written. Assumes nothing.
-use Rattle.std.proofs.Common.{refl, sym, ap, ◌∙◌, ◌∷◌, ℕ, ◌+◌, ◌-◌, arith, drop}
+use Rattle.std.proofs.Common.{refl, sym, ap, ◌∙◌, ◌∷◌, ℕ, ◌+◌, arith, drop}
 use Rattle.octets.specs.Numbers.{words}
 use Rattle.octets.specs.NumbersLaws.{words-cons, words-end}
 use Rattle.values.specs.Values.{keys_of}

@@ -1,5 +1,5 @@
 -- `values::put_protocol_items` meets its contract. The loop's invariant: the strings before index i are written. Assumes nothing.
-use Rattle.std.proofs.Common.{refl, true, ◌+◌, ◌-◌, arith}
+use Rattle.std.proofs.Common.{refl, ◌+◌, arith}
 use Rattle.values.specs.Values.{protocols_of}
 use Rattle.values.specs.ListLaws.{listed_start, listed-past, listed-end}
 use Rattle.values.specs.StringLaws.{strings-end, strings-short, strings-next}

@@ -1,5 +1,5 @@
 -- `values::put_value` meets its contract. The loop's invariant: the octets before index i are written. Assumes nothing.
-use Rattle.std.proofs.Common.{refl, false, ◌-◌, add-one, arith, drop_of_length-le, drop-cons}
+use Rattle.std.proofs.Common.{refl, add-one, arith, drop_of_length-le, drop-cons}
 use Rattle.values.specs.Values.{value_of}
 use Rattle.values.specs.ListLaws.{listed_start, listed_next, listed-end}
 use Rattle.values.proofs.put_value.Goals as goal

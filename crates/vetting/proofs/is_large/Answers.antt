@@ -1,5 +1,5 @@
 -- `vetting::is_large` meets its contract, by the carrier's row of the table. Assumes nothing.
-use Rattle.vetting.specs.WeighingLaws.{large-eights, large-never}
+use Rattle.vetting.proofs.WeighingLaws.{large-eights, large-never}
 use Rattle.vetting.proofs.is_large.Goals as goal
 
 pub returns-then-f : goal.returns-then-f

@@ -1,6 +1,6 @@
 -- `vetting::share_size` meets its contract, by the carrier's row of the table. Assumes nothing.
 use Rattle.std.proofs.Common.{◌∙◌}
-use Rattle.vetting.specs.WeighingLaws.{share-joined, share_other}
+use Rattle.vetting.proofs.WeighingLaws.{share-joined, share_other}
 use Rattle.vetting.proofs.share_size.Goals as goal
 
 pub returns-then-f : goal.returns-then-f

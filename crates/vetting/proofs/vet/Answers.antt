@@ -1,6 +1,6 @@
 -- `vetting::vet` meets its contract: the sheet is refused as it is taken, or its records decide. Assumes nothing.
 use Rattle.std.proofs.Common.{sym, ◌∙◌}
-use Rattle.vetting.specs.VettingLaws.{vet-refused, vet-taken, vet-sheet}
+use Rattle.vetting.proofs.VettingLaws.{vet-refused, vet-taken, vet-sheet}
 use Rattle.vetting.proofs.vet.Goals as goal
 
 pub vet_records-requires : goal.vet_records-requires

@@ -1,5 +1,5 @@
 -- `vetting::vet_records` meets its contract: the first fault, or what weighing found. Assumes nothing.
-use Rattle.vetting.specs.VettingLaws.{vet-faulty, vet-passed}
+use Rattle.vetting.proofs.VettingLaws.{vet-faulty, vet-passed}
 use Rattle.vetting.proofs.vet_records.Goals as goal
 
 pub returns-then-fault-ne0 : goal.returns-then-fault-ne0

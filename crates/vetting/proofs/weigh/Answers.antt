@@ -1,9 +1,9 @@
 -- `vetting::weigh` meets its contract. The invariant: what was found of the records passed. The measure is what is left of the sheet.
 -- Assumes nothing.
-use Rattle.std.proofs.Common.{refl, arith, ◌-◌}
+use Rattle.std.proofs.Common.{refl, arith}
 use Rattle.octets.specs.NumbersLaws.{bytes-at}
 use Rattle.taking.specs.StandingLaws.{standing-within}
-use Rattle.vetting.specs.WeighingLaws.{inside-any, weighing-start, weighing-fits, weighing-inside, weighing-further, weighing-faulty, weighing-next, weighing-end}
+use Rattle.vetting.proofs.WeighingLaws.{inside-any, weighing-start, weighing-fits, weighing-inside, weighing-further, weighing-faulty, weighing-next, weighing-end}
 use Rattle.vetting.proofs.weigh.Goals as goal
 
 pub loop-at-init : goal.loop-at-init

@@ -1,6 +1,6 @@
 -- `vetting::weigh_record` meets its contract: the judge's fault, or how many octets the record takes. Assumes nothing.
 use Rattle.std.proofs.Common.{refl, sym, ◌∙◌, arith}
-use Rattle.vetting.specs.WeighingLaws.{light-at, judged-at, place_inside, weighs-faulty, weighs-passed}
+use Rattle.vetting.proofs.WeighingLaws.{light-at, judged-at, place_inside, weighs-faulty, weighs-passed}
 use Rattle.vetting.proofs.weigh_record.Goals as goal
 
 pub place_from-requires : goal.place_from-requires

@@ -1,5 +1,5 @@
 -- `words::line_end` meets its contract. The loop's invariant: the first line break after `from` is the first after i. Assumes nothing.
-use Rattle.std.proofs.Common.{◌-◌, arith}
+use Rattle.std.proofs.Common.{arith}
 use Rattle.words.specs.EncodedLaws.{break-here, break-later, break-none}
 use Rattle.words.proofs.line_end.Goals as goal
 

@@ -1,5 +1,5 @@
 -- `words::number_of` meets its contract. The loop's invariant: the octets from `entry` on have the words' number. Assumes nothing.
-use Rattle.std.proofs.Common.{sym, ◌∙◌, ◌-◌, arith}
+use Rattle.std.proofs.Common.{sym, ◌∙◌, arith}
 use Rattle.words.specs.EncodedLaws.{number-found, number_passed, number-missing}
 use Rattle.words.proofs.number_of.Goals as goal
 

@@ -1,5 +1,5 @@
 -- `words::put_found` meets its contract. The loop's invariant: the octets from i on have the number's words. Assumes nothing.
-use Rattle.std.proofs.Common.{refl, ◌∙◌, ◌-◌, arith}
+use Rattle.std.proofs.Common.{refl, ◌∙◌, arith}
 use Rattle.chars.specs.PutsLaws.{puts-as}
 use Rattle.words.specs.EncodedLaws.{found, passed, missing}
 use Rattle.words.proofs.put_found.Goals as goal

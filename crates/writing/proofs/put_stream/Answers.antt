@@ -1,8 +1,8 @@
 -- `writing::put_stream` meets its contract. The invariant: the records passed are laid. The measure is what is left of the sheet.
 -- Assumes nothing.
-use Rattle.std.proofs.Common.{arith, ◌-◌}
+use Rattle.std.proofs.Common.{arith}
 use Rattle.taking.specs.StandingLaws.{standing-within}
-use Rattle.vetting.specs.WeighingLaws.{inside-any}
+use Rattle.vetting.proofs.WeighingLaws.{inside-any}
 use Rattle.writing.specs.LayingLaws.{laying-start, laying-length, laying-end, laying-inside, laying-further, laying-writable, laying-room, laying-next}
 use Rattle.writing.proofs.put_stream.Goals as goal
 

@@ -1,6 +1,6 @@
 -- `writing::write` meets its contract: the sheet is refused as it is vetted, or 44, 5 and its octets decide. Assumes nothing.
 use Rattle.std.proofs.Common.{sym, ◌∙◌}
-use Rattle.answers.specs.AnswersLaws.{writes_as, writes-refused}
+use Rattle.answers.proofs.AnswersLaws.{writes_as, writes-refused}
 use Rattle.writing.specs.WritesLaws.{write-refused, write-vetted}
 use Rattle.writing.proofs.write.Goals as goal
 

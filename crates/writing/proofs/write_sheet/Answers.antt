@@ -2,7 +2,7 @@
 use Rattle.std.proofs.Common.{arith}
 use Rattle.octets.specs.NumbersLaws.{bytes-at}
 use Rattle.octets.specs.Numbers.{Bytes}
-use Rattle.answers.specs.AnswersLaws.{writes_as, writes-refused, writes-written}
+use Rattle.answers.proofs.AnswersLaws.{writes_as, writes-refused, writes-written}
 use Rattle.writing.specs.WritesLaws.{records-large, records-room, records-written, found-small, found-ready}
 use Rattle.writing.proofs.write_sheet.Goals as goal
 

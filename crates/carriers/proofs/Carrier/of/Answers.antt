@@ -3,7 +3,7 @@ use Rattle.std.proofs.Common.{◌≡◌, ℕ, eq-eqb, ne_eqb}
 use Rattle.numbers.specs.Refusal as refusal
 use Rattle.carriers.specs.declared.Chosen.{Chosen}
 use Rattle.carriers.specs.Carriers.{chosen_of}
-use Rattle.carriers.specs.CarriersLaws.{chosen-chooses}
+use Rattle.carriers.proofs.CarriersLaws.{chosen-chooses}
 use Rattle.carriers.specs.Told.{Chooses}
 use Rattle.carriers.proofs.Carrier.of.Goals as goal
 

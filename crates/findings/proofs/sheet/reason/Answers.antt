@@ -1,7 +1,7 @@
 -- `findings::sheet::reason` meets its contract: octets that are no sheet, and a sheet's records. Assumes nothing.
 use Rattle.std.proofs.Common.{sym, ◌∙◌}
 use Rattle.taking.specs.StandingLaws.{took-refused}
-use Rattle.vetting.specs.VettingLaws.{vet-taken}
+use Rattle.vetting.proofs.VettingLaws.{vet-taken}
 use Rattle.findings.specs.SheetLaws.{sheet-refused, sheet-taken-reason}
 use Rattle.findings.proofs.sheet.reason.Goals as goal
 

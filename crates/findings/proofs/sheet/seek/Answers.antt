@@ -1,5 +1,5 @@
 -- `findings::sheet::seek` meets its contract. The invariant: the records that are left decide. The measure is what is left of the sheet. Assumes nothing.
-use Rattle.std.proofs.Common.{ap, ℕ, ◌-◌, arith, take, drop}
+use Rattle.std.proofs.Common.{ap, ℕ, arith, take, drop}
 use native.Mathlib.Nat.{add-sub_cancel_left}
 use Rattle.taking.specs.StandingLaws.{standing-within}
 use Rattle.findings.specs.SheetLaws.{seeking-start, seeking-end, seeking-further, seeking-found, seeking-next}

@@ -1,5 +1,5 @@
 -- `reasons::fields::unordered` meets its contract. The loop's invariant: what is left of the field decides. Assumes nothing.
-use Rattle.std.proofs.Common.{rules, arith, ◌-◌}
+use Rattle.std.proofs.Common.{rules, arith}
 use Rattle.svcparams.specs.TilingLaws.{size-head}
 use Rattle.reasons.specs.ParamsLaws.{ordering-start, ordering-short, ordering-low, ordering-invalid, ordering-next, ordering-end}
 use Rattle.reasons.proofs.fields.unordered.Goals as goal

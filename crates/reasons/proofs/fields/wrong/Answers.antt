@@ -1,5 +1,5 @@
 -- `reasons::fields::wrong` meets its contract. The loop's invariant: what is left of the field decides. Assumes nothing.
-use Rattle.std.proofs.Common.{rules, arith, ◌-◌}
+use Rattle.std.proofs.Common.{rules, arith}
 use Rattle.svcparams.specs.TilingLaws.{size-head}
 use Rattle.reasons.specs.ParamsLaws.{seeking-start, seeking-end, seeking-found, seeking-next}
 use Rattle.reasons.proofs.fields.wrong.Goals as goal

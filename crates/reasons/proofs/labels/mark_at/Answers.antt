@@ -1,5 +1,5 @@
 -- `reasons::labels::mark_at` meets its contract. The loop's invariant: what is left of the name decides. Assumes nothing.
-use Rattle.std.proofs.Common.{rules, ◌-◌}
+use Rattle.std.proofs.Common.{rules}
 use Rattle.reasons.specs.NamesLaws.{mark-start, marked-length, marked-label, marked-after, marked-opens, marked-within, marked-end}
 use Rattle.reasons.proofs.labels.mark_at.Goals as goal
 

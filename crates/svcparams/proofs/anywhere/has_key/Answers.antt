@@ -1,7 +1,7 @@
 -- `svcparams::anywhere::has_key` meets its contract. The loop's invariant: what is left of the field decides. Assumes nothing.
-use Rattle.std.proofs.Common.{rules, arith, ◌-◌}
+use Rattle.std.proofs.Common.{rules, arith}
 use Rattle.svcparams.specs.TilingLaws.{size-head}
-use Rattle.svcparams.specs.WalkLaws.{seek-start, seek-end, seek_found, seek-next}
+use Rattle.svcparams.proofs.WalkLaws.{seek-start, seek-end, seek_found, seek-next}
 use Rattle.svcparams.proofs.anywhere.has_key.Goals as goal
 
 pub loop-s-init : goal.loop-s-init

@@ -1,5 +1,5 @@
 use Rattle.std.proofs.Common.{◌-◌, length}
-use Rattle.svcparams.specs.WalkLaws.{Seeking}
+use Rattle.svcparams.proofs.WalkLaws.{Seeking}
 use Rattle.svcparams.proofs.anywhere.has_key.Given as goal
 
 abbrev pub invariant-loop-s : goal.invariant-loop-s

@@ -1,6 +1,6 @@
 -- `svcparams::anywhere::mandatory_anywhere` meets its contract. The loop's invariant: what is left of the list decides. Assumes nothing.
-use Rattle.std.proofs.Common.{rules, ◌-◌}
-use Rattle.svcparams.specs.ValueLaws.{mandatory-none, mandatory-odd, list-start, list-end, list-low, list-absent, list-next}
+use Rattle.std.proofs.Common.{rules}
+use Rattle.svcparams.proofs.ValueLaws.{mandatory-none, mandatory-odd, list-start, list-end, list-low, list-absent, list-next}
 use Rattle.svcparams.proofs.anywhere.mandatory_anywhere.Goals as goal
 
 pub returns-then-m-eq0 : goal.returns-then-m-eq0

@@ -1,6 +1,6 @@
 use Rattle.std.proofs.Common.{◌-◌, length}
 use Rattle.svcparams.specs.Entries.{keys_in}
-use Rattle.svcparams.specs.ValueLaws.{Listing}
+use Rattle.svcparams.proofs.ValueLaws.{Listing}
 use Rattle.svcparams.proofs.anywhere.mandatory_anywhere.Given as goal
 
 abbrev pub invariant-loop-i : goal.invariant-loop-i

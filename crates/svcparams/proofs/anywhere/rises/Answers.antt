@@ -1,7 +1,7 @@
 -- `svcparams::anywhere::rises` meets its contract. The loop's invariant: what is left of the field decides. Assumes nothing.
-use Rattle.std.proofs.Common.{rules, arith, ◌-◌}
+use Rattle.std.proofs.Common.{rules, arith}
 use Rattle.svcparams.specs.TilingLaws.{size-head}
-use Rattle.svcparams.specs.WalkLaws.{climb-start, climb-end, climb-low, climb-next}
+use Rattle.svcparams.proofs.WalkLaws.{climb-start, climb-end, climb-low, climb-next}
 use Rattle.svcparams.proofs.anywhere.rises.Goals as goal
 
 pub loop-s-init : goal.loop-s-init

@@ -1,5 +1,5 @@
 use Rattle.std.proofs.Common.{◌-◌, length}
-use Rattle.svcparams.specs.WalkLaws.{Climbing}
+use Rattle.svcparams.proofs.WalkLaws.{Climbing}
 use Rattle.svcparams.proofs.anywhere.rises.Given as goal
 
 abbrev pub invariant-loop-s : goal.invariant-loop-s

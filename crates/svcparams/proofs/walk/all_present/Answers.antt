@@ -1,7 +1,7 @@
 -- `svcparams::walk::all_present` meets its contract: in both loops the machine stands, after as many steps, at the keys that the two places show.
 -- Assumes nothing.
-use Rattle.std.proofs.Common.{rules, arith, ◌-◌, refl}
-use Rattle.svcparams.specs.MergeTurns.{merge-start, merge-all, merge-refused, merge-found, merge-passed}
+use Rattle.std.proofs.Common.{rules, arith, refl}
+use Rattle.svcparams.proofs.MergeTurns.{merge-start, merge-all, merge-refused, merge-found, merge-passed}
 use Rattle.svcparams.proofs.walk.all_present.Goals as goal
 
 pub listed-init : goal.listed-init

@@ -1,6 +1,6 @@
 use Rattle.std.proofs.Common.{◌-◌, ◌≡◌, false, length}
 use Rattle.svcparams.specs.Entries.{keys_in}
-use Rattle.svcparams.specs.MergeTurns.{Merging}
+use Rattle.svcparams.proofs.MergeTurns.{Merging}
 use Rattle.svcparams.proofs.walk.all_present.Given as goal
 
 abbrev pub invariant-params : goal.invariant-params

@@ -1,6 +1,6 @@
 -- `svcparams::walk::decide` meets its contract. Assumes nothing.
 use Rattle.std.proofs.Common.{rules}
-use Rattle.svcparams.specs.MergeTurns.{decided-zero, decided-low, decided-found, decided-passed}
+use Rattle.svcparams.proofs.MergeTurns.{decided-zero, decided-low, decided-found, decided-passed}
 use Rattle.svcparams.proofs.walk.decide.Goals as goal
 
 pub returns-then-w-eq0 : goal.returns-then-w-eq0

@@ -1,6 +1,6 @@
 -- `svcparams::walk::held_in` meets its contract. Assumes nothing.
 use Rattle.std.proofs.Common.{rules}
-use Rattle.svcparams.specs.MergeTurns.{held-room, held_none, held-key}
+use Rattle.svcparams.proofs.MergeTurns.{held-room, held_none, held-key}
 use Rattle.svcparams.proofs.walk.held_in.Goals as goal
 
 pub returns-then-n-eq0 : goal.returns-then-n-eq0

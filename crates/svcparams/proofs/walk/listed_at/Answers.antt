@@ -1,6 +1,6 @@
 -- `svcparams::walk::listed_at` meets its contract. Assumes nothing.
 use Rattle.std.proofs.Common.{rules}
-use Rattle.svcparams.specs.MergeTurns.{listed-none, listed-key}
+use Rattle.svcparams.proofs.MergeTurns.{listed-none, listed-key}
 use Rattle.svcparams.proofs.walk.listed_at.Goals as goal
 
 pub returns-then-m-i-lt2 : goal.returns-then-m-i-lt2

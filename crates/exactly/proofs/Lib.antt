@@ -1,0 +1,4 @@
+pub mod AnswersLaws
+pub mod BlockLaws
+pub mod Exactly
+pub mod WrongLaws

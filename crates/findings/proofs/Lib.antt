@@ -1,0 +1,4 @@
+pub mod Exactly
+pub mod FaultLaws
+pub mod JoinedLaws
+pub mod NameLaws

@@ -1,0 +1,4 @@
+pub mod AreaLaws
+pub mod Cutting
+pub mod EmitLaws
+pub mod GatherLaws

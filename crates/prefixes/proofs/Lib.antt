@@ -1,0 +1,4 @@
+pub mod AnswersLaws
+pub mod DelimitingLaws
+pub mod JoinedLaws
+pub mod PrefixLaws

@@ -1,0 +1,3 @@
+pub mod JoinedReturns
+pub mod RecordReturns
+pub mod RoundTripLaws

@@ -1,0 +1,2 @@
+pub mod VettingLaws
+pub mod WeighingLaws

@@ -1,0 +1,5 @@
+pub mod AcceptedLaws
+pub mod AnswersLaws
+pub mod DefinedLaws
+pub mod RoomLaws
+pub mod WrongLaws
