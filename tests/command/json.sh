@@ -147,10 +147,10 @@ tells "a long argument" 2 '' "$long" "$dnr" show "$(repeated 4097 a)" --json
 tells "a long argument after -o" 2 '' "$long" "$dnr" octets --json -o "$(repeated 4097 a)"
 tells "a long -oFILE" 2 '' "$long" "$dnr" octets --json "-o$(repeated 4095 a)"
 
-# ---- names: a quotation mark, a backslash, control characters, letters of UTF-8; octets that are no UTF-8
+# ---- names: a quotation mark, a backslash, control characters, letters of UTF-8
 
-odd=$(printf 'q"b\\c\t\033\177 \303\251\377')
-told='q\"b\\c\u0009\u001b\u007f \u00c3\u00a9\u00ff'
+odd=$(printf 'q"b\\c\t\033\177 \303\251')
+told='q\"b\\c\u0009\u001b\u007f \u00c3\u00a9'
 mkdir "$work/named"
 cp "$work/octets" "$work/named/$odd"
 # named NAME STATUS OUT ERR WORDS..: in the folder of odd names.
@@ -184,3 +184,16 @@ cp "$work/k1.rsv" "$work/named/${odd}3"
 named "an odd name, left as it is" 2 '{"message":"'"$told"'3: '"$kept"'","status":2}
 {"message":"standard input: no option 144 in 0 octets"}' "dnr: ${odd}3: $kept
 $none" read 2 --json -o "${odd}3"
+
+# ---- names that are no UTF-8, under which the kit's library opens no file: told octet for octet, and with the system's word for it (EILSEQ)
+
+octet=$(printf '%s\377' "$odd")
+shown="$told"'\u00ff'
+cp "$work/octets" "$work/named/$octet"
+named "a name that is no UTF-8" 2 '{"message":"'"$shown"': errno 84","status":2,"errno":84}' \
+    "dnr: $octet: Invalid or incomplete multibyte or wide character" read 2 --json "$octet"
+named "a target that is no UTF-8" 2 '{"message":"'"$shown"'4: errno 84","status":2,"errno":84}' \
+    "dnr: ${octet}4: Invalid or incomplete multibyte or wide character" octets --json "$odd" -o "${octet}4"
+step "a target that is no UTF-8: there is none" [ ! -e "$work/named/${octet}4" ]
+named "a name that is no UTF-8, a second file" 2 '{"message":"a second file: '"$shown"'","status":2}' "dnr: a second file: $octet
+try dnr --help" octets "$odd" "$octet" --json
