@@ -8,19 +8,18 @@ use Rattle.octets.specs.Lists.{All, flat}
 use Rattle.octets.specs.Fields.{put_counted}
 use Rattle.carriers.specs.declared.Carrier.{Carrier}
 use Rattle.carriers.specs.declared.Carrier.TheVariants.{Dhcp4}
-use Rattle.carriers.specs.Carriers.{as_text, is_joined, Plain}
+use Rattle.carriers.specs.Carriers.{as_text, Plain}
 use Rattle.carriers.proofs.CarriersLaws.{by-joined}
 use Rattle.names.specs.Names.{IsName}
 use Rattle.texts.specs.Texts.{wire_of, text_of}
 use Rattle.texts.specs.Convert.{wire-text}
 use Rattle.blocks.specs.Block.{Fields, head_with, fields_of, layout}
 use Rattle.blocks.specs.Exactly.{layout-injective}
-use Rattle.frames.specs.WalkLaws.{apart-false, false-apart}
+use Rattle.frames.specs.WalkLaws.{false-apart}
 use Rattle.frames.specs.HeadLaws.{header-pos}
 use Rattle.frames.proofs.EmitLaws.{option-length}
 use Rattle.layouts.specs.Layouts.{carried_of, own_option, instance_of, stream_of}
 use Rattle.layouts.specs.LayoutsLaws.{writable-fits, writable-body, writable-emits}
-use Rattle.written.specs.Octets.{octets_of}
 use Rattle.written.specs.Accepted.{Sound, Accepted}
 use Rattle.written.proofs.AcceptedLaws.{writable}
 use Rattle.prefixes.specs.Prefix.{Leading, SelfDelimiting}
@@ -89,12 +88,3 @@ prefix-exactly =
     (λ c. (s t : List ℕ) (rs qs : List Fields) → Accepted s c rs → Accepted t c qs → (Leading (stream_of c rs) (stream_of c qs) ↔ Leading rs qs))
     (λ s t rs qs a b. flat-exactly (Sound Dhcp4) instance_of instance-some instance-apart rs qs a.sound b.sound)
     (λ c e s t rs qs a b. rw e (own-exactly c (false-apart e) rs qs a.sound b.sound))
-
--- in carriers 2 to 5 these are the octets that are written
-stream-octets : (c : Carrier) → Plain c → (rs : List Fields) → stream_of c rs ≡ octets_of c rs
-unfolding octets_of
-stream-octets c p rs = rw (apart-false (is_joined c) p)
-
-pub octets-exactly : (c : Carrier) → Plain c → (s t : List ℕ) (rs qs : List Fields) → Accepted s c rs → Accepted t c qs
-    → Leading (octets_of c rs) (octets_of c qs) ↔ Leading rs qs
-octets-exactly c p s t rs qs a b = rw (← (stream-octets c p rs), ← (stream-octets c p qs)) (prefix-exactly c s t rs qs a b)
