@@ -1,9 +1,10 @@
 -- `judge::refused` meets its contract, by the side. Assumes nothing.
+use Rattle.std.proofs.Common.{rules}
 use Rattle.judge.specs.Outcomes.{refused-reading, refused-writing}
 use Rattle.judge.proofs.refused.Goals as goal
 
 pub returns-in-Reading : goal.returns-in-Reading
-returns-in-Reading c = refused-reading _ _ _ _ c.in-Reading.is c.none_kept.ensures
+returns-in-Reading c = search (rules, refused-reading)
 
 pub returns-in-Writing : goal.returns-in-Writing
-returns-in-Writing c = refused-writing _ _ _ _ c.in-Writing.is c.any_unusable.ensures
+returns-in-Writing c = search (rules, refused-writing)

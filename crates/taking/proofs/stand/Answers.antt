@@ -34,7 +34,7 @@ loop-left-preserved c =
     let i = c.loop-left in
     let rest =
     stand-4 a.c a.s.now i.at i.least i.left i.invariant.0 i.invariant.1 c.loop-left-test.true c.record_at-p.ensures.value
-    (not-false _ c.if-not-p.false) c.if-p-least.false (sym c.misplaced.ensures ∙ c.if-misplaced.false) in
+    (not-false _ c.if-not-p.false) (omega arith) (sym c.misplaced.ensures ∙ c.if-misplaced.false) in
     (c.record_at-p.ensures.inside.next, rest)
 
 pub returns : goal.returns

@@ -1,5 +1,5 @@
 -- `telling::list_joined` meets its contract: without an own option there is no block. Assumes nothing.
-use Rattle.std.proofs.Common.{subst}
+use Rattle.std.proofs.Common.{subst, rules}
 use Rattle.carriers.specs.declared.Carrier.TheVariants.{Dhcp4}
 use Rattle.frames.specs.declared.Gathered.{Gathered}
 use Rattle.frames.specs.Frame.{frame}
@@ -14,4 +14,4 @@ returns-in-Absent g c =
 
 pub list_within-requires : goal.list_within-requires
 list_within-requires g c =
-    (c.requires, found_some c.args.area.now (frame Dhcp4 c.args.area.now) _ c.in_default.not-Absent c.gather.ensures)
+    (c.requires, search (rules, found_some))

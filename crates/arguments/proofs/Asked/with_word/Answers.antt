@@ -1,12 +1,10 @@
 -- `arguments::Asked::with_word` meets its contract: the tests in order. Assumes nothing.
-use Rattle.std.proofs.Common.{sym, ◌∙◌}
+use Rattle.std.proofs.Common.{sym, ◌∙◌, rules}
 use Rattle.arguments.specs.LineLaws.{word-ended, word-option, word-plain}
 use Rattle.arguments.proofs.Asked.with_word.Goals as goal
 
 pub returns-then-self : goal.returns-then-self
-returns-then-self c =
-    let a = c.args in
-    c.with_plain.ensures ∙ word-ended a.i a.word.now a.self c.if-self.true
+returns-then-self c = search (rules, word-ended)
 
 pub returns-then-is_option : goal.returns-then-is_option
 returns-then-is_option c =
