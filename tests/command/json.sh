@@ -195,5 +195,9 @@ named "a name that is no UTF-8" 2 '{"message":"'"$shown"': errno 84","status":2,
 named "a target that is no UTF-8" 2 '{"message":"'"$shown"'4: errno 84","status":2,"errno":84}' \
     "dnr: ${octet}4: Invalid or incomplete multibyte or wide character" octets --json "$odd" -o "${octet}4"
 step "a target that is no UTF-8: there is none" [ ! -e "$work/named/${octet}4" ]
+ln -s "${octet}5" "$work/named/link"
+named "a link to a name that is no UTF-8" 2 '{"message":"link: errno 84","status":2,"errno":84}' \
+    "dnr: link: Invalid or incomplete multibyte or wide character" octets --json "$odd" -o link
+step "a link to a name that is no UTF-8: it stays" [ -L "$work/named/link" ]
 named "a name that is no UTF-8, a second file" 2 '{"message":"a second file: '"$shown"'","status":2}' "dnr: a second file: $octet
 try dnr --help" octets "$odd" "$octet" --json

@@ -8,7 +8,7 @@ use std::os::unix::fs::MetadataExt;
 use std::rt::Files;
 use std::{fs, io};
 
-// Mode, owner and group as the system gives them. Mode 0, which no file has: there is no file, or the system does not say.
+// Mode, owner and group as the system gives them. Mode 0, which no file has: there is no file.
 #[derive(Clone, Copy)]
 pub struct Known {
     pub mode: u32,
@@ -27,15 +27,18 @@ pub fn none() -> Known
     }
 }
 
+// A file of this mode, owner and group.
+fn of(mode: u32, owner: u32, group: u32) -> Known
+    ensures { (result.mode ≡ mode) × (result.owner ≡ owner) × (result.group ≡ group) }
+{
+    Known { mode, owner, group }
+}
+
 // What of it is used.
 fn taken(about: &Metadata) -> Known
     ensures { result.mode ≡ metadata_mode about.now }
 {
-    Known {
-        mode: about.mode(),
-        owner: about.uid(),
-        group: about.gid(),
-    }
+    of(about.mode(), about.uid(), about.gid())
 }
 
 // What is known of what is open.

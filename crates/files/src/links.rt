@@ -4,8 +4,9 @@ ghost use Rattle.io.specs.Counts.{IsPrefixLen};
 ghost use Rattle.files.specs.Paths.{folder_of, place_of};
 
 use crate::paths;
-use crate::paths::PATH_MAX;
+use crate::paths::{EILSEQ, PATH_MAX};
 use chars::put_all;
+use std::io::{Error, ErrorKind};
 use std::rt::Files;
 use std::{fs, io};
 
@@ -50,6 +51,14 @@ fn put_link(path: &mut [u8], n: usize, link: &[u8]) -> usize
     put_all(path, at, link)
 }
 
+// Why a link was not read, where the system does not say: it leads to a name that is no text, or there is no memory.
+fn unread(why: Error) -> Error {
+    if why.kind() == ErrorKind::InvalidFilename {
+        return Error::from_raw_os_error(EILSEQ);
+    }
+    why
+}
+
 // Puts in the place of a path of n octets where a link leads, and returns how long that is; 0 where the path is no link, or is longer than the
 // system takes: cut, it would be the path of another file.
 fn step<R: Files + Alloc>(rt: &R, path: &mut [u8], n: usize) -> io::Result<usize>
@@ -64,7 +73,7 @@ fn step<R: Files + Alloc>(rt: &R, path: &mut [u8], n: usize) -> io::Result<usize
         Ok(link) => Ok(put_link(path, n, link.as_str().as_bytes())),
         Err(why) => match why.raw_os_error() {
             Some(_) => Ok(0),
-            None => Err(why),
+            None => Err(unread(why)),
         },
     }
 }

@@ -10,7 +10,7 @@ pub const PATH_MAX: usize = 4096;
 // The errors of a path that is longer, and of octets that are no text, on Linux.
 const ENAMETOOLONG: i32 = 36;
 
-const EILSEQ: i32 = 84;
+pub const EILSEQ: i32 = 84;
 
 // The text of a path. One that is no text names no file here.
 pub fn text(path: &[u8]) -> io::Result<&str>

@@ -21,6 +21,9 @@ const PART: usize = PATH_MAX + 16;
 // Letters at the end of a new file's name.
 const LETTERS: usize = 6;
 
+// The error where each name is taken, on Linux.
+const EEXIST: i32 = 17;
+
 // How many names are tried for a new file: as many as there are of three letters (glibc's mkstemp tries as many).
 const TRIES: usize = 62 * 62 * 62;
 
@@ -119,7 +122,7 @@ fn make<R: System>(rt: &R, part: &mut [u8], at: usize, old: Known) -> io::Result
             return Ok((file, n));
         }
     }
-    Err(Error::from(ErrorKind::AlreadyExists))
+    Err(Error::from_raw_os_error(EEXIST))
 }
 
 // Says why no file could be made. That it was to stand beside the target matters only where there is one, which itself can be written.

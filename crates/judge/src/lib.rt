@@ -87,7 +87,7 @@ fn name_only_fault(c: Carrier) -> usize
     0
 }
 
-// The first of faults 21 to 28 of a record's fields; a name_only record has neither addresses nor parameters. (`&name[..]`:
+// The first of faults 21 to 28 of a record's fields; a name-only record has neither addresses nor parameters. (`&name[..]`:
 // docs/DESIGN.md, Speed.)
 pub fn judge_fields(
     side: Side,

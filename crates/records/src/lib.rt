@@ -82,7 +82,7 @@ fn name_size(c: Carrier, name: &[u8]) -> usize
     wire_size(c.as_text(), name)
 }
 
-// A name_only body, whatever its lifetime; its name stands at `at`.
+// A name-only body, whatever its lifetime; its name stands at `at`.
 fn examine_name_only(c: Carrier, priority: usize, at: usize, name: &[u8]) -> Examined
     requires { at + length name.now < 2 ^ 63 }
     ensures { (lifetime : ℕ) → result ≡ examined_of c (yield_of c at (name_only priority lifetime name.now)) result.clean }
