@@ -7,7 +7,7 @@ import sys
 ROOT = pathlib.Path(__file__).resolve().parent.parent
 FOLDERS = ["crates", "host", "tools", "fuzz", "include", "examples", "tests", "docs"]
 KINDS = {".antt", ".rt", ".edit", ".rs", ".c", ".h", ".py", ".sh", ".md", ".toml", ".svg", ""}
-DATA = {"target", "corpus", "stdin", "stdout"}
+DATA = {"target", "out", "corpus", "stdin", "stdout"}
 ID = r"(?:[A-Z]\d+|Q[a-z])\b"
 # a blank, or a line break within a comment
 GAP = r"(?: |\n[ \t]*(?://[/!]?|--|#|\*)?[ \t]*)"
