@@ -11,6 +11,7 @@ use Rattle.reading.specs.Tally.{Seen}
 use Rattle.reading.specs.InstanceLaws.{joined-none}
 use Rattle.reading.specs.TallyLaws.{holds-none, holds-few, holds-ready, passed_start, passed-short, passed-past, passed-faulty, passed-kept, passed-full, passed-end}
 use Rattle.reading.specs.AnswerLaws.{reads_as, reads-from, answer-yields}
+use Rattle.reading.proofs.Seeing.{seen_body}
 use Rattle.reading.proofs.read_instances.Goals as goal
 
 pub discard_joined-requires : goal.discard_joined-requires
@@ -43,29 +44,14 @@ returns-then-joined-start c =
 
 pub place_from-place-requires : goal.place_from-place-requires
 place_from-place-requires c =
-    let seen : Seen Dhcp4 c.args.joined.now (c.loop-at.at + 2) (c.loop-at.at + 2 + c.get16-long.result) c.examine-e.result = let high : c.loop-at.at + 2 + c.get16-long.result ≤ length c.args.joined.now = omega (arith, c.if-joined-start.false, c.if-joined-at-lt2.false) in
-    record {
-      low = omega arith;
-      high = high;
-      tells = c.examine-e.ensures.value;
-      small = c.examine-e.ensures.priority_bound.1;
-      near = omega (arith, c.examine-e.ensures.priority_bound.2, part_length (c.loop-at.at + 2) (c.loop-at.at + 2 + c.get16-long.result) c.args.joined.now high);
-      clean = c.examine-e.ensures.clean;
-    } in
-    let s = seen in
-    omega (arith, s.near, s.high, c.requires)
+    let e = c.examine-e.ensures in
+    let seen = seen_body Dhcp4 c.args.joined.now _ _ c.examine-e.result (omega arith) (omega (arith, c.if-joined-start.false, c.if-joined-at-lt2.false)) e.value e.priority_bound.1 e.priority_bound.2 e.clean in
+    omega (arith, seen.near, seen.high, c.requires)
 
 pub discard_joined-requires-then-e-ne0 : goal.discard_joined-requires-then-e-ne0
 discard_joined-requires-then-e-ne0 c =
-    let seen : Seen Dhcp4 c.args.joined.now (c.loop-at.at + 2) (c.loop-at.at + 2 + c.get16-long.result) c.examine-e.result = let high : c.loop-at.at + 2 + c.get16-long.result ≤ length c.args.joined.now = omega (arith, c.if-joined-start.false, c.if-joined-at-lt2.false) in
-    record {
-      low = omega arith;
-      high = high;
-      tells = c.examine-e.ensures.value;
-      small = c.examine-e.ensures.priority_bound.1;
-      near = omega (arith, c.examine-e.ensures.priority_bound.2, part_length (c.loop-at.at + 2) (c.loop-at.at + 2 + c.get16-long.result) c.args.joined.now high);
-      clean = c.examine-e.ensures.clean;
-    } in
+    let e = c.examine-e.ensures in
+    let seen = seen_body Dhcp4 c.args.joined.now _ _ c.examine-e.result (omega arith) (omega (arith, c.if-joined-start.false, c.if-joined-at-lt2.false)) e.value e.priority_bound.1 e.priority_bound.2 e.clean in
     passed-faulty _ c.loop-at.invariant.0 c.loop-at-test.true _ c.get16-long.ensures.value c.if-joined-at-lt2.false c.if-joined-start.false seen c.if-e-ne0.true c.place_from-place.ensures
 
 pub shape_of-out-then-e-ne0 : goal.shape_of-out-then-e-ne0
@@ -77,46 +63,24 @@ returns-then-e-ne0 c =
 
 pub slot_of-requires : goal.slot_of-requires
 slot_of-requires c =
-    let seen : Seen Dhcp4 c.args.joined.now (c.loop-at.at + 2) (c.loop-at.at + 2 + c.get16-long.result) c.examine-e.result = let high : c.loop-at.at + 2 + c.get16-long.result ≤ length c.args.joined.now = omega (arith, c.if-joined-start.false, c.if-joined-at-lt2.false) in
-    record {
-      low = omega arith;
-      high = high;
-      tells = c.examine-e.ensures.value;
-      small = c.examine-e.ensures.priority_bound.1;
-      near = omega (arith, c.examine-e.ensures.priority_bound.2, part_length (c.loop-at.at + 2) (c.loop-at.at + 2 + c.get16-long.result) c.args.joined.now high);
-      clean = c.examine-e.ensures.clean;
-    } in
-    let s = seen in
-    (s.low, omega (arith, s.high, c.requires), c.examine-e.ensures.priority_bound.0)
+    let e = c.examine-e.ensures in
+    let seen = seen_body Dhcp4 c.args.joined.now _ _ c.examine-e.result (omega arith) (omega (arith, c.if-joined-start.false, c.if-joined-at-lt2.false)) e.value e.priority_bound.1 e.priority_bound.2 e.clean in
+    (seen.low, omega (arith, seen.high, c.requires), c.examine-e.ensures.priority_bound.0)
 
 pub bounds-slots-n : goal.bounds-slots-n
 bounds-slots-n c = c.if-slots-lt-RECORDS.true
 
 pub overflow_add-size : goal.overflow_add-size
 overflow_add-size c =
-    let seen : Seen Dhcp4 c.args.joined.now (c.loop-at.at + 2) (c.loop-at.at + 2 + c.get16-long.result) c.examine-e.result = let high : c.loop-at.at + 2 + c.get16-long.result ≤ length c.args.joined.now = omega (arith, c.if-joined-start.false, c.if-joined-at-lt2.false) in
-    record {
-      low = omega arith;
-      high = high;
-      tells = c.examine-e.ensures.value;
-      small = c.examine-e.ensures.priority_bound.1;
-      near = omega (arith, c.examine-e.ensures.priority_bound.2, part_length (c.loop-at.at + 2) (c.loop-at.at + 2 + c.get16-long.result) c.args.joined.now high);
-      clean = c.examine-e.ensures.clean;
-    } in
+    let e = c.examine-e.ensures in
+    let seen = seen_body Dhcp4 c.args.joined.now _ _ c.examine-e.result (omega arith) (omega (arith, c.if-joined-start.false, c.if-joined-at-lt2.false)) e.value e.priority_bound.1 e.priority_bound.2 e.clean in
     let h = c.loop-at.invariant.0.holds in
     omega (arith, holds-few h, h.small, seen.small)
 
 pub loop-at-preserved-then-slots-lt-RECORDS : goal.loop-at-preserved-then-slots-lt-RECORDS
 loop-at-preserved-then-slots-lt-RECORDS c =
-    let seen : Seen Dhcp4 c.args.joined.now (c.loop-at.at + 2) (c.loop-at.at + 2 + c.get16-long.result) c.examine-e.result = let high : c.loop-at.at + 2 + c.get16-long.result ≤ length c.args.joined.now = omega (arith, c.if-joined-start.false, c.if-joined-at-lt2.false) in
-    record {
-      low = omega arith;
-      high = high;
-      tells = c.examine-e.ensures.value;
-      small = c.examine-e.ensures.priority_bound.1;
-      near = omega (arith, c.examine-e.ensures.priority_bound.2, part_length (c.loop-at.at + 2) (c.loop-at.at + 2 + c.get16-long.result) c.args.joined.now high);
-      clean = c.examine-e.ensures.clean;
-    } in
+    let e = c.examine-e.ensures in
+    let seen = seen_body Dhcp4 c.args.joined.now _ _ c.examine-e.result (omega arith) (omega (arith, c.if-joined-start.false, c.if-joined-at-lt2.false)) e.value e.priority_bound.1 e.priority_bound.2 e.clean in
     let l = c.loop-at in (
       passed-kept _ l.invariant.0 c.loop-at-test.true _ c.get16-long.ensures.value c.if-joined-at-lt2.false c.if-joined-start.false seen c.if-e-ne0.false
           (record {
@@ -131,15 +95,8 @@ loop-at-preserved-then-slots-lt-RECORDS c =
 
 pub loop-at-preserved : goal.loop-at-preserved
 loop-at-preserved c =
-    let seen : Seen Dhcp4 c.args.joined.now (c.loop-at.at + 2) (c.loop-at.at + 2 + c.get16-long.result) c.examine-e.result = let high : c.loop-at.at + 2 + c.get16-long.result ≤ length c.args.joined.now = omega (arith, c.if-joined-start.false, c.if-joined-at-lt2.false) in
-    record {
-      low = omega arith;
-      high = high;
-      tells = c.examine-e.ensures.value;
-      small = c.examine-e.ensures.priority_bound.1;
-      near = omega (arith, c.examine-e.ensures.priority_bound.2, part_length (c.loop-at.at + 2) (c.loop-at.at + 2 + c.get16-long.result) c.args.joined.now high);
-      clean = c.examine-e.ensures.clean;
-    } in
+    let e = c.examine-e.ensures in
+    let seen = seen_body Dhcp4 c.args.joined.now _ _ c.examine-e.result (omega arith) (omega (arith, c.if-joined-start.false, c.if-joined-at-lt2.false)) e.value e.priority_bound.1 e.priority_bound.2 e.clean in
     let i = c.loop-at.invariant in (
       passed-full _ i.0 c.loop-at-test.true _ c.get16-long.ensures.value c.if-joined-at-lt2.false c.if-joined-start.false seen c.if-e-ne0.false c.if-slots-lt-RECORDS.false,
       i.1,
