@@ -1,12 +1,18 @@
 -- `reading::put_sheet` meets its contract. The invariant: the records of the first i slots are laid after the sheet's head. The measure is
 -- what is left of the count. Assumes nothing.
-use Rattle.std.proofs.Common.{◌≡◌, sym, ap, ◌∙◌, arith, ◌<◌, length, get_or, get_or-take}
+use Rattle.std.proofs.Common.{ℕ, List, take, ◌≡◌, sym, ap, ◌∙◌, arith, ◌<◌, length, get_or, get_or-take}
 use Rattle.octets.specs.OverLaws.{over-length}
+use Rattle.order.specs.declared.Slot.{Slot}
 use Rattle.order.specs.Listed.{none, listed}
 use Rattle.sheets.specs.SheetsLaws.{length-sheet}
-use Rattle.reading.specs.Tally.{Good, records_at}
-use Rattle.reading.specs.SlotLaws.{ordered-length, ordered_at, cut-kept, cut-clean, written-length, written-room, written_next, written_start, sheet-written}
+use Rattle.reading.specs.Tally.{records_at}
+use Rattle.reading.specs.SlotLaws.{ordered-length, ordered_at, cut-kept, cut-clean}
+use Rattle.reading.specs.SlotLaws.{written-length, written-room, written_next, written_start, sheet-written}
 use Rattle.reading.proofs.put_sheet.Goals as goal
+
+-- the slot at an index is that of the list
+taken : (items : List Slot) (count i : ℕ) → i < count → get_or items i none ≡ get_or (take count items) i none
+taken items count i h = sym (get_or-take count items i none h)
 
 pub ordered-sorting-requires : goal.ordered-sorting-requires
 ordered-sorting-requires c = c.requires.sound.few
@@ -27,41 +33,33 @@ bounds-sorted-i c =
 
 pub overflow_add-end : goal.overflow_add-end
 overflow_add-end c =
-    let taken : get_or c.ordered-sorting.result.slots.items c.loop-i.i none ≡ get_or (listed c.ordered-sorting.result.slots) c.loop-i.i none = sym (get_or-take _ _ _ none c.loop-i-test.true) in
-    let good : Good c.args.c c.args.source.now c.args.clean (get_or c.ordered-sorting.result.slots.items c.loop-i.i none) = ordered_at _ _ c.requires.sound c.ordered-sorting.ensures c.loop-i-test.true taken in
+    let good = ordered_at _ _ c.requires.sound c.ordered-sorting.ensures c.loop-i-test.true (taken _ _ _ c.loop-i-test.true) in
     omega (arith, good.within)
 
 pub slice_bounds-put_record-end : goal.slice_bounds-put_record-end
 slice_bounds-put_record-end c =
-    let taken : get_or c.ordered-sorting.result.slots.items c.loop-i.i none ≡ get_or (listed c.ordered-sorting.result.slots) c.loop-i.i none = sym (get_or-take _ _ _ none c.loop-i-test.true) in
-    let good : Good c.args.c c.args.source.now c.args.clean (get_or c.ordered-sorting.result.slots.items c.loop-i.i none) = ordered_at _ _ c.requires.sound c.ordered-sorting.ensures c.loop-i-test.true taken in
+    let good = ordered_at _ _ c.requires.sound c.ordered-sorting.ensures c.loop-i-test.true (taken _ _ _ c.loop-i-test.true) in
     omega (arith, good.within)
 
 pub put_record-o-requires : goal.put_record-o-requires
 put_record-o-requires c =
-    let inside : c.loop-i.i < length (listed c.ordered-sorting.result.slots) = omega (
-      arith,
-      c.loop-i-test.true,
-      c.ordered-sorting.ensures.count,
-      ordered-length _ _ c.requires.sound c.ordered-sorting.ensures,
-    ) in
-    let taken : get_or c.ordered-sorting.result.slots.items c.loop-i.i none ≡ get_or (listed c.ordered-sorting.result.slots) c.loop-i.i none = sym (get_or-take _ _ _ none c.loop-i-test.true) in
-    let good : Good c.args.c c.args.source.now c.args.clean (get_or c.ordered-sorting.result.slots.items c.loop-i.i none) = ordered_at _ _ c.requires.sound c.ordered-sorting.ensures c.loop-i-test.true taken in
-    record { kept = cut-kept _ _ good; clean = cut-clean _ _ good; body_in_bounds = written-room c.loop-i.invariant inside taken }
+    let size = ordered-length _ _ c.requires.sound c.ordered-sorting.ensures in
+    let inside : c.loop-i.i < length (listed c.ordered-sorting.result.slots) = omega (arith, c.loop-i-test.true, c.ordered-sorting.ensures.count, size) in
+    let good = ordered_at _ _ c.requires.sound c.ordered-sorting.ensures c.loop-i-test.true (taken _ _ _ c.loop-i-test.true) in
+    record {
+      kept = cut-kept _ _ good;
+      clean = cut-clean _ _ good;
+      body_in_bounds = written-room c.loop-i.invariant inside (taken _ _ _ c.loop-i-test.true);
+    }
 
 pub loop-i-smaller : goal.loop-i-smaller
 loop-i-smaller c = omega (arith, c.loop-i-test.true)
 
 pub loop-i-preserved : goal.loop-i-preserved
 loop-i-preserved c =
-    let inside : c.loop-i.i < length (listed c.ordered-sorting.result.slots) = omega (
-      arith,
-      c.loop-i-test.true,
-      c.ordered-sorting.ensures.count,
-      ordered-length _ _ c.requires.sound c.ordered-sorting.ensures,
-    ) in
-    let taken : get_or c.ordered-sorting.result.slots.items c.loop-i.i none ≡ get_or (listed c.ordered-sorting.result.slots) c.loop-i.i none = sym (get_or-take _ _ _ none c.loop-i-test.true) in
-    written_next c.loop-i.invariant inside taken c.put_record-o.ensures
+    let size = ordered-length _ _ c.requires.sound c.ordered-sorting.ensures in
+    let inside : c.loop-i.i < length (listed c.ordered-sorting.result.slots) = omega (arith, c.loop-i-test.true, c.ordered-sorting.ensures.count, size) in
+    written_next c.loop-i.invariant inside (taken _ _ _ c.loop-i-test.true) c.put_record-o.ensures
 
 pub shape_of-out : goal.shape_of-out
 shape_of-out c =

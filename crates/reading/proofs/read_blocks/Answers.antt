@@ -5,14 +5,13 @@ use Rattle.frames.specs.declared.Step.{Step}
 use Rattle.frames.specs.Frame.{frame}
 use Rattle.frames.specs.Step.{step_at}
 use Rattle.frames.specs.Laws.{step_block, step-body, step-skipped}
-use Rattle.frames.proofs.GatherLaws.{part_length}
 use Rattle.frames.specs.SkipLaws.{skips-forward, skips-step, skips-then}
-use Rattle.judge.specs.Place.{judged, place_from}
+use Rattle.judge.specs.Place.{place_from}
 use Rattle.order.specs.declared.Slot.{Slot}
 use Rattle.order.specs.Listed.{listed}
 use Rattle.order.specs.ListedLaws.{listed_next}
 use Rattle.reading.specs.Reading.{read_framed}
-use Rattle.reading.specs.Tally.{held_of, tally_of, Open, Tally}
+use Rattle.reading.specs.Tally.{Open, Tally}
 use Rattle.reading.specs.TallyLaws.{holds-none, holds-ready, tallying-start, tallying-open, tallying-discarded, tallying-kept, tallying-full, tallying-skips}
 use Rattle.reading.specs.AnswerLaws.{reads_as, reads-from, reads-refused, answer-end, answer-fault}
 use Rattle.carriers.specs.declared.Carrier.{Carrier}
@@ -102,7 +101,8 @@ loop-start-preserved-then-slots-lt-RECORDS c =
           (record {
             room = c.if-slots-lt-RECORDS.true;
             count = refl;
-            list = listed_next l.slots c.slot_of.result l.invariant.2 c.if-slots-lt-RECORDS.true ∙ ap (λ (s : Slot). listed l.slots ++ (s ∷ [])) c.slot_of.ensures;
+            list = listed_next l.slots c.slot_of.result l.invariant.2 c.if-slots-lt-RECORDS.true
+                ∙ ap (λ (s : Slot). listed l.slots ++ (s ∷ [])) c.slot_of.ensures;
             claims = c.both-clean.ensures;
           }),
       l.invariant.1,

@@ -1,10 +1,7 @@
 -- `reading::read_within` meets its contract: what `join` wrote at the front of the buffer is the joined data. Assumes nothing.
-use Rattle.std.proofs.Common.{sym, ap, subst, arith, ◌≤◌, length}
+use Rattle.std.proofs.Common.{sym, ap, arith, length}
 use Rattle.carriers.specs.declared.Carrier.TheVariants.{Dhcp4}
-use Rattle.frames.specs.declared.Joined.{Joined}
 use Rattle.frames.specs.Frame.{Framed, frame}
-use Rattle.frames.specs.Told.{joined_length}
-use Rattle.frames.specs.Gather.{Joins}
 use Rattle.frames.proofs.GatherLaws.{joins-broken}
 use Rattle.reading.specs.Reading.{read_framed}
 use Rattle.reading.specs.AnswerLaws.{reads_as, reads-refused, many-room, many-length, answer-many}
@@ -12,27 +9,22 @@ use Rattle.reading.proofs.read_within.Goals as goal
 
 pub slice_bounds-read_instances-end : goal.slice_bounds-read_instances-end
 slice_bounds-read_instances-end c =
-    let whole : Joins (frame Dhcp4 c.args.area.now) c.args.buffer.now (Joined.Whole c.in-Whole.n) c.join.new.out = subst (λ (r : Joined). Joins (frame Dhcp4 c.args.area.now) c.args.buffer.now r c.join.new.out) c.in-Whole.is c.join.ensures.joins in
-    many-room _ _ _ _ whole
+    many-room _ _ _ _ c.in-Whole.ensures.joins
 
 pub slice_bounds-read_instances-end-in-Whole : goal.slice_bounds-read_instances-end-in-Whole
 slice_bounds-read_instances-end-in-Whole c =
-    let whole : Joins (frame Dhcp4 c.args.area.now) c.args.buffer.now (Joined.Whole c.in-Whole.n) c.join.new.out = subst (λ (r : Joined). Joins (frame Dhcp4 c.args.area.now) c.args.buffer.now r c.join.new.out) c.in-Whole.is c.join.ensures.joins in
-    sym (many-length _ _ _ _ whole)
+    sym (many-length _ _ _ _ c.in-Whole.ensures.joins)
 
 pub read_instances-requires : goal.read_instances-requires
 read_instances-requires c =
-    let whole : Joins (frame Dhcp4 c.args.area.now) c.args.buffer.now (Joined.Whole c.in-Whole.n) c.join.new.out = subst (λ (r : Joined). Joins (frame Dhcp4 c.args.area.now) c.args.buffer.now r c.join.new.out) c.in-Whole.is c.join.ensures.joins in
-    let short : c.in-Whole.n ≤ length c.args.area.now = subst (λ (r : Joined). joined_length r ≤ length c.args.area.now) c.in-Whole.is c.join.ensures.result_in_bounds in
-    omega (arith, many-length _ _ _ _ whole, short, c.requires.1)
+    omega (arith, many-length _ _ _ _ c.in-Whole.ensures.joins, c.in-Whole.ensures.result_in_bounds, c.requires.1)
 
 pub returns-in-Broken : goal.returns-in-Broken
 returns-in-Broken c =
     let a = c.args in
-    let broken = joins-broken (frame Dhcp4 a.area.now) a.buffer.now c.join.new.out (subst (λ (r : Joined). Joins (frame Dhcp4 a.area.now) a.buffer.now r c.join.new.out) c.in-Broken.is c.join.ensures.joins) in
+    let broken = joins-broken (frame Dhcp4 a.area.now) a.buffer.now c.join.new.out c.in-Broken.ensures.joins in
     reads-refused _ (ap (λ (f : Framed). read_framed Dhcp4 f (length a.out.now)) broken) c.refused.ensures
 
 pub returns-in-Whole : goal.returns-in-Whole
 returns-in-Whole c =
-    let whole : Joins (frame Dhcp4 c.args.area.now) c.args.buffer.now (Joined.Whole c.in-Whole.n) c.join.new.out = subst (λ (r : Joined). Joins (frame Dhcp4 c.args.area.now) c.args.buffer.now r c.join.new.out) c.in-Whole.is c.join.ensures.joins in
-    reads_as (answer-many _ _ _ _ whole _ c.requires.2) c.read_instances.ensures
+    reads_as (answer-many _ _ _ _ c.in-Whole.ensures.joins _ c.requires.2) c.read_instances.ensures
