@@ -1,28 +1,22 @@
 -- `boundaries::read_case` meets its contract: the octets of the case stand from after its sizes to its end. Assumes nothing.
-use Rattle.std.proofs.Common.{eq-eqb, ne_eqb, arith, subst, sym, ◌∙◌, ◌+◌, length-take}
-use Rattle.boundaries.specs.declared.End.TheVariants.{At}
-use Rattle.boundaries.specs.Cases.{Past}
+use Rattle.std.proofs.Common.{eq-eqb, ne_eqb, arith, sym, ◌∙◌, length-take}
 use Rattle.boundaries.proofs.read_case.Goals as goal
 
 pub get32-requires : goal.get32-requires
 get32-requires g c =
-    let ended : Past (c.args.at + 1 + 8) c.args.s.now (At c.in-At.end) = subst (Past _ _) c.in-At.is c.end_of.ensures.past in
-    let e = ended in omega arith
+    let e = c.in-At.ensures.past in omega arith
 
 pub slice_bounds-run_read-count : goal.slice_bounds-run_read-count
 slice_bounds-run_read-count g c =
-    let ended : Past (c.args.at + 1 + 8) c.args.s.now (At c.in-At.end) = subst (Past _ _) c.in-At.is c.end_of.ensures.past in
-    let e = ended in omega arith
+    let e = c.in-At.ensures.past in omega arith
 
 pub slice_bounds-run_read-start : goal.slice_bounds-run_read-start
 slice_bounds-run_read-start g c =
-    let ended : Past (c.args.at + 1 + 8) c.args.s.now (At c.in-At.end) = subst (Past _ _) c.in-At.is c.end_of.ensures.past in
-    let e = ended in omega arith
+    let e = c.in-At.ensures.past in omega arith
 
 pub slice_bounds-run_read-end : goal.slice_bounds-run_read-end
 slice_bounds-run_read-end g c =
-    let ended : Past (c.args.at + 1 + 8) c.args.s.now (At c.in-At.end) = subst (Past _ _) c.in-At.is c.end_of.ensures.past in
-    let e = ended in omega arith
+    let e = c.in-At.ensures.past in omega arith
 
 pub slice_bounds-run_read-end-3 : goal.slice_bounds-run_read-end-3
 slice_bounds-run_read-end-3 g c = simp length-take (omega arith)
@@ -36,6 +30,5 @@ returns-in_default g c =
 
 pub returns : goal.returns
 returns g c =
-    let ended : Past (c.args.at + 1 + 8) c.args.s.now (At c.in-At.end) = subst (Past _ _) c.in-At.is c.end_of.ensures.past in
-    let e = ended in
+    let e = c.in-At.ensures.past in
     record { value = simp (ne_eqb _ _ c.if-s-at.false) (sym c.in-At.is ∙ c.end_of.ensures.value); past = (omega arith, omega arith) }

@@ -1,28 +1,22 @@
 -- `boundaries::write_case` meets its contract: the octets of the case stand from after its sizes to its end. Assumes nothing.
-use Rattle.std.proofs.Common.{arith, subst, sym, ◌∙◌, ◌+◌, length-take}
-use Rattle.boundaries.specs.declared.End.TheVariants.{At}
-use Rattle.boundaries.specs.Cases.{Past}
+use Rattle.std.proofs.Common.{arith, sym, ◌∙◌, length-take}
 use Rattle.boundaries.proofs.write_case.Goals as goal
 
 pub get32-requires : goal.get32-requires
 get32-requires g c =
-    let ended : Past (c.args.at + 8) c.args.s.now (At c.in-At.end) = subst (Past _ _) c.in-At.is c.end_of.ensures.past in
-    let e = ended in omega arith
+    let e = c.in-At.ensures.past in omega arith
 
 pub slice_bounds-run_write-count : goal.slice_bounds-run_write-count
 slice_bounds-run_write-count g c =
-    let ended : Past (c.args.at + 8) c.args.s.now (At c.in-At.end) = subst (Past _ _) c.in-At.is c.end_of.ensures.past in
-    let e = ended in omega arith
+    let e = c.in-At.ensures.past in omega arith
 
 pub slice_bounds-run_write-start : goal.slice_bounds-run_write-start
 slice_bounds-run_write-start g c =
-    let ended : Past (c.args.at + 8) c.args.s.now (At c.in-At.end) = subst (Past _ _) c.in-At.is c.end_of.ensures.past in
-    let e = ended in omega arith
+    let e = c.in-At.ensures.past in omega arith
 
 pub slice_bounds-run_write-end : goal.slice_bounds-run_write-end
 slice_bounds-run_write-end g c =
-    let ended : Past (c.args.at + 8) c.args.s.now (At c.in-At.end) = subst (Past _ _) c.in-At.is c.end_of.ensures.past in
-    let e = ended in omega arith
+    let e = c.in-At.ensures.past in omega arith
 
 pub slice_bounds-run_write-end-3 : goal.slice_bounds-run_write-end-3
 slice_bounds-run_write-end-3 g c = simp length-take (omega arith)
@@ -32,6 +26,5 @@ returns-in_default g c = record { value = sym c.in_default.is ∙ c.end_of.ensur
 
 pub returns : goal.returns
 returns g c =
-    let ended : Past (c.args.at + 8) c.args.s.now (At c.in-At.end) = subst (Past _ _) c.in-At.is c.end_of.ensures.past in
-    let e = ended in
-    record { value = sym c.in-At.is ∙ c.end_of.ensures.value; past = (omega arith, omega arith) }
+    let e = c.in-At.ensures.past in
+    record { value = c.in-At.ensures.value; past = (omega arith, omega arith) }

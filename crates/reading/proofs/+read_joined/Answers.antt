@@ -2,7 +2,6 @@
 -- 162, which is a shorter one: the measure is the area's length. Assumes nothing.
 use Rattle.std.proofs.Common.{sym, ap, subst, ◌∙◌, [], ◌∷◌, append-nil, arith, ◌-◌, length, drop, length-drop, take_all}
 use Rattle.carriers.specs.declared.Carrier.TheVariants.{Dhcp4}
-use Rattle.frames.specs.declared.Gathered.TheVariants.{One, Many}
 use Rattle.frames.specs.Frame.{Framed, frame}
 use Rattle.frames.specs.Gather.{GatheredFrom}
 use Rattle.frames.proofs.GatherLaws.{part_length}
@@ -17,70 +16,58 @@ settle-requires t c = holds-ready (holds-none _ _ c.empty-none.ensures.0 c.empty
 
 pub slice_bounds-read_instances-count : goal.slice_bounds-read_instances-count
 slice_bounds-read_instances-count t c =
-    let one : GatheredFrom c.args.area.now (One c.in-One.start c.in-One.end) = subst (GatheredFrom _) c.in-One.is c.gather.ensures in
-    one.0
+    c.in-One.ensures.0
 
 pub slice_bounds-read_instances-start : goal.slice_bounds-read_instances-start
 slice_bounds-read_instances-start t c =
-    let one : GatheredFrom c.args.area.now (One c.in-One.start c.in-One.end) = subst (GatheredFrom _) c.in-One.is c.gather.ensures in
-    let o = one in omega arith
+    let o = c.in-One.ensures in omega arith
 
 pub slice_bounds-read_instances-end : goal.slice_bounds-read_instances-end
 slice_bounds-read_instances-end t c =
-    let one : GatheredFrom c.args.area.now (One c.in-One.start c.in-One.end) = subst (GatheredFrom _) c.in-One.is c.gather.ensures in
-    let o = one in omega arith
+    let o = c.in-One.ensures in omega arith
 
 pub read_instances-requires : goal.read_instances-requires
 read_instances-requires t c =
-    let one : GatheredFrom c.args.area.now (One c.in-One.start c.in-One.end) = subst (GatheredFrom _) c.in-One.is c.gather.ensures in
-    let o = one in
+    let o = c.in-One.ensures in
     let size = part_length c.in-One.start c.in-One.end c.args.area.now o.1 in
     omega (arith, c.requires)
 
 pub slice_bounds-read_joined-count : goal.slice_bounds-read_joined-count
 slice_bounds-read_joined-count t c =
-    let several : GatheredFrom c.args.area.now (Many c.in-Many.from) = subst (GatheredFrom _) c.in-Many.is c.gather.ensures in
-    several.0
+    c.in-Many.ensures.0
 
 pub slice_bounds-read_joined-start : goal.slice_bounds-read_joined-start
 slice_bounds-read_joined-start t c =
-    let several : GatheredFrom c.args.area.now (Many c.in-Many.from) = subst (GatheredFrom _) c.in-Many.is c.gather.ensures in
-    let m = several in omega arith
+    let m = c.in-Many.ensures in omega arith
 
 pub slice_bounds-read_joined-end : goal.slice_bounds-read_joined-end
 slice_bounds-read_joined-end t c =
-    let several : GatheredFrom c.args.area.now (Many c.in-Many.from) = subst (GatheredFrom _) c.in-Many.is c.gather.ensures in
-    let m = several in omega arith
+    let m = c.in-Many.ensures in omega arith
 
 pub read_joined-requires : goal.read_joined-requires
 read_joined-requires t c =
-    let several : GatheredFrom c.args.area.now (Many c.in-Many.from) = subst (GatheredFrom _) c.in-Many.is c.gather.ensures in
-    let m = several in
+    let m = c.in-Many.ensures in
     let size = part_length c.in-Many.from (length c.args.area.now) c.args.area.now (omega arith) in
     omega arith
 
 pub returns-then-from-gt0 : goal.returns-then-from-gt0
 returns-then-from-gt0 t c =
-    let several : GatheredFrom c.args.area.now (Many c.in-Many.from) = subst (GatheredFrom _) c.in-Many.is c.gather.ensures in
     let a = c.args in
-    let m = several in
+    let m = c.in-Many.ensures in
     let rest = take_all (length a.area.now - c.in-Many.from) (drop c.in-Many.from a.area.now) (omega (arith, length-drop c.in-Many.from a.area.now)) in
     reads_as (ap (λ (f : Framed). read_framed Dhcp4 f (length a.out.now)) (m.1 ∙ sym (ap (frame Dhcp4) rest))) c.read_joined.ensures
 
 pub read_few-requires : goal.read_few-requires
 read_few-requires t c =
-    let several : GatheredFrom c.args.area.now (Many c.in-Many.from) = subst (GatheredFrom _) c.in-Many.is c.gather.ensures in
-    (c.if-area-le-USUAL.true, several.2)
+    (c.if-area-le-USUAL.true, c.in-Many.ensures.2)
 
 pub read_half-requires : goal.read_half-requires
 read_half-requires t c =
-    let several : GatheredFrom c.args.area.now (Many c.in-Many.from) = subst (GatheredFrom _) c.in-Many.is c.gather.ensures in
-    (c.if-area-le-HALF.true, several.2)
+    (c.if-area-le-HALF.true, c.in-Many.ensures.2)
 
 pub read_many-requires : goal.read_many-requires
 read_many-requires t c =
-    let several : GatheredFrom c.args.area.now (Many c.in-Many.from) = subst (GatheredFrom _) c.in-Many.is c.gather.ensures in
-    (c.requires, several.2)
+    (c.requires, c.in-Many.ensures.2)
 
 pub returns-in-Broken : goal.returns-in-Broken
 returns-in-Broken t c =
@@ -97,6 +84,5 @@ returns-in-Absent t c =
 
 pub returns-in-One : goal.returns-in-One
 returns-in-One t c =
-    let one : GatheredFrom c.args.area.now (One c.in-One.start c.in-One.end) = subst (GatheredFrom _) c.in-One.is c.gather.ensures in
-    let alone = number-framed (frame Dhcp4 c.args.area.now) one.2 in
+    let alone = number-framed (frame Dhcp4 c.args.area.now) c.in-One.ensures.2 in
     reads_as (answer-joined _ _ (_ ∷ []) alone (omega arith) (sym (append-nil _))) c.read_instances.ensures
