@@ -17,7 +17,8 @@ returns-then-joined-at-lt-LENGTH c =
 
 pub returns-then-joined-start : goal.returns-then-joined-start
 returns-then-joined-start c =
-    passing-past c.loop-at.invariant c.loop-at-test.true c.get16-long.ensures.value c.if-joined-at-lt-LENGTH.false c.if-joined-start.true c.plain-then-joined-start.ensures
+    passing-past c.loop-at.invariant c.loop-at-test.true c.get16-long.ensures.value c.if-joined-at-lt-LENGTH.false c.if-joined-start.true
+    c.plain-then-joined-start.ensures
 
 pub overflow_add-result : goal.overflow_add-result
 overflow_add-result c =

@@ -1,10 +1,7 @@
 -- `findings::field_place` meets its contract. Assumes nothing.
 use Rattle.std.proofs.Common.{arith, rules}
-use Rattle.findings.specs.PlacesLaws.{place_none, place-name, place-length, place-limit, place-addresses, place-parameters, name-small, parameters-small}
+use Rattle.findings.specs.PlacesLaws.{place_none, place-name, place-length, place-limit, place-addresses, place-parameters, parameters-small}
 use Rattle.findings.proofs.field_place.Goals as goal
-
-pub overflow_add-result : goal.overflow_add-result
-overflow_add-result c = omega (arith, c.requires.0, c.name_at.ensures, name-small c.args.c c.args.m)
 
 pub overflow_add-result-2 : goal.overflow_add-result-2
 overflow_add-result-2 c =

@@ -3,9 +3,6 @@ use Rattle.std.proofs.Common.{arith, rules}
 use Rattle.findings.specs.PlacesLaws.{limit-addresses, limit-parameters, limit-small, addresses-small, parameters-small}
 use Rattle.findings.proofs.limit_at.Goals as goal
 
-pub overflow_mul-most : goal.overflow_mul-most
-overflow_mul-most c = omega (arith, c.address_width-most.ensures, limit-small c.args.c)
-
 pub overflow_add-result : goal.overflow_add-result
 overflow_add-result c =
     omega (arith, c.requires, c.addresses_at.ensures, addresses-small c.args.c c.args.n, c.address_width-most.ensures, limit-small c.args.c)

@@ -3,11 +3,11 @@ use Rattle.std.proofs.Common.{◌∙◌, arith}
 use Rattle.findings.specs.PlacesLaws.{near-cut, near-there}
 use Rattle.findings.proofs.near16.Goals as goal
 
-pub returns-then-b-lt-LENGTH : goal.returns-then-b-lt-LENGTH
-returns-then-b-lt-LENGTH c = record { value = near-cut _ _ (omega arith); upper_bound = omega arith }
+pub returns-then-b-lt-LENGTH-clause-value : goal.returns-then-b-lt-LENGTH-clause-value
+returns-then-b-lt-LENGTH-clause-value c = near-cut _ _ (omega arith)
 
-pub returns-then-b-at : goal.returns-then-b-at
-returns-then-b-at c = record { value = near-cut _ _ (omega arith); upper_bound = omega arith }
+pub returns-then-b-at-clause-value : goal.returns-then-b-at-clause-value
+returns-then-b-at-clause-value c = near-cut _ _ (omega arith)
 
-pub returns : goal.returns
-returns c = record { value = c.get16.ensures.value ∙ near-there _ _ (omega arith); upper_bound = c.get16.ensures.upper_bound }
+pub returns-clause-value : goal.returns-clause-value
+returns-clause-value c = c.get16.ensures.value ∙ near-there _ _ (omega arith)

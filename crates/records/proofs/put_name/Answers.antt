@@ -1,7 +1,7 @@
 -- `records::put_name` meets its contract, for text and for wire form. Assumes nothing.
 use Rattle.std.proofs.Common.{arith}
 use Rattle.octets.specs.OverLaws.{then}
-use Rattle.records.specs.Outcomes.{size-text, size-wire, wrote-text, wrote-wire}
+use Rattle.records.specs.Outcomes.{size-text, wrote-text, wrote-wire}
 use Rattle.records.proofs.put_name.Goals as goal
 
 pub to_wire-requires : goal.to_wire-requires
@@ -15,11 +15,6 @@ returns-then-text c =
     let args = c.args in
     wrote-text args.text args.name.now c.wire_size-size.ensures c.if-text.true
     (then c.put8-next.ensures c.to_wire.ensures)
-
-pub copy-requires : goal.copy-requires
-copy-requires c =
-    let args = c.args in
-    omega (arith, size-wire args.text args.name.now c.if-text.false)
 
 pub returns : goal.returns
 returns c =

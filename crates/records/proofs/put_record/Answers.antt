@@ -1,18 +1,15 @@
 -- `records::put_record` meets its contract, by the places of the fields. Assumes nothing.
-use Rattle.std.proofs.Common.{arith}
 use Rattle.records.specs.declared.Given.{Given}
-use Rattle.records.specs.PlacesLaws.{name-only-inside, full-inside, put-bad, name-only-asks, name-only-writes, full-asks, full-writes}
+use Rattle.records.specs.PlacesLaws.{put-bad, name-only-asks, name-only-writes, full-asks, full-writes}
 use Rattle.records.proofs.put_record.Goals as goal
-
-pub overflow_add-end : goal.overflow_add-end
-overflow_add-end c = omega (arith, name-only-inside _ c.in-NameOnly.is c.split.ensures.inside)
-
-pub slice_bounds-put_head-end : goal.slice_bounds-put_head-end
-slice_bounds-put_head-end c = omega (arith, name-only-inside _ c.in-NameOnly.is c.split.ensures.inside)
 
 pub put_head-requires : goal.put_head-requires
 put_head-requires c =
-    let all = (let a = c.args in name-only-asks a.c a.body.now c.split.ensures.result_value c.split.ensures.ranged c.in-NameOnly.is c.requires.kept c.as_text.ensures a.at a.out.now c.requires.body_in_bounds) in
+    let a = c.args in
+    let s = c.split.ensures in
+    let all =
+    name-only-asks a.c a.body.now s.result_value s.ranged c.in-NameOnly.is c.requires.kept c.as_text.ensures a.at a.out.now
+    c.requires.body_in_bounds in
     record { priority_bound = all.0; name_len_bound = all.1.0; name_in_bounds = all.1.1 }
 
 pub returns-in-NameOnly : goal.returns-in-NameOnly
@@ -21,31 +18,14 @@ returns-in-NameOnly c =
     name-only-writes a.c a.body.now c.split.ensures.result_value c.split.ensures.ranged c.in-NameOnly.is c.requires.kept c.as_text.ensures
     a.at a.out.now c.requires.body_in_bounds c.put_head.ensures
 
-pub overflow_add-name_end : goal.overflow_add-name_end
-overflow_add-name_end c = omega (arith, (full-inside _ c.in-Full.is c.split.ensures.inside).0)
-
-pub overflow_add-addresses_end : goal.overflow_add-addresses_end
-overflow_add-addresses_end c = omega (arith, (full-inside _ c.in-Full.is c.split.ensures.inside).1)
-
-pub overflow_add-parameters_end : goal.overflow_add-parameters_end
-overflow_add-parameters_end c = omega (arith, (full-inside _ c.in-Full.is c.split.ensures.inside).2)
-
-pub slice_bounds-put_fields-end : goal.slice_bounds-put_fields-end
-slice_bounds-put_fields-end c =
-    omega (arith, (full-inside _ c.in-Full.is c.split.ensures.inside).0)
-
-pub slice_bounds-put_fields-end-in-Full : goal.slice_bounds-put_fields-end-in-Full
-slice_bounds-put_fields-end-in-Full c =
-    omega (arith, (full-inside _ c.in-Full.is c.split.ensures.inside).1)
-
-pub slice_bounds-put_fields-end-in-Full-2 : goal.slice_bounds-put_fields-end-in-Full-2
-slice_bounds-put_fields-end-in-Full-2 c =
-    omega (arith, (full-inside _ c.in-Full.is c.split.ensures.inside).2)
-
 pub put_fields-requires : goal.put_fields-requires
 put_fields-requires c =
     let given : Given = record { text = c.as_text-in-Full.result; width = c.address_width.result; clean = c.args.clean } in
-    let all = (let a = c.args in full-asks a.c a.body.now c.split.ensures.result_value c.split.ensures.ranged c.in-Full.is c.requires.kept given c.as_text-in-Full.ensures c.address_width.ensures c.requires.clean a.at a.out.now c.requires.body_in_bounds) in
+    let a = c.args in
+    let s = c.split.ensures in
+    let all =
+    full-asks a.c a.body.now s.result_value s.ranged c.in-Full.is c.requires.kept given c.as_text-in-Full.ensures c.address_width.ensures
+    c.requires.clean a.at a.out.now c.requires.body_in_bounds in
     record { puttable = all.0; parameters_in_bounds = all.1 }
 
 pub returns-in-Full : goal.returns-in-Full

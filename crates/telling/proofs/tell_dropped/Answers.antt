@@ -9,15 +9,6 @@ use Rattle.telling.proofs.tell_dropped.Goals as goal
 addresses-inside : (b : List ℕ) {s : Places} {p t i n j m q k : ℕ} → s ≡ Full p t i n j m q k → Inside b s → j + m ≤ length b
 addresses-inside b is h = (rw is at h).1
 
-pub overflow_add-end : goal.overflow_add-end
-overflow_add-end g c = omega (arith, addresses-inside _ c.in-Full.is c.split.ensures.inside)
-
-pub overflow_add-from : goal.overflow_add-from
-overflow_add-from g c = omega (arith, addresses-inside _ c.in-Full.is c.split.ensures.inside)
-
-pub slice_bounds-tell_addresses-end : goal.slice_bounds-tell_addresses-end
-slice_bounds-tell_addresses-end g c = omega (arith, addresses-inside _ c.in-Full.is c.split.ensures.inside)
-
 pub tell_addresses-requires : goal.tell_addresses-requires
 tell_addresses-requires g c =
     let body = c.args.body.now in
