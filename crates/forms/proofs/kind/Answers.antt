@@ -15,14 +15,28 @@ returns-then-form-eq-COMMAS c =
 pub returns-then-form-eq-DASHES : goal.returns-then-form-eq-DASHES
 unfolding kind_of
 returns-then-form-eq-DASHES c =
-    c.marked-then-form-eq-DASHES.ensures ∙ simp (ne_eqb _ _ c.if-form-eq-COLONS.false, ne_eqb _ _ c.if-form-eq-COMMAS.false, eq-eqb _ _ c.if-form-eq-DASHES.true)
+    c.marked-then-form-eq-DASHES.ensures ∙ simp (
+      ne_eqb _ _ c.if-form-eq-COLONS.false,
+      ne_eqb _ _ c.if-form-eq-COMMAS.false,
+      eq-eqb _ _ c.if-form-eq-DASHES.true,
+    )
 
 pub returns-then-form-eq-PREFIXES : goal.returns-then-form-eq-PREFIXES
 unfolding kind_of
 returns-then-form-eq-PREFIXES c =
-    simp (ne_eqb _ _ c.if-form-eq-COLONS.false, ne_eqb _ _ c.if-form-eq-COMMAS.false, ne_eqb _ _ c.if-form-eq-DASHES.false, eq-eqb _ _ c.if-form-eq-PREFIXES.true)
+    simp (
+      ne_eqb _ _ c.if-form-eq-COLONS.false,
+      ne_eqb _ _ c.if-form-eq-COMMAS.false,
+      ne_eqb _ _ c.if-form-eq-DASHES.false,
+      eq-eqb _ _ c.if-form-eq-PREFIXES.true,
+    )
 
 pub returns : goal.returns
 unfolding kind_of
 returns c =
-    simp (ne_eqb _ _ c.if-form-eq-COLONS.false, ne_eqb _ _ c.if-form-eq-COMMAS.false, ne_eqb _ _ c.if-form-eq-DASHES.false, ne_eqb _ _ c.if-form-eq-PREFIXES.false)
+    simp (
+      ne_eqb _ _ c.if-form-eq-COLONS.false,
+      ne_eqb _ _ c.if-form-eq-COMMAS.false,
+      ne_eqb _ _ c.if-form-eq-DASHES.false,
+      ne_eqb _ _ c.if-form-eq-PREFIXES.false,
+    )

@@ -1,28 +1,28 @@
 -- `forms::read_headed` meets its contract: the tests in order, and an outcome for each answer of the dump. Assumes nothing.
-use Rattle.std.proofs.Common.{◌≡◌, arith}
-use Rattle.forms.specs.Forms.{line_end}
+use Rattle.std.proofs.Common.{arith}
 use Rattle.forms.specs.FormsLaws.{line-end, headed-late, headed-first, headed-none, headed-octets, headed-bad, headed-long, dump-within}
 use Rattle.forms.proofs.read_headed.Goals as goal
 
 pub returns-then-end-at : goal.returns-then-end-at
 returns-then-end-at c =
-    let first-line : c.place-end.result ≡ line_end c.args.text.now = line-end c.begin-first.result c.place-end.result c.args.text.now c.begin-first.ensures.0 c.place-end.ensures.0 in
     let a = c.args in
+    let first-line = line-end _ _ _ c.begin-first.ensures.0 c.place-end.ensures.0 in
     headed-late a.at a.why a.text.now _ c.place-end.result first-line c.if-end-at.true
 
 pub returns-then-packet-end : goal.returns-then-packet-end
 returns-then-packet-end c =
-    let first-line : c.place-end.result ≡ line_end c.args.text.now = line-end c.begin-first.result c.place-end.result c.args.text.now c.begin-first.ensures.0 c.place-end.ensures.0 in
     let a = c.args in
+    let first-line = line-end _ _ _ c.begin-first.ensures.0 c.place-end.ensures.0 in
     headed-first a.at a.why a.text.now _ c.place-end.result first-line
     c.packet-packet.result c.if-end-at.false c.packet-packet.ensures.0 c.if-packet-end.true c.read_braced.ensures
 
 pub returns-then-packet-text : goal.returns-then-packet-text
 returns-then-packet-text c =
-    let first-line : c.place-end.result ≡ line_end c.args.text.now = line-end c.begin-first.result c.place-end.result c.args.text.now c.begin-first.ensures.0 c.place-end.ensures.0 in
     let a = c.args in
+    let first-line = line-end _ _ _ c.begin-first.ensures.0 c.place-end.ensures.0 in
     headed-none a.at a.why a.text.now _ c.place-end.result first-line
-    c.packet-packet.result c.if-end-at.false c.packet-packet.ensures.0 c.if-packet-end.false c.if-packet-text.true c.read_braced-then-packet-text.ensures
+    c.packet-packet.result c.if-end-at.false c.packet-packet.ensures.0 c.if-packet-end.false c.if-packet-text.true
+    c.read_braced-then-packet-text.ensures
 
 pub overflow_add-result : goal.overflow_add-result
 overflow_add-result c =
@@ -32,21 +32,24 @@ overflow_add-result c =
 
 pub returns-in-Octets : goal.returns-in-Octets
 returns-in-Octets c =
-    let first-line : c.place-end.result ≡ line_end c.args.text.now = line-end c.begin-first.result c.place-end.result c.args.text.now c.begin-first.ensures.0 c.place-end.ensures.0 in
     let a = c.args in
+    let first-line = line-end _ _ _ c.begin-first.ensures.0 c.place-end.ensures.0 in
     headed-octets a.at a.why a.text.now _ c.place-end.result first-line
-    c.packet-packet.result c.if-end-at.false c.packet-packet.ensures.0 c.if-packet-end.false c.if-packet-text.false c.style.ensures c.read.ensures c.in-Octets.is
+    c.packet-packet.result c.if-end-at.false c.packet-packet.ensures.0 c.if-packet-end.false c.if-packet-text.false
+    c.style.ensures c.read.ensures c.in-Octets.is
 
 pub returns-in-Bad : goal.returns-in-Bad
 returns-in-Bad c =
-    let first-line : c.place-end.result ≡ line_end c.args.text.now = line-end c.begin-first.result c.place-end.result c.args.text.now c.begin-first.ensures.0 c.place-end.ensures.0 in
     let a = c.args in
+    let first-line = line-end _ _ _ c.begin-first.ensures.0 c.place-end.ensures.0 in
     headed-bad a.at a.why a.text.now _ c.place-end.result first-line
-    c.packet-packet.result c.if-end-at.false c.packet-packet.ensures.0 c.if-packet-end.false c.if-packet-text.false c.style.ensures c.read.ensures c.in-Bad.is
+    c.packet-packet.result c.if-end-at.false c.packet-packet.ensures.0 c.if-packet-end.false c.if-packet-text.false
+    c.style.ensures c.read.ensures c.in-Bad.is
 
 pub returns-in-Long : goal.returns-in-Long
 returns-in-Long c =
-    let first-line : c.place-end.result ≡ line_end c.args.text.now = line-end c.begin-first.result c.place-end.result c.args.text.now c.begin-first.ensures.0 c.place-end.ensures.0 in
     let a = c.args in
+    let first-line = line-end _ _ _ c.begin-first.ensures.0 c.place-end.ensures.0 in
     headed-long a.at a.why a.text.now _ c.place-end.result first-line
-    c.packet-packet.result c.if-end-at.false c.packet-packet.ensures.0 c.if-packet-end.false c.if-packet-text.false c.style.ensures c.read.ensures c.in-Long.is
+    c.packet-packet.result c.if-end-at.false c.packet-packet.ensures.0 c.if-packet-end.false c.if-packet-text.false
+    c.style.ensures c.read.ensures c.in-Long.is

@@ -20,9 +20,19 @@ returns-then-form-eq-HEXDUMP c =
 pub returns-then-form-eq-XXD : goal.returns-then-form-eq-XXD
 unfolding style_of
 returns-then-form-eq-XXD c =
-    c.colon.ensures ∙ simp (ne_eqb _ _ c.if-form-eq-WIRESHARK.false, ne_eqb _ _ c.if-form-eq-OD.false, ne_eqb _ _ c.if-form-eq-HEXDUMP.false, eq-eqb _ _ c.if-form-eq-XXD.true)
+    c.colon.ensures ∙ simp (
+      ne_eqb _ _ c.if-form-eq-WIRESHARK.false,
+      ne_eqb _ _ c.if-form-eq-OD.false,
+      ne_eqb _ _ c.if-form-eq-HEXDUMP.false,
+      eq-eqb _ _ c.if-form-eq-XXD.true,
+    )
 
 pub returns : goal.returns
 unfolding style_of
 returns c =
-    c.colon-2.ensures ∙ simp (ne_eqb _ _ c.if-form-eq-WIRESHARK.false, ne_eqb _ _ c.if-form-eq-OD.false, ne_eqb _ _ c.if-form-eq-HEXDUMP.false, ne_eqb _ _ c.if-form-eq-XXD.false)
+    c.colon-2.ensures ∙ simp (
+      ne_eqb _ _ c.if-form-eq-WIRESHARK.false,
+      ne_eqb _ _ c.if-form-eq-OD.false,
+      ne_eqb _ _ c.if-form-eq-HEXDUMP.false,
+      ne_eqb _ _ c.if-form-eq-XXD.false,
+    )

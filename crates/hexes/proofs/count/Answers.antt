@@ -1,11 +1,8 @@
 -- `hexes::count` meets its contract. The loop's invariant: the octets counted, with those of what is left, decide. Assumes nothing.
 use Rattle.std.proofs.Common.{sym, ◌∙◌, ap, not}
 use borrow.Author.Tests.{not-true, not-false}
-use Rattle.hexes.specs.Turns.{count-start, count-separator, count-pair, count-single, count-first, count-second, count-done}
+use Rattle.hexes.specs.Turns.{count-separator, count-pair, count-single, count-first, count-second, count-done}
 use Rattle.hexes.proofs.count.Goals as goal
-
-pub loop-i-init : goal.loop-i-init
-loop-i-init c = count-start
 
 pub loop-i-preserved-then-is_separator : goal.loop-i-preserved-then-is_separator
 loop-i-preserved-then-is_separator c =
@@ -23,12 +20,14 @@ returns-then-not-is_digit c =
 pub returns-then-not-is_digit-2 : goal.returns-then-not-is_digit-2
 returns-then-not-is_digit-2 c =
     count-second c.loop-i.invariant c.if-size-next.false (sym c.is_separator.ensures ∙ c.if-is_separator.false)
-    (sym c.is_digit.ensures ∙ not-false _ (ap not c.if-not-is_digit.false)) (sym c.is_digit-else-is_separator.ensures ∙ not-true _ (ap not c.if-not-is_digit-2.true))
+    (sym c.is_digit.ensures ∙ not-false _ (ap not c.if-not-is_digit.false))
+    (sym c.is_digit-else-is_separator.ensures ∙ not-true _ (ap not c.if-not-is_digit-2.true))
 
 pub loop-i-preserved : goal.loop-i-preserved
 loop-i-preserved c =
     count-pair c.loop-i.invariant c.if-size-next.false (sym c.is_separator.ensures ∙ c.if-is_separator.false)
-    (sym c.is_digit.ensures ∙ not-false _ (ap not c.if-not-is_digit.false)) (sym c.is_digit-else-is_separator.ensures ∙ not-false _ (ap not c.if-not-is_digit-2.false))
+    (sym c.is_digit.ensures ∙ not-false _ (ap not c.if-not-is_digit.false))
+    (sym c.is_digit-else-is_separator.ensures ∙ not-false _ (ap not c.if-not-is_digit-2.false))
 
 pub returns : goal.returns
 returns c = count-done c.loop-i.invariant c.loop-i-test.false

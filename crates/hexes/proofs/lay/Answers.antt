@@ -1,8 +1,14 @@
 -- `hexes::lay` meets its contract. The loop's invariant: the octets of the characters passed stand at the front of the buffer, and those
 -- of what is left are to come. Assumes nothing.
-use Rattle.std.proofs.Common.{refl, sym, ◌∙◌, arith, length-set}
-use Rattle.hexes.specs.Turns.{Pair, lay-start, lay-separator, lay-digits, lay-pair, lay_done}
+use Rattle.std.proofs.Common.{◌≡◌, refl, sym, ◌∙◌, arith, ◌<◌, ℕ, Bool, false, List, length, get_or, length-set}
+use Rattle.hexes.specs.Hexes.{separator}
+use Rattle.hexes.specs.Turns.{Laying, Pair, lay-start, lay-separator, lay-digits, lay-pair, lay_done}
 use Rattle.hexes.proofs.lay.Goals as goal
+
+-- where no separator stands, two digits do
+digits : {t before out : List ℕ} {i n : ℕ} {b : Bool} → Laying t before out i n → i < length t → b ≡ separator (get_or t i 0) → b ≡ false
+    → Pair t before i n
+digits l h e f = lay-digits l h (sym e ∙ f)
 
 pub loop-at-init : goal.loop-at-init
 loop-at-init c = (refl, lay-start c.requires.0 c.requires.1)
@@ -13,47 +19,23 @@ loop-at-preserved-then-is_separator c =
     (inv.0, lay-separator inv.1 c.loop-at-test.true (sym c.is_separator.ensures ∙ c.if-is_separator.true))
 
 pub value-high-requires : goal.value-high-requires
-value-high-requires c =
-    let pair : Pair c.args.text.now c.args.out.now c.loop-at.at c.loop-at.n = lay-digits c.loop-at.invariant.1 c.loop-at-test.true (sym c.is_separator.ensures ∙ c.if-is_separator.false) in
-    pair.high
+value-high-requires c = (digits c.loop-at.invariant.1 c.loop-at-test.true c.is_separator.ensures c.if-is_separator.false).high
 
 pub bounds-text-next : goal.bounds-text-next
-bounds-text-next c =
-    let pair : Pair c.args.text.now c.args.out.now c.loop-at.at c.loop-at.n = lay-digits c.loop-at.invariant.1 c.loop-at-test.true (sym c.is_separator.ensures ∙ c.if-is_separator.false) in
-    pair.both
+bounds-text-next c = (digits c.loop-at.invariant.1 c.loop-at-test.true c.is_separator.ensures c.if-is_separator.false).both
 
 pub value-low-requires : goal.value-low-requires
-value-low-requires c =
-    let pair : Pair c.args.text.now c.args.out.now c.loop-at.at c.loop-at.n = lay-digits c.loop-at.invariant.1 c.loop-at-test.true (sym c.is_separator.ensures ∙ c.if-is_separator.false) in
-    pair.low
+value-low-requires c = (digits c.loop-at.invariant.1 c.loop-at-test.true c.is_separator.ensures c.if-is_separator.false).low
 
 pub bounds-out-n : goal.bounds-out-n
-bounds-out-n c =
-    let pair : Pair c.args.text.now c.args.out.now c.loop-at.at c.loop-at.n = lay-digits c.loop-at.invariant.1 c.loop-at-test.true (sym c.is_separator.ensures ∙ c.if-is_separator.false) in
-    let p = pair in omega arith
-
-pub overflow_add-at : goal.overflow_add-at
-overflow_add-at c =
-    let pair : Pair c.args.text.now c.args.out.now c.loop-at.at c.loop-at.n = lay-digits c.loop-at.invariant.1 c.loop-at-test.true (sym c.is_separator.ensures ∙ c.if-is_separator.false) in
-    let p = pair in omega arith
-
-pub overflow_add-n : goal.overflow_add-n
-overflow_add-n c =
-    let pair : Pair c.args.text.now c.args.out.now c.loop-at.at c.loop-at.n = lay-digits c.loop-at.invariant.1 c.loop-at-test.true (sym c.is_separator.ensures ∙ c.if-is_separator.false) in
-    let p = pair in omega arith
-
-pub loop-at-smaller : goal.loop-at-smaller
-loop-at-smaller c =
-    let pair : Pair c.args.text.now c.args.out.now c.loop-at.at c.loop-at.n = lay-digits c.loop-at.invariant.1 c.loop-at-test.true (sym c.is_separator.ensures ∙ c.if-is_separator.false) in
-    let p = pair in omega arith
+bounds-out-n c = omega (arith, (digits c.loop-at.invariant.1 c.loop-at-test.true c.is_separator.ensures c.if-is_separator.false).room)
 
 pub loop-at-preserved : goal.loop-at-preserved
 loop-at-preserved c =
-    let pair : Pair c.args.text.now c.args.out.now c.loop-at.at c.loop-at.n = lay-digits c.loop-at.invariant.1 c.loop-at-test.true (sym c.is_separator.ensures ∙ c.if-is_separator.false) in
     let inv = c.loop-at.invariant in
-    let high = c.value-high.ensures.value in
-    let low = c.value-low.ensures.value in
-    (simp length-set inv.0, rw (high, low) (lay-pair inv.1 pair (sym c.is_separator.ensures ∙ c.if-is_separator.false)))
+    let pair = digits inv.1 c.loop-at-test.true c.is_separator.ensures c.if-is_separator.false in
+    let laid = lay-pair inv.1 pair (sym c.is_separator.ensures ∙ c.if-is_separator.false) in
+    (simp length-set inv.0, rw (c.value-high.ensures.value, c.value-low.ensures.value) laid)
 
 pub returns : goal.returns
 returns c = lay_done c.loop-at.invariant.1 c.loop-at-test.false

@@ -1,8 +1,6 @@
 -- `hexes::put_octets` meets its contract. The loop's invariant: the digits of the first i octets of s are written. Assumes nothing.
-use Rattle.std.proofs.Common.{arith, refl, sym, ap, take_all}
-use Rattle.io.proofs.Counting.{prefix_len_of_le}
-use Rattle.chars.specs.PutsLaws.{puts_none, puts-within, puts_then, puts-as}
-use Rattle.hexes.specs.Hexes.{hex_of}
+use Rattle.std.proofs.Common.{arith, refl, sym}
+use Rattle.chars.specs.PutsLaws.{puts_none, puts_then, puts-as}
 use Rattle.hexes.specs.HexesLaws.{hex-more}
 use Rattle.hexes.proofs.put_octets.Goals as goal
 
@@ -13,8 +11,3 @@ pub loop-i-preserved : goal.loop-i-preserved
 loop-i-preserved c =
     let s = c.args.s.now in
     (omega arith, omega arith, puts-as (sym (hex-more s c.loop-i.i (omega arith))) (puts_then c.loop-i.invariant.2 c.put_octet-o.ensures.puts))
-
-pub returns : goal.returns
-returns c =
-    let s = c.args.s.now in
-    record { prefix_len = prefix_len_of_le _ _ (puts-within c.loop-i.invariant.2); puts = puts-as (ap hex_of (take_all c.loop-i.i s (omega arith))) c.loop-i.invariant.2 }

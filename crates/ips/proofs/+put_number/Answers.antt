@@ -10,9 +10,6 @@ put_code-requires t c = omega (arith, ap length (numeral-one c.args.base c.args.
 pub returns-then-n-base : goal.returns-then-n-base
 returns-then-n-base t c = wrote_one c.args.base c.args.more c.args.n c.if-n-base.true c.digit_of.ensures c.put_code.ensures
 
-pub overflow_sub-more : goal.overflow_sub-more
-overflow_sub-more t c = (has_more c.args.base c.args.more c.args.n c.requires.base_nonzero.0 c.requires.base_nonzero.1 c.if-n-base.false c.requires.base_nonzero.2).0
-
 pub put_number-next-requires : goal.put_number-next-requires
 put_number-next-requires t c =
     let m = has_more c.args.base c.args.more c.args.n c.requires.base_nonzero.0 c.requires.base_nonzero.1 c.if-n-base.false c.requires.base_nonzero.2 in

@@ -1,10 +1,6 @@
 -- `ips::is_mapped` meets its contract. Assumes nothing.
-use Rattle.std.proofs.Common.{arith, sym, length-take-le}
 use Rattle.ips.specs.Writes.{is_mapped, not-mapped}
 use Rattle.ips.proofs.is_mapped.Goals as goal
-
-pub slice_bounds-zeros-end : goal.slice_bounds-zeros-end
-slice_bounds-zeros-end c = sym (length-take-le 10 c.args.a.now (omega arith))
 
 pub returns-then-zeros : goal.returns-then-zeros
 returns-then-zeros c =

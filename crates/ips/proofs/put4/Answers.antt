@@ -20,4 +20,5 @@ put_dotted-requires c =
 
 pub returns : goal.returns
 returns c =
-    rw (four-octets c.args.a.now c.requires.a_len) (then c.put_decimal-first.ensures (then c.put_dotted-second.ensures (then c.put_dotted-third.ensures c.put_dotted.ensures)))
+    rw (four-octets c.args.a.now c.requires.a_len) (then c.put_decimal-first.ensures
+    (then c.put_dotted-second.ensures (then c.put_dotted-third.ensures c.put_dotted.ensures)))

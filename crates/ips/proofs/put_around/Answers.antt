@@ -1,11 +1,8 @@
 -- `ips::put_around` meets its contract: the fields before the run, two colons, the fields after it. Assumes nothing.
-use Rattle.std.proofs.Common.{arith, sym, ◌*◌, length-take-le}
+use Rattle.std.proofs.Common.{arith}
 use Rattle.octets.specs.ListsLaws.{take_rest}
 use Rattle.ips.specs.Writes.{around-length, wrote-around}
 use Rattle.ips.proofs.put_around.Goals as goal
-
-pub slice_bounds-put_fields-end : goal.slice_bounds-put_fields-end
-slice_bounds-put_fields-end c = sym (length-take-le (2 * c.args.start) c.args.a.now (omega arith))
 
 pub put_fields-left-requires : goal.put_fields-left-requires
 put_fields-left-requires c = omega (arith, around-length c.args.a.now c.args.start c.args.count)

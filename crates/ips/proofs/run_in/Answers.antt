@@ -25,7 +25,8 @@ loop-i-preserved c =
     let turn : c.zeros_from-n.result ≡ zeros_ahead (drop (i - 1) (words a)) =
     c.zeros_from-n.ensures ∙ zeros-turn a (i - 1) c.loop-i.n c.get16.result (omega arith) c.get16.ensures.value (rw e c.loop-i.invariant.1) in
     let best : c.longer_of-best.result ≡ longest_from (i - 1) (drop (i - 1) (words a)) =
-    c.longer_of-best.ensures ∙ longest-turn (words a) (i - 1) c.zeros_from-n.result c.loop-i.best (omega (arith, words-length a)) turn (rw e c.loop-i.invariant.2) in
+    c.longer_of-best.ensures ∙ longest-turn (words a) (i - 1) c.zeros_from-n.result c.loop-i.best (omega (arith, words-length a)) turn
+    (rw e c.loop-i.invariant.2) in
     (omega arith, turn, best)
 
 pub returns : goal.returns

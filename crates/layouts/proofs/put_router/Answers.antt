@@ -1,7 +1,15 @@
 -- `layouts::put_router` meets its contract: the fields of carrier 3, one after the other, and the zeros. Assumes nothing.
 use Rattle.std.proofs.Common.{ap, ◌∙◌, arith}
 use Rattle.blocks.specs.Block.{fields_of, padding_after}
-use Rattle.layouts.specs.Writes.{router-least, addresses-room, parameters-room, zeros-room-full, zeros-room-name-only, wrote-router-full, wrote-router-name-only}
+use Rattle.layouts.specs.Writes.{
+  router-least,
+  addresses-room,
+  parameters-room,
+  zeros-room-full,
+  zeros-room-name-only,
+  wrote-router-full,
+  wrote-router-name-only,
+}
 use Rattle.layouts.proofs.put_router.Goals as goal
 
 pub put16-at_lifetime-requires : goal.put16-at_lifetime-requires

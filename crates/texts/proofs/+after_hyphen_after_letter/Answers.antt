@@ -1,7 +1,23 @@
 -- The cycle of calls {after_hyphen, after_letter}: at each return one lemma of Outcomes says what the walk answers on the way there. Assumes nothing.
 use Rattle.std.proofs.Common.{rules}
 use Rattle.names.specs.AnsweredLaws.{told}
-use Rattle.texts.specs.Outcomes.{hyphen-end, hyphen-hyphen, hyphen-letter, hyphen-other, hyphen_last, label-missing, label-opens, label-other, letter-end, letter-far, letter-hyphen, letter-last, letter-letter, letter-long, letter-other}
+use Rattle.texts.specs.Outcomes.{
+  hyphen-end,
+  hyphen-hyphen,
+  hyphen-letter,
+  hyphen-other,
+  hyphen_last,
+  label-missing,
+  label-opens,
+  label-other,
+  letter-end,
+  letter-far,
+  letter-hyphen,
+  letter-last,
+  letter-letter,
+  letter-long,
+  letter-other,
+}
 use Rattle.texts.proofs.+after_hyphen_after_letter.Goals as goal
 
 pub after_hyphen-returns-then-left-eq0 : goal.after_hyphen-returns-then-left-eq0

@@ -20,12 +20,24 @@ returns-then-so_far-eq-DIGITS c =
 pub returns-then-x-eq120 : goal.returns-then-x-eq120
 unfolding begins_with
 returns-then-x-eq120 c =
-    simp (ne_eqb _ _ c.if-x-eq10.false, ne_eqb _ _ c.if-so_far-eq-NOTHING.false, ne_eqb _ _ c.if-so_far-eq-DIGITS.false, eq-eqb _ _ c.if-so_far-eq-ZERO.true, eq-eqb _ _ c.if-x-eq120.true)
+    simp (
+      ne_eqb _ _ c.if-x-eq10.false,
+      ne_eqb _ _ c.if-so_far-eq-NOTHING.false,
+      ne_eqb _ _ c.if-so_far-eq-DIGITS.false,
+      eq-eqb _ _ c.if-so_far-eq-ZERO.true,
+      eq-eqb _ _ c.if-x-eq120.true,
+    )
 
 pub returns-else-x-eq120 : goal.returns-else-x-eq120
 unfolding begins_with
 returns-else-x-eq120 c =
-    simp (ne_eqb _ _ c.if-x-eq10.false, ne_eqb _ _ c.if-so_far-eq-NOTHING.false, ne_eqb _ _ c.if-so_far-eq-DIGITS.false, eq-eqb _ _ c.if-so_far-eq-ZERO.true, ne_eqb _ _ c.if-x-eq120.false)
+    simp (
+      ne_eqb _ _ c.if-x-eq10.false,
+      ne_eqb _ _ c.if-so_far-eq-NOTHING.false,
+      ne_eqb _ _ c.if-so_far-eq-DIGITS.false,
+      eq-eqb _ _ c.if-so_far-eq-ZERO.true,
+      ne_eqb _ _ c.if-x-eq120.false,
+    )
 
 pub returns-else-so_far-eq-ZERO : goal.returns-else-so_far-eq-ZERO
 unfolding begins_with

@@ -9,13 +9,15 @@ loop-i-init c = (omega arith, omega arith, refl)
 pub returns-then-so_far-eq-OFFSET : goal.returns-then-so_far-eq-OFFSET
 returns-then-so_far-eq-OFFSET c =
     let t = c.args.text.now in
-    let here = packet-here t c.loop-i.so_far c.loop-i.line c.loop-i.i c.begins_with-so_far.result (omega arith) c.begins_with-so_far.ensures c.if-so_far-eq-OFFSET.true in
+    let here = packet-here t c.loop-i.so_far c.loop-i.line c.loop-i.i c.begins_with-so_far.result (omega arith) c.begins_with-so_far.ensures
+    c.if-so_far-eq-OFFSET.true in
     (sym here ∙ c.loop-i.invariant.2, omega arith)
 
 pub loop-i-preserved-then-so_far-eq-NOTHING : goal.loop-i-preserved-then-so_far-eq-NOTHING
 loop-i-preserved-then-so_far-eq-NOTHING c =
     let t = c.args.text.now in
-    let next = packet-line t c.loop-i.so_far c.loop-i.line c.loop-i.i c.begins_with-so_far.result (omega arith) c.begins_with-so_far.ensures c.if-so_far-eq-NOTHING.true in
+    let next = packet-line t c.loop-i.so_far c.loop-i.line c.loop-i.i c.begins_with-so_far.result (omega arith) c.begins_with-so_far.ensures
+    c.if-so_far-eq-NOTHING.true in
     (omega arith, omega arith, next ∙ c.loop-i.invariant.2)
 
 pub loop-i-preserved : goal.loop-i-preserved

@@ -4,19 +4,19 @@ use Rattle.dumps.specs.StatesLaws.{class-digit}
 use Rattle.dumps.proofs.state.State.after.Goals as goal
 
 pub high-requires : goal.high-requires
-high-requires c = class-digit _ (sym c.class_of.ensures ∙ c.in-Digit.is)
+high-requires c = class-digit _ (sym c.in-Digit.ensures)
 
 pub returns-in-Break : goal.returns-in-Break
 returns-in-Break c =
-    c.alone.ensures ∙ simp (sym c.class_of.ensures ∙ c.in-Break.is)
+    c.alone.ensures ∙ simp (sym c.in-Break.ensures)
 
 pub returns-in-Blank : goal.returns-in-Blank
-returns-in-Blank c = simp (sym c.class_of.ensures ∙ c.in-Blank.is)
+returns-in-Blank c = simp (sym c.in-Blank.ensures)
 
 pub returns-in-Digit : goal.returns-in-Digit
 returns-in-Digit c =
-    c.high.ensures ∙ simp (sym c.class_of.ensures ∙ c.in-Digit.is)
+    c.high.ensures ∙ simp (sym c.in-Digit.ensures)
 
 pub returns-in-Other : goal.returns-in-Other
 returns-in-Other c =
-    c.but.ensures ∙ simp (sym c.class_of.ensures ∙ c.in-Other.is)
+    c.but.ensures ∙ simp (sym c.in-Other.ensures)

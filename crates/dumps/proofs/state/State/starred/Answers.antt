@@ -4,15 +4,15 @@ use Rattle.dumps.proofs.state.State.starred.Goals as goal
 
 pub returns-in-Break : goal.returns-in-Break
 returns-in-Break c =
-    c.to.ensures ∙ simp (sym c.class_of.ensures ∙ c.in-Break.is)
+    c.to.ensures ∙ simp (sym c.in-Break.ensures)
 
 pub returns-in-Blank : goal.returns-in-Blank
-returns-in-Blank c = simp (sym c.class_of.ensures ∙ c.in-Blank.is)
+returns-in-Blank c = simp (sym c.in-Blank.ensures)
 
 pub returns-in-Digit : goal.returns-in-Digit
 returns-in-Digit c =
-    c.but.ensures ∙ simp (sym c.class_of.ensures ∙ c.in-Digit.is)
+    c.but.ensures ∙ simp (sym c.in-Digit.ensures)
 
 pub returns-in-Other : goal.returns-in-Other
 returns-in-Other c =
-    c.but-in-Other.ensures ∙ simp (sym c.class_of.ensures ∙ c.in-Other.is)
+    c.but-in-Other.ensures ∙ simp (sym c.in-Other.ensures)

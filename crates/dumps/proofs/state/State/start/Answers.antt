@@ -4,18 +4,18 @@ use Rattle.dumps.specs.StatesLaws.{class-digit}
 use Rattle.dumps.proofs.state.State.start.Goals as goal
 
 pub first-requires : goal.first-requires
-first-requires c = class-digit _ (sym c.class_of.ensures ∙ c.in-Digit.is)
+first-requires c = class-digit _ (sym c.in-Digit.ensures)
 
 pub returns-in-Break : goal.returns-in-Break
-returns-in-Break c = simp (sym c.class_of.ensures ∙ c.in-Break.is)
+returns-in-Break c = simp (sym c.in-Break.ensures)
 
 pub returns-in-Blank : goal.returns-in-Blank
-returns-in-Blank c = simp (sym c.class_of.ensures ∙ c.in-Blank.is)
+returns-in-Blank c = simp (sym c.in-Blank.ensures)
 
 pub returns-in-Digit : goal.returns-in-Digit
 returns-in-Digit c =
-    c.first.ensures ∙ simp (sym c.class_of.ensures ∙ c.in-Digit.is)
+    c.first.ensures ∙ simp (sym c.in-Digit.ensures)
 
 pub returns-in-Other : goal.returns-in-Other
 returns-in-Other c =
-    c.star.ensures ∙ simp (sym c.class_of.ensures ∙ c.in-Other.is)
+    c.star.ensures ∙ simp (sym c.in-Other.ensures)

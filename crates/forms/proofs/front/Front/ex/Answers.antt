@@ -11,4 +11,5 @@ returns-then-self-eq1 c = c.to.ensures ∙ simp (c.if-self.true, eq-eqb _ _ c.if
 
 pub returns : goal.returns
 returns c =
-    c.is.ensures ∙ ex-other c.args.self (elim c.if-self.branch [ then-self+else-self-eq1 w ↦ inl (w.if-self.true, w.if-self-eq1.false) | else-self w ↦ inr w.if-self.false ])
+    c.is.ensures ∙ ex-other c.args.self (elim c.if-self.branch
+    [ then-self+else-self-eq1 w ↦ inl (w.if-self.true, w.if-self-eq1.false) | else-self w ↦ inr w.if-self.false ])
