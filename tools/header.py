@@ -28,7 +28,7 @@ def plain(*paths):
 
 
 class Source:
-    """The structs and the constants of some files; what is wrong with them is kept as lines of C that do not compile."""
+    """The structs, the constants and the numbered cases of some files; what is wrong with them is kept as lines of C that do not compile."""
 
     def __init__(self, paths):
         text = plain(*paths)
@@ -36,6 +36,10 @@ class Source:
         self.limits = dict(re.findall(r"^pub const (MAX_\w+): usize = (\d+);", text, re.M))
         self.structs = dict(re.findall(STRUCT, text, re.S))
         self.types = {name: dict(re.findall(r"const (\w+): usize = (\d+);", body)) for name, body in re.findall(r"^impl (\w+) \{(.*?)^\}", text, re.S | re.M)}
+        # an enum's cases with numbers, each by the name that C has for it: SheetCarrier is SHEET_CARRIER
+        for name, body in re.findall(r"^pub enum (\w+) \{(.*?)^\}", text, re.S | re.M):
+            cases = re.findall(r"^    (\w+) = (\d+),", body, re.M)
+            self.types[name] = {**self.types.get(name, {}), **{re.sub(r"(?<!^)([A-Z])", r"_\1", case).upper(): number for case, number in cases}}
         self.errors = []
 
     def c_type(self, name):

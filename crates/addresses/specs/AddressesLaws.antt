@@ -1,15 +1,16 @@
 -- The laws of address lists: how the tests of one address come out, the list is its addresses one after another, dropping nothing leaves
 -- the list, and what a loop over the list does in one turn. Assumes nothing.
-use Rattle.std.specs.Prelude.{◌≡◌, refl, Bool, false, not, List, [], ◌∷◌, ◌++◌, ℕ, zero, suc, ◌+◌, ◌-◌, ◌*◌, ◌/◌, ◌%◌, ◌≤◌, ◌<◌, ltb, eqb, get_or, take, drop}
+use Rattle.std.specs.Prelude.{◌≡◌, refl, Bool, false, not, List, [], ◌∷◌, ◌++◌, ℕ, zero, suc, ◌*◌, ◌/◌, ◌%◌, ◌≤◌, ◌<◌, ltb, eqb, get_or, take, drop}
 use Rattle.std.proofs.Math.Path.{sym, ap}
-use Rattle.std.proofs.Common.{◌∙◌, div-mul-le_self, add-one, arith, length-append, take-append-drop, length-take-le, drop-drop, take_at, drop_at}
+use Rattle.std.proofs.Common.{◌∙◌, div-mul-le_self, add-one, arith, length-append, take-append-drop, length-take-le, take_at, drop_at}
 use Rattle.std.proofs.Math.Bool.{true, cond}
 use Rattle.std.specs.Bool.{beq}
 use Rattle.std.proofs.lemmas.Bool.{false≢true}
-use Rattle.std.proofs.Math.Nat.{div-eq-sub-div, div-eq_of_lt, div-add-mod', add-sub_cancel_left}
+use Rattle.std.proofs.Math.Nat.{div-eq-sub-div, div-eq_of_lt, div-add-mod'}
 use Rattle.std.proofs.Math.Dec.{eqb-suc-zero}
 use borrow.Author.Tests.{ne_eqb, lt-ltb, le-ltb, not-true, not-false}
 use Rattle.std.proofs.Math.ListN.{length, length-drop}
+use Rattle.std.specs.Simd.{first_chunks}
 use Rattle.octets.specs.Lists.{All, flat}
 use Rattle.octets.specs.Numbers.{all_zero}
 use Rattle.addresses.specs.Addresses.{Width, unusable, unusable4, unusable16, addresses_of, list_of, kept_of, has_of, any_of, none_of}
@@ -84,6 +85,15 @@ module _ (w : ℕ) where
   pub flat-list : (s : List ℕ) → length s % w ≡ 0 → flat (list_of w s) ≡ s
   unfolding list_of
   flat-list s e = flat-of (length s / w) s (omega (arith, div-add-mod' (length s) w))
+
+  -- the library's chunks are the addresses
+  chunks-of : (n : ℕ) (s : List ℕ) → first_chunks w n s ≡ addresses_of w n s
+  chunks-of zero s = refl
+  chunks-of (suc n) s = ap (λ (l : List (List ℕ)). take w s ∷ l) (chunks-of n (drop w s))
+
+  pub chunks_list : (s : List ℕ) → first_chunks w (length s / w) s ≡ list_of w s
+  unfolding list_of
+  chunks_list s = chunks-of (length s / w) s
 
   length-of : (n : ℕ) (s : List ℕ) → length (addresses_of w n s) ≡ n
   length-of zero s = refl
@@ -198,62 +208,47 @@ none_has w (a ∷ more) = go (unusable w a) (none_has w more)
     go true ih = ih
     go false ih = sym (eqb-suc-zero (length (kept_of w more)))
 
--- ---- turns of a loop: the rest of the list from `at` on
+-- ---- turns of a loop: an address a, and what more is left of the list
 
-module _ (w : ℕ) (s : List ℕ) (at : ℕ) (wide : Width w) (h : w ≤ length s - at) where
-  turn : list_of w (drop at s) ≡ take w (drop at s) ∷ list_of w (drop (at + w) s)
+module _ (w : ℕ) (a : List ℕ) (more : List (List ℕ)) {r : Bool} (e : r ≡ unusable w a) where
+  pub kept_out : not r ≡ false → kept_of w (a ∷ more) ≡ kept_of w more
+  unfolding kept_of
+  kept_out t = simp (sym e ∙ not-false _ t)
+
+  pub kept_in : not r ≡ true → kept_of w (a ∷ more) ≡ a ∷ kept_of w more
+  unfolding kept_of
+  kept_in t = simp (sym e ∙ not-true _ t)
+
+module _ (w : ℕ) (rest a more : List ℕ) (wide : Width w) (size : length a ≡ w) (q : rest ≡ a ++ more) where
+  turn : list_of w rest ≡ a ∷ list_of w more
   turn =
-      let k : w ≤ length (drop at s) = rw length-drop h in
-      list-cons w (drop at s) (wide-some wide) k ∙ ap (λ (l : List ℕ). take w (drop at s) ∷ list_of w l) (drop-drop w at s)
+      let k : w ≤ length (a ++ more) = simp length-append (omega arith) in
+      ap (list_of w) q ∙ list-cons w (a ++ more) (wide-some wide) k ∙ rw (take_at a more w size, drop_at a more w size)
 
-  -- the slice's part from at to at + w is an address
-  pub part-wide : length (take (at + w - at) (drop at s)) ≡ w
-  part-wide = rw add-sub_cancel_left (length-take-le w (drop at s) (rw length-drop h))
+  module _ {r : Bool} (e : r ≡ unusable w a) where
+    pub kept-drop : not r ≡ false → kept_of w (list_of w rest) ≡ kept_of w (list_of w more)
+    kept-drop t = ap (kept_of w) turn ∙ kept_out w a (list_of w more) e t
 
-  module _ {r : Bool} (e : r ≡ unusable w (take (at + w - at) (drop at s))) where
-    -- an answer about the part is one about the address
-    part-tested : unusable w (take w (drop at s)) ≡ r
-    part-tested = rw add-sub_cancel_left at (sym e)
+    pub kept-keep : not r ≡ true → kept_of w (list_of w rest) ≡ a ∷ kept_of w (list_of w more)
+    kept-keep t = ap (kept_of w) turn ∙ kept_in w a (list_of w more) e t
 
-    pub kept-drop : not r ≡ false → kept_of w (list_of w (drop at s)) ≡ kept_of w (list_of w (drop (at + w) s))
-    unfolding kept_of
-    kept-drop t = rw turn (simp (part-tested ∙ not-false _ t))
-
-    pub kept-keep : not r ≡ true → kept_of w (list_of w (drop at s)) ≡ take w (drop at s) ∷ kept_of w (list_of w (drop (at + w) s))
-    unfolding kept_of
-    kept-keep t = rw turn (simp (part-tested ∙ not-true _ t))
-
-pub kept-end : (w : ℕ) (s : List ℕ) (at : ℕ) → length s - at < w → kept_of w (list_of w (drop at s)) ≡ []
-unfolding kept_of
-kept-end w s at h = let k : length (drop at s) < w = rw length-drop h in rw (list-nil w (drop at s) k)
-
--- ---- whether an address is there whose being dropped is `wanted`
-
--- what is left of the list decides
-pub record Looking (w : ℕ) (s : List ℕ) (wanted : Bool) (at : ℕ) : Type 0 where
-  pub within : at ≤ length s
-  pub left : has_of w wanted (list_of w s) ≡ has_of w wanted (list_of w (drop at s))
-
-module _ (w : ℕ) (s : List ℕ) (wanted : Bool) where
-  pub look-start : Looking w s wanted 0
-  look-start = record { within = omega arith; left = refl }
-
-  module _ (at : ℕ) (i : Looking w s wanted at) where
-    pub look-end : length s - at < w → false ≡ has_of w wanted (list_of w s)
+    look_at : (wanted : Bool) → has_of w wanted (list_of w rest) ≡ cond (beq r wanted) true (has_of w wanted (list_of w more))
     unfolding has_of
-    look-end h =
-        let k : length (drop at s) < w = rw length-drop h in
-        sym (i.left ∙ ap (has_of w wanted) (list-nil w (drop at s) k))
+    look_at wanted = ap (has_of w wanted) turn ∙ ap (λ b. cond (beq b wanted) true (has_of w wanted (list_of w more))) (sym e)
 
-    module _ {r : Bool} (wide : Width w) (h : w ≤ length s - at) (e : r ≡ unusable w (take (at + w - at) (drop at s))) where
-      look_at : has_of w wanted (list_of w s) ≡ cond (beq r wanted) true (has_of w wanted (list_of w (drop (at + w) s)))
-      unfolding has_of
-      look_at =
-          i.left ∙ ap (has_of w wanted) (turn w s at wide h)
-          ∙ ap (λ b. cond (beq b wanted) true (has_of w wanted (list_of w (drop (at + w) s)))) (part-tested w s at wide h e)
+    -- it decides, or what is left does
+    pub look-found : (wanted : Bool) → beq r wanted ≡ true → has_of w wanted (list_of w rest) ≡ true
+    look-found wanted t = look_at wanted ∙ simp t
 
-      pub look-found : beq r wanted ≡ true → true ≡ has_of w wanted (list_of w s)
-      look-found t = sym (look_at ∙ simp t)
+    pub look-next : (wanted : Bool) → beq r wanted ≡ false → has_of w wanted (list_of w rest) ≡ has_of w wanted (list_of w more)
+    look-next wanted t = look_at wanted ∙ simp t
 
-      pub look-next : beq r wanted ≡ false → Looking w s wanted (at + w)
-      look-next t = record { within = omega (arith, i.within); left = look_at ∙ simp t }
+-- too few octets for an address
+module _ (w : ℕ) (rest : List ℕ) (h : length rest < w) where
+  pub kept-end : kept_of w (list_of w rest) ≡ []
+  unfolding kept_of
+  kept-end = rw (list-nil w rest h)
+
+  pub look-end : (wanted : Bool) → has_of w wanted (list_of w rest) ≡ false
+  unfolding has_of
+  look-end wanted = rw (list-nil w rest h)

@@ -1,16 +1,15 @@
 -- The laws of the count of the kept addresses: an IPv6 address whose first octet is plain is kept, the count of a list is that of its
 -- first addresses and of the rest, and what a loop that counts does in one turn. Assumes nothing.
-use Rattle.std.specs.Prelude.{◌≡◌, Bool, ◌&&◌, ℕ, zero, suc, ◌+◌, ◌-◌, ◌*◌, ◌≤◌, ◌<◌, length, get_or, take, drop}
+use Rattle.std.specs.Prelude.{◌≡◌, Bool, ◌&&◌, ℕ, zero, suc, ◌+◌, ◌*◌, ◌≤◌, ◌<◌, length, get_or, take, drop}
 use Rattle.std.proofs.Math.Path.{refl, ap}
-use Rattle.std.proofs.Common.{sym, ◌∙◌, add-zero, arith, ne_eqb, length-append, length-drop, take-append-drop, length-take-le, drop-drop, take_all, get_or-take, get_or-drop}
+use Rattle.std.proofs.Common.{sym, ◌∙◌, add-zero, arith, ne_eqb, length-append, length-drop, take-append-drop, length-take-le, drop-drop, get_or-take, get_or-drop}
 use Rattle.std.proofs.Math.Bool.{true, false, cond, not, and-eq-true_iff}
 use Rattle.std.proofs.lemmas.Bool.{false≢true, eqb-false}
 use mathlib.Core.List.{List, [], ◌∷◌, ◌++◌}
-use Rattle.std.proofs.Math.Nat.{add-sub_cancel_left}
 use Rattle.std.proofs.Math.Dec.{eqb}
 use Rattle.std.proofs.lemmas.List.{take-append-le, drop-append-le}
 use Rattle.addresses.specs.Addresses.{unusable, plain16, list_of, kept_of}
-use Rattle.addresses.specs.AddressesLaws.{sixteen, unusable16-first, list-cons, list-nil, kept-keep}
+use Rattle.addresses.specs.AddressesLaws.{sixteen, unusable16-first, list-cons, list-nil, kept-keep, kept-end}
 
 -- ---- the first octet of an IPv6 address
 
@@ -68,45 +67,13 @@ module _ (w : ℕ) where
       go true ih = ih
       go false ih = ap (λ (l : List (List ℕ)). a ∷ l) ih
 
-  -- the count of the first n addresses and of the rest is the whole count
-  count_cut : 0 < w → (n : ℕ) (s : List ℕ) → n * w ≤ length s
-      → length (kept_of w (list_of w s)) ≡ length (kept_of w (list_of w (take (n * w) s))) + length (kept_of w (list_of w (drop (n * w) s)))
-  count_cut p n s h =
-      let front = take (n * w) s in
-      let back = drop (n * w) s in
-      ap (λ (l : List ℕ). length (kept_of w (list_of w l))) (sym (take-append-drop (n * w) s))
-      ∙ ap (λ (l : List (List ℕ)). length (kept_of w l)) (list-append p n front back (length-take-le (n * w) s h))
+  -- the count of n addresses and of the rest is the whole count
+  pub count_cut : 0 < w → (n : ℕ) (front back : List ℕ) → length front ≡ n * w
+      → length (kept_of w (list_of w (front ++ back))) ≡ length (kept_of w (list_of w front)) + length (kept_of w (list_of w back))
+  count_cut p n front back e =
+      ap (λ (l : List (List ℕ)). length (kept_of w l)) (list-append p n front back e)
       ∙ ap length (kept_append (list_of w front) (list_of w back))
       ∙ length-append (kept_of w (list_of w front)) (kept_of w (list_of w back))
-
--- ---- turns of a loop that counts
-
--- the count up to `at`, with those kept of the addresses that are left, is the whole count
-pub record Counting (w : ℕ) (s : List ℕ) (n at : ℕ) : Type 0 where
-  pub within : at ≤ length s
-  pub few : n ≤ at
-  pub whole : n + length (kept_of w (list_of w (drop at s))) ≡ length (kept_of w (list_of w s))
-
-pub count-start : (w : ℕ) (s : List ℕ) → Counting w s 0 0
-count-start w s = record { within = omega arith; few = omega arith; whole = omega arith }
-
-module _ {w : ℕ} {s : List ℕ} {n at : ℕ} (c : Counting w s n at) where
-  -- k addresses, counted by themselves
-  pub count-part : 0 < w → (k : ℕ) {r : ℕ} → k * w ≤ length s - at → r ≡ length (kept_of w (list_of w (take (at + k * w - at) (drop at s))))
-      → r ≤ length (take (at + k * w - at) (drop at s)) → Counting w s (n + r) (at + k * w)
-  count-part p k {r} h e f =
-      let here : k * w ≤ length (drop at s) = rw length-drop h in
-      let part : r ≡ length (kept_of w (list_of w (take (k * w) (drop at s)))) = rw add-sub_cancel_left at e in
-      let size : r ≤ k * w = omega (arith, rw add-sub_cancel_left at f, length-take-le (k * w) (drop at s) here) in
-      let cut = rw drop-drop at (count_cut w p k (drop at s) here) in
-      record { within = omega arith; few = omega arith; whole = omega arith }
-
-  -- the rest, counted by itself
-  pub count-end : {r : ℕ} → r ≡ length (kept_of w (list_of w (take (length s - at) (drop at s)))) → r ≤ length (take (length s - at) (drop at s))
-      → (n + r ≡ length (kept_of w (list_of w s))) × (n + r ≤ length s)
-  count-end e f =
-      let rest : take (length s - at) (drop at s) ≡ drop at s = take_all (length s - at) (drop at s) (rw length-drop (omega arith)) in
-      (omega (arith, rw rest at e), omega (arith, rw (rest, length-drop) at f))
 
 -- ---- IPv6 addresses that begin plainly
 
@@ -114,28 +81,39 @@ module _ {w : ℕ} {s : List ℕ} {n at : ℕ} (c : Counting w s n at) where
 count-plain : (s : List ℕ) (at next : ℕ) → next ≡ at + 16 → next ≤ length s → plain16 (get_or s at 0) ≡ true
     → length (kept_of 16 (list_of 16 (drop at s))) ≡ suc (length (kept_of 16 (list_of 16 (drop next s))))
 count-plain s at next e h p =
-    let address = take (at + 16 - at) (drop at s) in
-    let first : get_or address 0 0 ≡ get_or s at 0 = rw (add-sub_cancel_left, get_or-take 16 (drop at s) 0 0 (omega arith), get_or-drop, add-zero) in
-    let kept = kept-keep 16 s at sixteen (omega arith) (sym (plain16-usable address (rw first p))) refl in
-    rw e (ap length kept)
+    let address = take 16 (drop at s) in
+    let size : length address ≡ 16 = length-take-le 16 (drop at s) (rw length-drop (omega arith)) in
+    let first : get_or address 0 0 ≡ get_or s at 0 = rw (get_or-take 16 (drop at s) 0 0 (omega arith), get_or-drop, add-zero) in
+    let kept = kept-keep 16 (drop at s) address (drop 16 (drop at s)) sixteen size (sym (take-append-drop 16 (drop at s))) (sym (plain16-usable address (rw first p))) refl in
+    rw e (rw (drop-drop 16 at s) at (ap length kept))
 
 -- four such addresses, by tests that are joined
-pub count-four : {s : List ℕ} {n at : ℕ} {a b c d : Bool} → Counting 16 s n at → 64 ≤ length s - at
-    → a ≡ plain16 (get_or s at 0) → b ≡ plain16 (get_or s (at + 16) 0) → c ≡ plain16 (get_or s (at + 32) 0) → d ≡ plain16 (get_or s (at + 48) 0)
-    → a && b && c && d ≡ true → Counting 16 s (n + 4) (at + 64)
-count-four {s} {n} {at} {a} {b} {c} {d} i h p q r t e =
+pub count-four : (s : List ℕ) {a b c d : Bool} → length s ≡ 64
+    → a ≡ plain16 (get_or s 0 0) → b ≡ plain16 (get_or s 16 0) → c ≡ plain16 (get_or s 32 0) → d ≡ plain16 (get_or s 48 0)
+    → a && b && c && d ≡ true → length (kept_of 16 (list_of 16 s)) ≡ 4
+count-four s {a} {b} {c} {d} h p q r t e =
     let last = (and-eq-true_iff (a && b && c) d).0 e in
     let third = (and-eq-true_iff (a && b) c).0 last.0 in
     let first = (and-eq-true_iff a b).0 third.0 in
-    record {
-      within = omega arith;
-      few = omega arith;
-      whole =
-          omega (
-            arith,
-            count-plain s at (at + 16) refl (omega arith) (sym p ∙ first.0),
-            count-plain s (at + 16) (at + 32) (omega arith) (omega arith) (sym q ∙ first.1),
-            count-plain s (at + 32) (at + 48) (omega arith) (omega arith) (sym r ∙ third.1),
-            count-plain s (at + 48) (at + 64) (omega arith) (omega arith) (sym t ∙ last.1),
-          );
-    }
+    omega (
+      arith,
+      count-plain s 0 16 refl (omega arith) (sym p ∙ first.0),
+      count-plain s 16 32 refl (omega arith) (sym q ∙ first.1),
+      count-plain s 32 48 refl (omega arith) (sym r ∙ third.1),
+      count-plain s 48 64 refl (omega arith) (sym t ∙ last.1),
+      ap length (kept-end 16 (drop 64 s) (rw length-drop (omega arith))),
+    )
+
+-- ---- turns of a loop that counts
+
+-- the count so far, with those kept of the addresses that are left, is the whole count
+pub record Counting (w : ℕ) (s : List ℕ) (n : ℕ) (rest : List ℕ) : Type 0 where
+  pub few : n + length rest ≤ length s
+  pub whole : n + length (kept_of w (list_of w rest)) ≡ length (kept_of w (list_of w s))
+
+-- k addresses, counted by themselves
+pub count-part : {w : ℕ} {s rest : List ℕ} (a more : List ℕ) {n : ℕ} → Counting w s n rest → 0 < w → (k : ℕ) → rest ≡ a ++ more → length a ≡ k * w → {r : ℕ}
+    → r ≡ length (kept_of w (list_of w a)) → r ≤ length a → Counting w s (n + r) more
+count-part {w} {s} {rest} a more {n} c p k q size {r} e f =
+    let parts = ap (λ (l : List ℕ). length (kept_of w (list_of w l))) q ∙ count_cut w p k a more size in
+    record { few = omega (arith, c.few, simp length-append at (ap length q)); whole = omega (arith, c.whole, parts) }

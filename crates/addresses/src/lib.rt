@@ -53,13 +53,10 @@ fn has(w: usize, s: &[u8], wanted: bool) -> bool
     requires { Width w }
     ensures { result ≡ has_of w wanted (list_of w s.now) }
 {
-    let mut at: usize = 0;
-    while w <= s.len() - at {
-        let next = at + w;
-        if dropped(w, &s[at..next]) == wanted {
+    for a in s.chunks_exact(w) {
+        if dropped(w, a) == wanted {
             return true;
         }
-        at = next;
     }
     false
 }
@@ -92,22 +89,20 @@ fn plain16(first: u8) -> bool
 }
 
 // How many addresses are kept, one by one. A 16-bit count: the compiler takes many addresses of 4 octets at once.
-fn count_each(w: usize, s: &[u8]) -> usize
-    requires width { Width w }
+fn count_each<const W: usize>(s: &[u8]) -> usize
+    requires width { Width W }
     requires s_len_bound { length s.now < 65536 }
-    ensures value { result ≡ length (kept_of w (list_of w s.now)) }
+    ensures value { result ≡ length (kept_of W (list_of W s.now)) }
     ensures upper_bound { result ≤ length s.now }
 {
     let mut n: u16 = 0;
-    let mut at: usize = 0;
-    while w <= s.len() - at {
-        let next = at + w;
-        if !dropped(w, &s[at..next]) {
+    let (list, _) = s.as_chunks::<W>();
+    for a in list {
+        if !dropped(W, a) {
             n += 1;
         }
-        at = next;
     }
-    n as usize
+    usize::from(n)
 }
 
 // How many IPv6 addresses are kept: four at a time, mostly by their first octets alone.
@@ -117,17 +112,15 @@ fn count_fours(s: &[u8]) -> usize
     ensures upper_bound { result ≤ length s.now }
 {
     let mut n: usize = 0;
-    let mut at: usize = 0;
-    while 64 <= s.len() - at {
-        let next = at + 64;
-        if plain16(s[at]) & plain16(s[at + 16]) & plain16(s[at + 32]) & plain16(s[at + 48]) {
+    let (fours, rest) = s.split_at(s.len() - s.len() % 64);
+    for four in fours.chunks_exact(64) {
+        if plain16(four[0]) & plain16(four[16]) & plain16(four[32]) & plain16(four[48]) {
             n += 4;
         } else {
-            n += count_each(16, &s[at..next]);
+            n += count_each::<16>(four);
         }
-        at = next;
     }
-    n + count_each(16, &s[at..])
+    n + count_each::<16>(rest)
 }
 
 // How many addresses are kept.
@@ -138,7 +131,7 @@ pub fn kept_count(w: usize, s: &[u8]) -> usize
     ensures upper_bound { result ≤ length s.now }
 {
     if w == 4 {
-        return count_each(w, s);
+        return count_each::<4>(s);
     }
     count_fours(s)
 }
@@ -149,15 +142,11 @@ pub fn put_kept(out: &mut [u8], o: usize, w: usize, s: &[u8]) -> usize
     requires s_in_bounds { o + length (flat (kept_of w (list_of w s.now))) ≤ length out.old }
     ensures { Wrote o (flat (kept_of w (list_of w s.now))) out.old result out.new }
 {
-    let mut next_out = o;
-    let mut at: usize = 0;
-    while w <= s.len() - at {
-        let next = at + w;
-        let a = &s[at..next];
-        if !dropped(w, a) {
-            next_out = octets::copy(out, next_out, a);
+    let mut next = o;
+    for address in s.chunks_exact(w) {
+        if !dropped(w, address) {
+            next = octets::copy(out, next, address);
         }
-        at = next;
     }
-    next_out
+    next
 }

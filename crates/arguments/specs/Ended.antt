@@ -1,14 +1,15 @@
 -- What `--` does to a command line: no argument after it is an option. Assumes nothing.
-use Rattle.std.specs.Prelude.{◌≡◌, Bool, true, false, cond, List, [], ◌∷◌, ℕ, ◌+◌, eqb}
+use Rattle.std.specs.Prelude.{◌≡◌, Bool, true, false, cond, List, [], ◌∷◌, ℕ, ◌+◌, eqb, Option, Some, None}
 use Rattle.std.proofs.Math.Path.{refl, ap}
 use Rattle.std.proofs.Common.{sym, ◌∙◌}
 use Rattle.octets.specs.Lists.{same}
 use Rattle.octets.specs.Cases.{by-test}
 use Rattle.words.specs.Words.{number_in}
-use Rattle.arguments.specs.declared.Asked.{Asked}
+use Rattle.arguments.specs.declared.asked.Asked.{Asked}
 use Rattle.arguments.specs.Tables.{options, carrier_of, is_dash}
-use Rattle.arguments.specs.Wrong as wrong
-use Rattle.arguments.specs.Line.{but, from, decided, chosen, carried, with_carrier, with_input, with_plain, heard, with_next}
+use Rattle.carriers.specs.declared.Carrier.{Carrier}
+use Rattle.arguments.specs.declared.Wrong.TheVariants as wrong
+use Rattle.arguments.specs.Line.{but, from, decided, carried, with_carrier, with_input, with_plain, heard, with_next}
 use Rattle.arguments.specs.Line.{Argument, word, long, with_argument, with_rest, end, options_of}
 use Rattle.arguments.specs.LineLaws.{word-ended, next-decided, next_word}
 
@@ -19,14 +20,14 @@ module _ (a : Asked) where
   either true x y p q = p
   either false x y p q = q
 
-  carrier-keeps : (i k : ℕ) → options_of (carried i k a) ≡ options_of a
-  unfolding carried
-  carrier-keeps i k = either (eqb k 0) (but wrong.carrier i a) (from k 1 a.input a) refl refl
+  carrier-keeps : (i : ℕ) (k : Option Carrier) → options_of (carried i k a) ≡ options_of a
+  carrier-keeps i None = refl
+  carrier-keeps i (Some k) = refl
 
   input-keeps : (i : ℕ) (w : List ℕ) → options_of (with_input i w a) ≡ options_of a
   input-keeps i w =
-      let file = either (is_dash w) (from a.carrier 2 a.input a) (from a.carrier 2 i a) refl refl in
-      either (eqb a.words 2) (but wrong.file i a) _ refl file
+      let file = either (is_dash w) (from a.carrier 2 a.input a) (from a.carrier 2 (Some i) a) refl refl in
+      either (eqb a.words 2) (but wrong.File (Some i) a) _ refl file
 
   plain-keeps : (i : ℕ) (w : List ℕ) → options_of (with_plain i w a) ≡ options_of a
   plain-keeps i w = either (eqb a.words 0) (with_carrier i w a) (with_input i w a) (carrier-keeps i (carrier_of w)) (input-keeps i w)
@@ -57,7 +58,7 @@ rest-keeps i (x ∷ xs) a e p =
 
 module _ (i : ℕ) (a : Asked) (d : decided a ≡ false) (p : a.pending ≡ false) where
   end-ends : ((with_argument i end a).ended ≡ true) × ((with_argument i end a).pending ≡ false)
-  unfolding chosen options number_in same
+  unfolding options number_in same
   end-ends =
       by-test a.ended (λ _. ((with_argument i end a).ended ≡ true) × ((with_argument i end a).pending ≡ false))
       (λ e. let k = argument-keeps a e i p end in (ap (λ (s : Asked). s.ended) k ∙ e, ap (λ (s : Asked). s.pending) k ∙ p))

@@ -3,6 +3,7 @@ pub mod Form
 pub mod Options
 pub mod Wrong
 pub mod Tables
+pub mod TablesLaws
 pub mod Line
 pub mod LineLaws
 pub mod Ended

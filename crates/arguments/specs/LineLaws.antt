@@ -1,33 +1,15 @@
 -- The laws of a command line: an argument more, and a line that is taken argument by argument. Assumes nothing.
 use Rattle.std.specs.Prelude.{◌≡◌, refl, true, false, List, [], ◌∷◌, ◌++◌, ℕ, suc, ◌+◌, length}
-use Rattle.std.proofs.Common.{sym, ap, ◌∙◌, add-zero, arith, eq-eqb, ne_eqb, length-append}
-use Rattle.arguments.specs.declared.Asked.{Asked}
-use Rattle.arguments.specs.Tables.{option_of, is_option, front_of}
-use Rattle.arguments.specs.Line.{but, from, decided, with_output, attached, chosen, with_option, carried, with_plain, with_word, heard, with_next}
+use Rattle.std.proofs.Common.{sym, ap, ◌∙◌, add-zero, arith, length-append}
+use Rattle.arguments.specs.declared.asked.Asked.{Asked}
+use Rattle.arguments.specs.Tables.{is_option}
+use Rattle.arguments.specs.Line.{decided, with_output, with_option, with_plain, with_word, heard, with_next}
 use Rattle.arguments.specs.Line.{Argument, with_argument, with_rest, settled_of, asked_of}
 use Rattle.arguments.specs.Line.{Argued, Begun, Given}
-use Rattle.arguments.specs.Wrong as wrong
 
 -- ---- one word more
 
-module _ (i k : ℕ) (a : Asked) where
-  pub carried_none : k ≡ 0 → but wrong.carrier i a ≡ carried i k a
-  unfolding carried
-  carried_none e = rw (eq-eqb k 0 e)
-
-  pub carried_some : (k ≡ 0 → ⊥) → from k 1 a.input a ≡ carried i k a
-  unfolding carried
-  carried_some n = rw (ne_eqb k 0 n)
-
 module _ (i : ℕ) (w : List ℕ) (a : Asked) where
-  -- an option that no table has, and one that has the number k
-  module _ {k : ℕ} (e : k ≡ option_of w) where
-    pub option-none : k ≡ 0 → attached i w (front_of w) a ≡ with_option i w a
-    option-none z = rw (eq-eqb (option_of w) 0 (sym e ∙ z))
-
-    pub option-some : (k ≡ 0 → ⊥) → chosen i k a ≡ with_option i w a
-    option-some n = rw (ne_eqb (option_of w) 0 (λ z. n (e ∙ z))) (ap (λ (j : ℕ). chosen i j a) e)
-
   -- after `--` no word is an option
   pub word-ended : a.ended ≡ true → with_plain i w a ≡ with_word i w a
   word-ended e = rw e

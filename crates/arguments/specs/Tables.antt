@@ -1,8 +1,12 @@
 -- The words of a command line that have a number (docs/COMMAND.md); several words may have the same. Assumes nothing: these are definitions.
-use Rattle.std.specs.Prelude.{ℕ, Bool, false, cond, List, [], ◌∷◌, ltb, eqb, length, get_or, take}
+use Rattle.std.specs.Prelude.{ℕ, Bool, false, cond, List, [], ◌∷◌, ltb, eqb, length, get_or, take, Option, Some, None}
 use Rattle.octets.specs.Lists.{same}
 use Rattle.chars.specs.Ascii.{ascii}
 use Rattle.words.specs.Words.{Worded, worded, number_in}
+use Rattle.carriers.specs.declared.Carrier.{Carrier}
+use Rattle.carriers.specs.Carriers.{chosen_of}
+use Rattle.arguments.specs.declared.Command.{Command}
+use Rattle.arguments.specs.declared.tables.Choice.{Choice}
 use Rattle.arguments.specs.Command as command
 use Rattle.arguments.specs.Form as form
 use Rattle.arguments.specs.Options as option
@@ -69,15 +73,15 @@ carriers =
     ∷ worded 5 (ascii "ENCDNS_IP6")
     ∷ []
 
--- the number of a word in each, or 0
-abbrev pub command_of : List ℕ → ℕ
-command_of w = number_in commands w
+-- what a word is in each
+abbrev pub command_of : List ℕ → Option Command
+command_of w = command.of (number_in commands w)
 
-abbrev pub option_of : List ℕ → ℕ
-option_of w = number_in options w
+abbrev pub option_of : List ℕ → Option Choice
+option_of w = option.of (number_in options w)
 
-abbrev pub carrier_of : List ℕ → ℕ
-carrier_of w = number_in carriers w
+abbrev pub carrier_of : List ℕ → Option Carrier
+carrier_of w = chosen_of (number_in carriers w)
 
 -- ---- words by how they begin
 
@@ -92,6 +96,6 @@ is_dash w = same w (ascii "-")
 abbrev pub begins : List ℕ → List ℕ → Bool
 begins x w = same (take (length x) w) x
 
--- how many octets stand before the file's name in `-oFILE` and `--output=FILE`; 0 in any other word
-abbrev pub front_of : List ℕ → ℕ
-front_of w = cond (begins (ascii "-o") w) 2 (cond (begins (ascii "--output=") w) 9 0)
+-- how many octets stand before the file's name in `-oFILE` and `--output=FILE`; none in any other word
+abbrev pub front_of : List ℕ → Option ℕ
+front_of w = cond (begins (ascii "-o") w) (Some 2) (cond (begins (ascii "--output=") w) (Some 9) None)

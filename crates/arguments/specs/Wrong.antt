@@ -1,5 +1,7 @@
--- What is wrong with a command line (docs/COMMAND.md, "usage error"): the same names as in src/. Assumes nothing: these are definitions.
+-- What is wrong with a command line (docs/COMMAND.md, "usage error"), by number. Assumes nothing: these are definitions.
 use Rattle.std.specs.Prelude.{ℕ}
+use Rattle.arguments.specs.declared.Wrong.{Wrong}
+use Rattle.arguments.specs.declared.Wrong.TheVariants as is
 
 -- no such command
 abbrev pub command : ℕ
@@ -48,3 +50,18 @@ show_output = 11
 -- `--json` with `-o -`: both would write to standard output
 abbrev pub json_output : ℕ
 json_output = 12
+
+-- the number of what src/ has under the same name
+abbrev pub number_of : Wrong → ℕ
+number_of is.Command = command
+number_of is.Option = option
+number_of is.Carrier = carrier
+number_of is.File = file
+number_of is.Long = long
+number_of is.NoCarrier = no_carrier
+number_of is.NoName = no_name
+number_of is.Output = output
+number_of is.Form = form
+number_of is.OnlyRead = only_read
+number_of is.ShowOutput = show_output
+number_of is.JsonOutput = json_output

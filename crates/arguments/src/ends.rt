@@ -8,56 +8,41 @@ use crate::{Asked, Command, Wrong};
 fn is_readless(a: Asked) -> bool
     ensures { result ≡ readless a }
 {
-    if a.command == Command::READ {
-        return false;
-    }
-    if a.value {
-        return true;
-    }
-    if a.strict {
-        return true;
-    }
-    a.force
+    !matches!(a.command, Some(Command::Read)) && (a.value || a.strict || a.force)
 }
 
 // Whether `-o` stands with `show`.
 fn is_shown_into(a: Asked) -> bool
     ensures { result ≡ shown_into a }
 {
-    if a.command == Command::SHOW {
-        return a.output != 0;
-    }
-    false
+    matches!(a.command, Some(Command::Show)) && a.output.is_some()
 }
 
 // Whether `--json` stands with `-o -`.
 fn is_json_into(a: Asked) -> bool
     ensures { result ≡ json_into a }
 {
-    if a.json {
-        return a.dashed;
-    }
-    false
+    a.json && a.output.is_some_and(|o| o.dashed)
 }
 
-// What is wrong, or 0.
-pub fn wrong_of(a: Asked) -> usize
+// What is wrong, if anything is.
+pub fn wrong_of(a: Asked) -> Option<Wrong>
     ensures { result ≡ wrong_of a }
 {
     if a.pending {
-        return Wrong::NO_NAME;
+        return Some(Wrong::NoName);
     }
     if a.words == 0 {
-        return Wrong::NO_CARRIER;
+        return Some(Wrong::NoCarrier);
     }
     if is_readless(a) {
-        return Wrong::ONLY_READ;
+        return Some(Wrong::OnlyRead);
     }
     if is_shown_into(a) {
-        return Wrong::SHOW_OUTPUT;
+        return Some(Wrong::ShowOutput);
     }
     if is_json_into(a) {
-        return Wrong::JSON_OUTPUT;
+        return Some(Wrong::JsonOutput);
     }
-    0
+    None
 }

@@ -1,37 +1,71 @@
 // The words of a command line that have a number, and words by how they begin (docs/COMMAND.md). A table has an entry to a line, as `words` has it: the
 // number as an octet (in hexadecimal), the word and a line break. `arguments/Tables` has the numbers by name, and the tables are proved to be the same.
 ghost use Rattle.std.specs.Prelude.{◌≡◌};
-ghost use Rattle.arguments.specs.Tables.{command_of, option_of, carrier_of, is_option, is_dash, begins, front_of};
+ghost use Rattle.arguments.specs.Command as command;
+ghost use Rattle.arguments.specs.Options as option;
+ghost use Rattle.arguments.specs.Tables.{command_of, option_of, carrier_of, is_option, is_dash, front_of};
 
-use octets::same;
+use crate::{Command, Form};
+use carriers::Carrier;
 use words::number_of;
 
-// The options; the first three are those of the forms.
-#[derive(Drop)]
-pub struct Options();
-
-impl Options {
-    pub const OUTPUT: usize = 4;
-
-    pub const JSON: usize = 5;
-
-    pub const VALUE: usize = 6;
-
-    pub const STRICT: usize = 7;
-
-    pub const FORCE: usize = 8;
-
-    pub const HELP: usize = 9;
-
+// The options.
+#[derive(Clone, Copy)]
+pub enum Choice {
+    Form(Form),
+    Output,
+    Json,
+    Value,
+    Strict,
+    Force,
+    Help,
     // `--`: no later word is an option.
-    pub const END: usize = 10;
+    End,
 }
 
-// The command that a word names, or 0.
-pub fn command_named(word: &[u8]) -> usize
+impl Command {
+    // The command of a number of the table.
+    fn of(number: usize) -> Option<Self>
+        ensures { result ≡ command.of number }
+    {
+        match number {
+            1 => Some(Self::Read),
+            2 => Some(Self::Write),
+            3 => Some(Self::Show),
+            4 => Some(Self::Octets),
+            5 => Some(Self::Help),
+            6 => Some(Self::Version),
+            _ => None,
+        }
+    }
+}
+
+impl Choice {
+    // The option of a number of the table.
+    fn of(number: usize) -> Option<Self>
+        ensures { result ≡ option.of number }
+    {
+        match number {
+            1 => Some(Self::Form(Form::Hex)),
+            2 => Some(Self::Form(Form::Raw)),
+            3 => Some(Self::Form(Form::Base64)),
+            4 => Some(Self::Output),
+            5 => Some(Self::Json),
+            6 => Some(Self::Value),
+            7 => Some(Self::Strict),
+            8 => Some(Self::Force),
+            9 => Some(Self::Help),
+            10 => Some(Self::End),
+            _ => None,
+        }
+    }
+}
+
+// The command that a word names.
+pub fn command_named(word: &[u8]) -> Option<Command>
     ensures { result ≡ command_of word.now }
 {
-    number_of(
+    Command::of(number_of(
         b"\x01read\n\
           \x02write\n\
           \x03show\n\
@@ -43,14 +77,14 @@ pub fn command_named(word: &[u8]) -> usize
           \x06--version\n\
           \x06-V\n",
         word,
-    )
+    ))
 }
 
-// The option that a word is, or 0.
-pub fn option_named(word: &[u8]) -> usize
+// The option that a word is.
+pub fn option_named(word: &[u8]) -> Option<Choice>
     ensures { result ≡ option_of word.now }
 {
-    number_of(
+    Choice::of(number_of(
         b"\x01--hex\n\
           \x02--raw\n\
           \x03--base64\n\
@@ -64,14 +98,14 @@ pub fn option_named(word: &[u8]) -> usize
           \x09-h\n\
           \x0a--\n",
         word,
-    )
+    ))
 }
 
-// The carrier that a word names by its number or its name, or 0.
-pub fn carrier_named(word: &[u8]) -> usize
+// The carrier that a word names by its number or its name.
+pub fn carrier_named(word: &[u8]) -> Option<Carrier>
     ensures { result ≡ carrier_of word.now }
 {
-    number_of(
+    Carrier::of(number_of(
         b"\x011\n\
           \x01dhcp4\n\
           \x01dhcpv4\n\
@@ -98,46 +132,32 @@ pub fn carrier_named(word: &[u8]) -> usize
           \x05encdns_ip6\n\
           \x05ENCDNS_IP6\n",
         word,
-    )
+    ))
 }
 
 // Whether a word is an option: a hyphen and more.
 pub fn is_option(word: &[u8]) -> bool
     ensures { result ≡ is_option word.now }
 {
-    if word.len() < 2 {
-        return false;
-    }
-    word[0] == b'-'
+    1 < word.len() && word[0] == b'-'
 }
 
 // Whether a name is `-`: standard input, standard output.
 pub fn is_dash(name: &[u8]) -> bool
     ensures { result ≡ is_dash name.now }
 {
-    same(name, b"-")
+    name == b"-".as_slice()
 }
 
-// Whether a word begins with some octets.
-fn is_begun(start: &[u8], word: &[u8]) -> bool
-    ensures { result ≡ begins start.now word.now }
-{
-    let n = start.len();
-    if word.len() < n {
-        return false;
-    }
-    same(&word[..n], start)
-}
-
-// How many octets stand before the file's name in a word that holds both an option and the name; 0 in any other.
-pub fn front_of(word: &[u8]) -> usize
+// How many octets stand before the file's name in a word that holds both an option and the name; none in any other.
+pub fn front_of(word: &[u8]) -> Option<usize>
     ensures { result ≡ front_of word.now }
 {
-    if is_begun(b"-o", word) {
-        return 2;
+    if word.starts_with(b"-o") {
+        return Some(2);
     }
-    if is_begun(b"--output=", word) {
-        return 9;
+    if word.starts_with(b"--output=") {
+        return Some(9);
     }
-    0
+    None
 }

@@ -5,7 +5,7 @@ use borrow.Author.Tests.{lt-leb, eq-eqb, ne_eqb, eqb-false}
 use Rattle.octets.specs.Lists.{All}
 use Rattle.octets.specs.ListsLaws.{all_append}
 use Rattle.octets.specs.Numbers.{Bytes}
-use Rattle.base64_text.specs.declared.Quantum.{Quantum}
+use Rattle.base64_text.specs.Quantum.{Quantum}
 use Rattle.base64_text.specs.Base64.{blank, quantum, to, octet_of, padded, filled, moved, whole}
 use Rattle.base64_text.specs.Base64.{End, good, fault, Decoded, none, decoded, onto, arrive, decode_from}
 use Rattle.base64_text.specs.Encoded.{character, characters, encode, unblanked}

@@ -4,9 +4,8 @@ use Rattle.std.specs.Prelude.{◌≡◌, Bool, true, false, cond, List, [], ◌�
 use Rattle.octets.specs.Numbers.{range}
 use Rattle.octets.specs.Over.{over}
 use Rattle.inputs.specs.Why as why
-use Rattle.inputs.specs.declared.Read.{Read}
-use Rattle.inputs.specs.declared.Read.TheVariants.{Octets, Bad, Long}
-use Rattle.base64_text.specs.declared.Quantum.{Quantum}
+use Rattle.inputs.specs.Read.{Read, Octets, Bad, Long}
+use Rattle.base64_text.specs.Quantum.{Quantum}
 
 -- ---- a character
 

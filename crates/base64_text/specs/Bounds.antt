@@ -3,9 +3,8 @@ use Rattle.std.specs.Prelude.{◌≡◌, refl, Bool, true, false, cond, List, []
 use Rattle.std.proofs.Common.{ap, ◌∙◌, arith, length-take}
 use Rattle.std.proofs.Math.Path.{subst}
 use Rattle.octets.specs.OverLaws.{over-length}
-use Rattle.inputs.specs.declared.Read.{Read}
-use Rattle.inputs.specs.declared.Read.TheVariants.{Octets, Bad, Long}
-use Rattle.base64_text.specs.declared.Quantum.{Quantum}
+use Rattle.inputs.specs.Read.{Read, Octets, Bad, Long}
+use Rattle.base64_text.specs.Quantum.{Quantum}
 use Rattle.base64_text.specs.Base64.{moved, whole, begun, End, good, fault, Decoded, none, onto, arrive, decode_from, decode, told, answer, Answered}
 use Rattle.base64_text.specs.Exactly.{read-exactly}
 

@@ -5,8 +5,7 @@ use Rattle.std.proofs.Common.{sym, ap, ap₂, subst, ◌∙◌, arith, ltb-false
 use Rattle.std.proofs.lemmas.Bool.{false≢true}
 use Rattle.octets.specs.Numbers.{Bytes}
 use Rattle.octets.specs.Over.{over}
-use Rattle.inputs.specs.declared.Read.{Read}
-use Rattle.inputs.specs.declared.Read.TheVariants.{Octets, Long}
+use Rattle.inputs.specs.Read.{Read, Octets, Long}
 use Rattle.base64_text.specs.Base64.{begun, End, good, fault, Decoded, decoded, decode_from, decode, told, answer, Answered}
 use Rattle.base64_text.specs.Encoded.{encode, unblanked, Encodes}
 use Rattle.base64_text.specs.Back.{encoded-back, encode-unblanked, is_good, unblanked-alike}

@@ -1,6 +1,9 @@
+pub mod Quantum
 pub mod Base64
+pub mod Held
 pub mod Base64Laws
 pub mod Turns
+pub mod HeldLaws
 pub mod Encoded
 pub mod EncodedLaws
 pub mod Back

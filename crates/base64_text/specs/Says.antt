@@ -8,7 +8,7 @@ use mathlib.Core.List.{List, [], ◌∷◌}
 use Prim.Native.Nat.{ℕ, zero, suc, ◌+◌, ◌*◌, ◌/◌, ◌%◌, ◌<◌}
 use Rattle.octets.specs.Cases.{by-test}
 use Rattle.octets.specs.Numbers.{Bytes}
-use Rattle.base64_text.specs.declared.Quantum.{Quantum}
+use Rattle.base64_text.specs.Quantum.{Quantum}
 use Rattle.base64_text.specs.Base64.{blank, value, quantum, to, octet_of, padded, filled, moved, whole}
 use Rattle.base64_text.specs.Base64.{End, good, fault, Decoded, none, onto, arrive, decode_from}
 use Rattle.base64_text.specs.Encoded.{character, encode, unblanked}

@@ -7,8 +7,8 @@ use Rattle.std.proofs.lemmas.List.{take-append-le}
 use Rattle.octets.specs.Over.{over}
 use Rattle.octets.specs.OverLaws.{over-nil, over-push}
 use Rattle.inputs.specs.Why as why
-use Rattle.inputs.specs.declared.Read.TheVariants.{Octets, Bad, Long}
-use Rattle.base64_text.specs.declared.Quantum.{Quantum}
+use Rattle.inputs.specs.Read.{Octets, Bad, Long}
+use Rattle.base64_text.specs.Quantum.{Quantum}
 use Rattle.base64_text.specs.Base64.{moved, whole, begun, End, good, fault, Decoded, none, onto, arrive, decode_from, decode, told, Answered}
 
 -- octets before those of the rest

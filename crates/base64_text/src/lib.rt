@@ -4,203 +4,156 @@
 #![tactic(auto)]
 
 ghost use Rattle.std.specs.Prelude.{◌≡◌, ◌<◌};
+ghost use Rattle.inputs.specs.Read.{read_in};
 ghost use Rattle.base64_text.specs.Base64 as base64;
 ghost use Rattle.base64_text.specs.Base64.{Answered};
+ghost use Rattle.base64_text.specs.Held.{number_of, quantum_in, Moved, Stands, Valued};
 
-use inputs::{Read, Why};
-use octets::within;
+use inputs::{Unread, Why, is_blank};
 
-// Where a text stands after its padding has begun, or that it is no base64.
-#[derive(Drop)]
-pub struct Place();
-
-impl Place {
-    // One more padding character is wanted.
-    pub const PADDED: usize = 4;
-
-    pub const ENDED: usize = 5;
-
-    pub const NOWHERE: usize = 6;
+// Where a text stands.
+#[derive(Clone, Copy)]
+pub enum Place {
+    // So many characters of a quantum stand.
+    Start,
+    One,
+    Two,
+    Three,
+    // After a padding character one more is wanted.
+    Padded,
+    Ended,
 }
 
 #[derive(Clone, Copy)]
 pub struct Quantum {
-    // How many of its characters stand, 0 to 3; or a place from 4 on.
-    pub place: usize,
+    pub place: Place,
     // The value of the last character.
     pub last: u8,
-    // The last octet, and whether the last character completed it.
-    pub octet: u8,
-    pub complete: bool,
+    // The octet that the last character completed.
+    pub octet: Option<u8>,
 }
 
 // ---- a character
 
-fn is_blank(x: u8) -> bool
-    ensures { result ≡ base64.blank x }
+// The value of a character of the alphabet.
+#[tactic(auto, unfolding(crate::specs::Base64::value))]
+fn value(x: u8) -> Option<u8>
+    ensures { Valued result (base64.value x) }
 {
-    if x == b' ' {
-        return true;
+    match x {
+        b'A'..=b'Z' => Some(x - b'A'),
+        b'a'..=b'z' => Some(x - b'a' + 26),
+        b'0'..=b'9' => Some(x - b'0' + 52),
+        b'+' => Some(62),
+        b'/' => Some(63),
+        _ => None,
     }
-    if x == b'\t' {
-        return true;
-    }
-    if x == b'\r' {
-        return true;
-    }
-    x == b'\n'
-}
-
-// The value of a character of the alphabet; 64 of any other.
-fn value(x: u8) -> u8
-    ensures { result ≡ base64.value x }
-{
-    if within(x, b'A', b'Z') {
-        return x - b'A';
-    }
-    if within(x, b'a', b'z') {
-        return x - b'a' + 26;
-    }
-    if within(x, b'0', b'9') {
-        return x - b'0' + 52;
-    }
-    if x == b'+' {
-        return 62;
-    }
-    if x == b'/' {
-        return 63;
-    }
-    64
-}
-
-// The octet that a character of value v completes, after one of value `last`.
-fn octet(place: usize, last: u8, v: u8) -> u8
-    requires { v < 64 }
-    ensures { result ≡ base64.octet_of place last v }
-{
-    if place == 1 {
-        return last % 64 * 4 + v / 16;
-    }
-    if place == 2 {
-        return last % 16 * 16 + v / 4;
-    }
-    last % 4 * 64 + v
 }
 
 impl Quantum {
     fn begun() -> Self
-        ensures { result ≡ base64.begun }
+        ensures { quantum_in result ≡ base64.begun }
     {
         Self {
-            place: 0,
+            place: Place::Start,
             last: 0,
-            octet: 0,
-            complete: false,
+            octet: None,
         }
     }
 
-    fn to(mut self, place: usize) -> Self
-        ensures { result ≡ base64.to place self }
+    fn to(self, place: Place) -> Self
+        ensures { Stands result (base64.to (number_of place) (quantum_in self)) }
     {
-        self.place = place;
-        self.complete = false;
-        self
+        Self {
+            place,
+            last: self.last,
+            octet: None,
+        }
     }
 
     // Moved by a padding character: the bits under it are zero.
-    fn padded(self) -> Self
-        ensures { result ≡ base64.padded self }
+    #[tactic(auto, unfolding(crate::specs::Base64::padded))]
+    fn padded(self) -> Option<Self>
+        ensures { Moved result (base64.padded (quantum_in self)) }
     {
-        if self.place == 2 {
-            if self.last % 16 == 0 {
-                return self.to(Place::PADDED);
-            }
-            return self.to(Place::NOWHERE);
+        match self.place {
+            Place::Two if self.last % 16 == 0 => Some(self.to(Place::Padded)),
+            Place::Three if self.last % 4 == 0 => Some(self.to(Place::Ended)),
+            Place::Padded => Some(self.to(Place::Ended)),
+            _ => None,
         }
-        if self.place == 3 {
-            if self.last % 4 == 0 {
-                return self.to(Place::ENDED);
-            }
-            return self.to(Place::NOWHERE);
-        }
-        if self.place == Place::PADDED {
-            return self.to(Place::ENDED);
-        }
-        self.to(Place::NOWHERE)
     }
 
     // Moved by a character of value v. The first of a quantum completes no octet.
-    fn filled(mut self, v: u8) -> Self
-        ensures { result ≡ base64.filled v self }
+    #[tactic(auto, unfolding(crate::specs::Base64::filled, crate::specs::Base64::octet_of))]
+    fn filled(self, v: u8) -> Option<Self>
+        requires { v < 64 }
+        ensures { Moved result (base64.filled v (quantum_in self)) }
     {
-        if 64 <= v {
-            return self.to(Place::NOWHERE);
-        }
-        if 4 <= self.place {
-            return self.to(Place::NOWHERE);
-        }
-        self.octet = octet(self.place, self.last, v);
-        self.complete = 1 <= self.place;
-        self.place = (self.place + 1) % 4;
-        self.last = v;
-        self
+        let (place, octet) = match self.place {
+            Place::Start => (Place::One, None),
+            Place::One => (Place::Two, Some(self.last % 64 * 4 + v / 16)),
+            Place::Two => (Place::Three, Some(self.last % 16 * 16 + v / 4)),
+            Place::Three => (Place::Start, Some(self.last % 4 * 64 + v)),
+            Place::Padded | Place::Ended => return None,
+        };
+        Some(Self {
+            place,
+            last: v,
+            octet,
+        })
     }
 
-    fn moved(self, x: u8) -> Self
-        ensures { result ≡ base64.moved x self }
+    #[tactic(auto, unfolding(crate::specs::Base64::moved))]
+    fn moved(self, x: u8) -> Option<Self>
+        ensures { Moved result (base64.moved x (quantum_in self)) }
     {
         if is_blank(x) {
-            return self.to(self.place);
+            return Some(self.to(self.place));
         }
         if x == b'=' {
             return self.padded();
         }
-        self.filled(value(x))
+        self.filled(value(x)?)
     }
 
     // Whether a text may end here.
     fn whole(self) -> bool
-        ensures { result ≡ base64.whole self }
+        ensures { result ≡ base64.whole (quantum_in self) }
     {
-        if self.place == 0 {
-            return true;
-        }
-        self.place == Place::ENDED
+        matches!(self.place, Place::Start | Place::Ended)
     }
 }
 
 // ---- a text
 
 // Reads base64 into `out`.
-pub fn read(text: &[u8], out: &mut [u8]) -> Read
-    ensures { Answered text.now out.old result out.new }
+pub fn read(text: &[u8], out: &mut [u8]) -> Result<usize, Unread>
+    ensures { Answered text.now out.old (read_in result) out.new }
 {
     let mut s = Quantum::begun();
     let mut n = 0;
-    let mut i = 0;
-    while i < text.len() {
-        s = s.moved(text[i]);
-        if s.place == Place::NOWHERE {
-            return Read::Bad {
+    for (i, &x) in text.iter().enumerate() {
+        let Some(t) = s.moved(x) else {
+            return Err(Unread::Bad {
                 at: i,
-                why: Why::BASE64,
-            };
+                why: Why::Base64,
+            });
+        };
+        s = t;
+        if let Some(b) = t.octet {
+            if out.len() <= n {
+                return Err(Unread::Long);
+            }
+            out[n] = b;
+            n += 1;
         }
-        i += 1;
-        if !s.complete {
-            continue;
-        }
-        if out.len() <= n {
-            return Read::Long;
-        }
-        out[n] = s.octet;
-        n += 1;
     }
     if s.whole() {
-        return Read::Octets(n);
+        return Ok(n);
     }
-    Read::Bad {
-        at: i,
-        why: Why::BASE64,
-    }
+    Err(Unread::Bad {
+        at: text.len(),
+        why: Why::Base64,
+    })
 }

@@ -2,9 +2,9 @@ pub mod Block
 pub mod Exactly
 pub mod Sizes
 pub mod Faults
-pub mod Places
+pub mod Parts
+pub mod PartsLaws
 pub mod Together
-pub mod PlacesLaws
 pub mod Holding
 pub mod NameLaws
 pub mod Parse

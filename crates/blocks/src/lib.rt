@@ -1,15 +1,19 @@
 // Blocks: where the fields of a block's body stand (RULES B1; in carrier 1 the body is one instance after its length).
-// A body is split where it lies: the answer holds offsets and lengths, and nothing is copied. The faults given here are those of the
+// A body is split where it lies: the answer holds slices of it, and nothing is copied. The faults given here are those of the
 // layout: a field past the end, and what is no padding. What priority, name, addresses and parameters may be is not looked at here.
 #![tactic(auto)]
 
-ghost use Rattle.std.specs.Prelude.{◌≡◌, true, ◌+◌, ◌≤◌, ◌<◌, length};
-ghost use Rattle.carriers.specs.Carriers.{length_width, as_text};
+ghost use Rattle.std.specs.Prelude.{◌≡◌, true, ◌+◌, ◌^◌, ◌≤◌, ◌<◌, MatchResult};
+ghost use Rattle.numbers.specs.declared.Fault.TheVariants.{Field};
+ghost use Rattle.octets.specs.Fields.{part, counted};
+ghost use Rattle.carriers.specs.Carriers.{as_text};
 ghost use Rattle.carriers.specs.declared.Carrier.TheVariants.{Router};
-ghost use Rattle.blocks.specs.Parse.{is_padding, after_name, after_name_padded, parse};
-ghost use Rattle.blocks.specs.Places.{Named, past_name, told, Inside, Ranged};
+ghost use Rattle.blocks.specs.Block.{name_only, name_at};
+ghost use Rattle.blocks.specs.Parse.{short, is_padding, parse};
+ghost use Rattle.blocks.specs.Parts.{fields_in, parsed_in, Ranged, Named, Stops, Takes, Counts};
 
 use carriers::Carrier;
+use numbers::Fault;
 
 // What a record says in numbers beside its parts: priority, lifetime (0 but in carrier 3), and whether it has the full form (mode 1) or a
 // name only (mode 0).
@@ -20,32 +24,18 @@ pub struct Head {
     pub full: bool,
 }
 
-// Where the fields of a body stand, or its fault.
+// The parts of a record as they lie in a body or a sheet: its numbers, and the octets of name, addresses and parameters. A name only (`head.full`
+// is false) has neither addresses nor parameters: both are empty.
 #[derive(Clone, Copy)]
-pub enum Places {
-    Bad {
-        fault: usize,
-    },
-    NameOnly {
-        priority: usize,
-        lifetime: usize,
-        name: usize,
-        nlen: usize,
-    },
-    Full {
-        priority: usize,
-        lifetime: usize,
-        name: usize,
-        nlen: usize,
-        addresses: usize,
-        alen: usize,
-        parameters: usize,
-        plen: usize,
-    },
+pub struct Parts<'a> {
+    pub head: Head,
+    pub name: &'a [u8],
+    pub addresses: &'a [u8],
+    pub parameters: &'a [u8],
 }
 
 // Octets of a priority, with which every body begins.
-const PRIORITY: usize = 2;
+pub const PRIORITY: usize = 2;
 
 // Carrier 3: octets of a length; where the ADN length stands, after the lifetime, and where the name does.
 const LENGTH: usize = 2;
@@ -59,203 +49,137 @@ const ATTRIBUTE_LENGTH: usize = PRIORITY + 1;
 
 const ATTRIBUTE_ADDRESSES: usize = ATTRIBUTE_LENGTH + 1;
 
-// A field runs past the body's end.
-const SHORT: Places = Places::Bad {
-    fault: numbers::Fault::FIELD,
-};
+impl<'a> Parts<'a> {
+    // Of a name only.
+    fn alone(priority: usize, lifetime: usize, name: &'a [u8]) -> Parts<'a>
+        ensures { fields_in result ≡ name_only priority lifetime name.now }
+    {
+        let none = &name[..0];
+        Parts {
+            head: Head {
+                priority,
+                lifetime,
+                full: false,
+            },
+            name,
+            addresses: none,
+            parameters: none,
+        }
+    }
+}
 
-// What should be padding is not 0 to 7 zeros.
-const UNPADDED: Places = Places::Bad {
-    fault: numbers::Fault::PADDING,
-};
+// The first n octets and what follows them, or 20 where there are fewer.
+fn part(l: &[u8], n: usize) -> Result<(&[u8], &[u8]), Fault>
+    ensures { MatchResult result (λ p. Takes n l.now p.0.now p.1.now) (λ k. (k ≡ Field) × Stops (part short n l.now)) }
+{
+    l.split_at_checked(n).ok_or(Fault::Field)
+}
+
+// Octets after their count, a number of `w` octets, and what follows them.
+fn counted(l: &[u8], w: usize) -> Result<(&[u8], &[u8]), Fault>
+    requires { (0 < w) × (w ≤ 2) }
+    ensures { MatchResult result (λ p. Counts w l.now p.0.now p.1.now) (λ k. (k ≡ Field) × Stops (counted short w l.now)) }
+{
+    let (count, rest) = part(l, w)?;
+    part(rest, octets::get_number(count, 0, w))
+}
 
 // Whether the octets are padding: 0 to 7 zeros.
 fn padding(rest: &[u8]) -> bool
     ensures { result ≡ is_padding rest.now }
 {
-    if rest.len() < Carrier::UNIT {
-        return octets::zeros(rest);
-    }
-    false
+    rest.len() < Carrier::UNIT && octets::zeros(rest)
 }
 
 // A body of carrier 1 or 2.
-fn named(carrier: Carrier, body: &[u8]) -> Places
+fn named(carrier: Carrier, body: &[u8]) -> Result<Parts<'_>, Fault>
     requires { Named carrier }
-    ensures result_value { told body.now result ≡ parse carrier body.now }
-    ensures inside { Inside body.now result }
-    ensures ranged { Ranged carrier result }
+    ensures result_value { parsed_in result ≡ parse carrier body.now }
+    ensures ranged { Ranged carrier body.now result }
 {
-    let n = body.len();
     let w = carrier.length_width();
-    let name = PRIORITY + w;
-    if n < name {
-        return SHORT;
-    }
+    let (_, rest) = part(body, PRIORITY + w)?;
     let priority = octets::get16(body, 0);
-    let nlen = octets::get_number(body, PRIORITY, w);
-    if n - name < nlen {
-        return SHORT;
+    let (name, rest) = part(rest, octets::get_number(body, PRIORITY, w))?;
+    if rest.is_empty() {
+        return Ok(Parts::alone(priority, 0, name));
     }
-    let a = name + nlen;
-    let left = n - a;
-    if left == 0 {
-        return Places::NameOnly {
-            priority,
-            lifetime: 0,
-            name,
-            nlen,
-        };
-    }
-    after_name(carrier, body, priority, nlen)
-}
-
-// The full form in carriers 1 and 2, from the address length on.
-fn after_name(carrier: Carrier, body: &[u8], priority: usize, nlen: usize) -> Places
-    requires named { Named carrier }
-    requires nlen_in_bounds { 2 + length_width carrier + nlen < length body.now }
-    requires priority_bound { priority < 65536 }
-    ensures result_value { told body.now result ≡ past_name (2 + length_width carrier) nlen body.now (after_name carrier priority 0) }
-    ensures inside { Inside body.now result }
-    ensures ranged { Ranged carrier result }
-{
-    let n = body.len();
-    let w = carrier.length_width();
-    let name = PRIORITY + w;
-    let a = name + nlen;
-    let left = n - a;
-    if left < w {
-        return SHORT;
-    }
-    let alen = octets::get_number(body, a, w);
-    let addresses = a + w;
-    if n - addresses < alen {
-        return SHORT;
-    }
-    let parameters = addresses + alen;
-    let plen = n - parameters;
-    Places::Full {
+    let (addresses, parameters) = counted(rest, w)?;
+    let head = Head {
         priority,
         lifetime: 0,
+        full: true,
+    };
+    Ok(Parts {
+        head,
         name,
-        nlen,
         addresses,
-        alen,
         parameters,
-        plen,
-    }
+    })
 }
 
 // A body of carrier 3.
-fn router(body: &[u8]) -> Places
-    ensures result_value { told body.now result ≡ parse Router body.now }
-    ensures inside { Inside body.now result }
-    ensures ranged { Ranged Router result }
+fn router(body: &[u8]) -> Result<Parts<'_>, Fault>
+    ensures result_value { parsed_in result ≡ parse Router body.now }
+    ensures ranged { Ranged Router body.now result }
 {
-    let n = body.len();
-    let name = ROUTER_NAME;
-    if n < name {
-        return SHORT;
-    }
+    let (_, rest) = part(body, ROUTER_NAME)?;
     let priority = octets::get16(body, 0);
     let lifetime = octets::get32(body, PRIORITY);
-    let nlen = octets::get16(body, ROUTER_LENGTH);
-    if n - name < nlen {
-        return SHORT;
-    }
-    let a = name + nlen;
-    let left = n - a;
-    if left < Carrier::UNIT {
-        if padding(&body[a..]) {
-            return Places::NameOnly {
-                priority,
-                lifetime,
-                name,
-                nlen,
-            };
+    let (name, rest) = part(rest, octets::get16(body, ROUTER_LENGTH))?;
+    if rest.len() < Carrier::UNIT {
+        if padding(rest) {
+            return Ok(Parts::alone(priority, lifetime, name));
         }
-        return UNPADDED;
+        return Err(Fault::Padding);
     }
-    after_name_padded(body, priority, lifetime, nlen)
-}
-
-// The full form in carrier 3, from the address length on.
-fn after_name_padded(body: &[u8], priority: usize, lifetime: usize, nlen: usize) -> Places
-    requires nlen_in_bounds { 8 + nlen + 8 ≤ length body.now }
-    requires priority_bound { (priority < 65536) × (lifetime < 4294967296) }
-    ensures result_value { told body.now result ≡ past_name 8 nlen body.now (after_name_padded priority lifetime) }
-    ensures inside { Inside body.now result }
-    ensures ranged { Ranged Router result }
-{
-    let n = body.len();
-    let name = ROUTER_NAME;
-    let a = name + nlen;
-    let alen = octets::get16(body, a);
-    let addresses = a + LENGTH;
-    if n - addresses < alen + LENGTH {
-        return SHORT;
+    let (addresses, rest) = counted(rest, LENGTH)?;
+    let (parameters, rest) = counted(rest, LENGTH)?;
+    if !padding(rest) {
+        return Err(Fault::Padding);
     }
-    let b = addresses + alen;
-    let plen = octets::get16(body, b);
-    let parameters = b + LENGTH;
-    if n - parameters < plen {
-        return SHORT;
-    }
-    let end = parameters + plen;
-    if padding(&body[end..]) {
-        return Places::Full {
-            priority,
-            lifetime,
-            name,
-            nlen,
-            addresses,
-            alen,
-            parameters,
-            plen,
-        };
-    }
-    UNPADDED
+    let head = Head {
+        priority,
+        lifetime,
+        full: true,
+    };
+    Ok(Parts {
+        head,
+        name,
+        addresses,
+        parameters,
+    })
 }
 
 // A body of carrier 4 or 5.
-fn attribute(carrier: Carrier, body: &[u8]) -> Places
+fn attribute(carrier: Carrier, body: &[u8]) -> Result<Parts<'_>, Fault>
     requires { as_text carrier ≡ true }
-    ensures result_value { told body.now result ≡ parse carrier body.now }
-    ensures inside { Inside body.now result }
-    ensures ranged { Ranged carrier result }
+    ensures result_value { parsed_in result ≡ parse carrier body.now }
+    ensures ranged { Ranged carrier body.now result }
 {
-    let n = body.len();
-    let addresses = ATTRIBUTE_ADDRESSES;
-    if n < addresses {
-        return SHORT;
-    }
+    let (_, rest) = part(body, ATTRIBUTE_ADDRESSES)?;
     let priority = octets::get16(body, 0);
-    let count = octets::wide(body[PRIORITY]);
-    let nlen = octets::wide(body[ATTRIBUTE_LENGTH]);
-    let alen = count * carrier.address_width();
-    if n - addresses < alen + nlen {
-        return SHORT;
-    }
-    let name = addresses + alen;
-    let parameters = name + nlen;
-    Places::Full {
+    let count = usize::from(body[PRIORITY]);
+    let (addresses, rest) = part(rest, count * carrier.address_width())?;
+    let (name, parameters) = part(rest, usize::from(body[ATTRIBUTE_LENGTH]))?;
+    let head = Head {
         priority,
         lifetime: 0,
+        full: true,
+    };
+    Ok(Parts {
+        head,
         name,
-        nlen,
         addresses,
-        alen,
         parameters,
-        plen: n - parameters,
-    }
+    })
 }
 
-// Where the fields of a body stand, or its fault. (`&body[..]`, and one arm for each carrier so that LLVM knows its widths where they are
-// used: docs/DESIGN.md, Speed.)
-pub fn split(carrier: Carrier, body: &[u8]) -> Places
-    ensures result_value { told body.now result ≡ parse carrier body.now }
-    ensures inside { Inside body.now result }
-    ensures ranged { Ranged carrier result }
+// The parts of a body, or its fault. (`&body[..]`, and one arm for each carrier so that LLVM knows its widths where they are used:
+// docs/DESIGN.md, Speed.)
+pub fn split(carrier: Carrier, body: &[u8]) -> Result<Parts<'_>, Fault>
+    ensures result_value { parsed_in result ≡ parse carrier body.now }
+    ensures ranged { Ranged carrier body.now result }
 {
     match carrier {
         Carrier::Dhcp4 => named(carrier, &body[..]),
@@ -264,4 +188,15 @@ pub fn split(carrier: Carrier, body: &[u8]) -> Places
         Carrier::Ike4 => attribute(carrier, &body[..]),
         Carrier::Ike6 => attribute(carrier, &body[..]),
     }
+}
+
+// Where the name stands in a body with m octets of addresses (they stand before it in carriers 4 and 5).
+pub fn name_at(c: Carrier, m: usize) -> usize
+    requires { m < 2 ^ 63 }
+    ensures { result ≡ name_at c m }
+{
+    if c.as_text() {
+        return ATTRIBUTE_ADDRESSES + m;
+    }
+    PRIORITY + c.lifetime_width() + c.length_width()
 }

@@ -13,7 +13,6 @@ ghost use Rattle.boundaries.specs.Filling.{all_filled};
 ghost use Rattle.boundaries.specs.Cases.{end_of, read_end, case_end, Past};
 
 use answers::Result;
-use octets::{lesser, wide};
 use reading::Reading;
 use std::io::{Print, Read};
 
@@ -29,37 +28,19 @@ const PART: usize = 2048;
 // Octets of a room and a length.
 const SIZES: usize = 8;
 
-// Where a case ends, if a whole one stands there.
-#[derive(Clone, Copy)]
-enum End {
-    At(usize),
-    Nowhere,
-}
-
 // ---- buffers
 
 fn fill(out: &mut [u8])
     ensures { all_filled out.new ≡ true }
 {
-    let mut i: usize = 0;
-    while i < out.len() {
-        out[i] = FILLING;
-        i += 1;
-    }
+    out.fill(FILLING);
 }
 
 // Whether each octet is as `fill` leaves it.
 fn is_filled(s: &[u8]) -> bool
     ensures { result ≡ all_filled s.now }
 {
-    let mut i: usize = 0;
-    while i < s.len() {
-        if s[i] != FILLING {
-            return false;
-        }
-        i += 1;
-    }
-    true
+    s.iter().all(|x| *x == FILLING)
 }
 
 // ---- lines
@@ -83,17 +64,14 @@ fn print_part<P: Print>(to: &P, s: &[u8]) {
 
 // Prints octets in hexadecimal, part by part.
 fn print_octets<P: Print>(to: &P, s: &[u8]) {
-    let mut i = 0;
-    while i < s.len() {
-        let end = i + lesser(s.len() - i, PART);
-        print_part(to, &s[i..end]);
-        i = end;
+    for part in s.chunks(PART) {
+        print_part(to, part);
     }
 }
 
 // Prints octets in hexadecimal, after a space, or `-` where there are none.
 fn print_result<P: Print>(to: &P, s: &[u8]) {
-    if s.len() == 0 {
+    if s.is_empty() {
         print(to, b" -");
         return;
     }
@@ -140,7 +118,7 @@ fn print_nowhere<P: Print>(to: &P) {
 // Reads an area into the buffer `out`, and prints the line.
 fn run_read<P: Print>(to: &P, carrier: u8, area: &[u8], out: &mut [u8]) {
     fill(out);
-    let r = reading::read(wide(carrier), area, out);
+    let r = reading::read(usize::from(carrier), area, out);
     print_reading(to, r);
     print_buffer(to, out, r.length);
 }
@@ -154,77 +132,70 @@ fn run_write<P: Print>(to: &P, sheet: &[u8], out: &mut [u8]) {
 }
 
 // Where the case ends whose room and length stand from `at` on.
-fn end_of(s: &[u8], at: usize) -> End
+fn end_of(s: &[u8], at: usize) -> Option<usize>
     requires { at ≤ length s.now }
     ensures value { result ≡ end_of s.now at }
     ensures past { Past (at + 8) s.now result }
 {
     if s.len() - at < SIZES {
-        return End::Nowhere;
+        return None;
     }
     let start = at + SIZES;
     let long = octets::get32(s, at + 4);
     if s.len() - start < long {
-        return End::Nowhere;
+        return None;
     }
-    let end = start + long;
-    End::At(end)
+    Some(start + long)
 }
 
 // Runs the case of reading that stands from its carrier, at `at`, on.
-fn read_case<P: Print>(to: &P, s: &[u8], at: usize, out: &mut [u8]) -> End
+fn read_case<P: Print>(to: &P, s: &[u8], at: usize, out: &mut [u8]) -> Option<usize>
     requires { at ≤ length s.now }
     ensures value { result ≡ read_end s.now at }
     ensures past { Past at s.now result }
 {
     if s.len() == at {
-        return End::Nowhere;
+        return None;
     }
     let sizes = at + 1;
-    let End::At(end) = end_of(s, sizes) else {
-        return End::Nowhere;
-    };
-    let room = lesser(octets::get32(s, sizes), out.len());
+    let end = end_of(s, sizes)?;
+    let room = octets::get32(s, sizes).min(out.len());
     let start = sizes + SIZES;
     run_read(to, s[at], &s[start..end], &mut out[..room]);
-    End::At(end)
+    Some(end)
 }
 
 // Runs the case of writing that stands from its room, at `at`, on.
-fn write_case<P: Print>(to: &P, s: &[u8], at: usize, out: &mut [u8]) -> End
+fn write_case<P: Print>(to: &P, s: &[u8], at: usize, out: &mut [u8]) -> Option<usize>
     requires { at ≤ length s.now }
     ensures value { result ≡ end_of s.now at }
     ensures past { Past at s.now result }
 {
-    let End::At(end) = end_of(s, at) else {
-        return End::Nowhere;
-    };
-    let room = lesser(octets::get32(s, at), out.len());
+    let end = end_of(s, at)?;
+    let room = octets::get32(s, at).min(out.len());
     let start = at + SIZES;
     run_write(to, &s[start..end], &mut out[..room]);
-    End::At(end)
+    Some(end)
 }
 
 // Runs the case that stands from its letter, at `at`, on.
-fn run_case<P: Print>(to: &P, s: &[u8], at: usize, out: &mut [u8]) -> End
+fn run_case<P: Print>(to: &P, s: &[u8], at: usize, out: &mut [u8]) -> Option<usize>
     requires { at < length s.now }
     ensures value { result ≡ case_end s.now at }
     ensures past { Past (at + 1) s.now result }
 {
-    if s[at] == b'r' {
-        return read_case(to, s, at + 1, out);
+    match s[at] {
+        b'r' => read_case(to, s, at + 1, out),
+        b'w' => write_case(to, s, at + 1, out),
+        _ => None,
     }
-    if s[at] == b'w' {
-        return write_case(to, s, at + 1, out);
-    }
-    End::Nowhere
 }
 
 // Runs the cases of s with buffers that are parts of `out`.
 fn run<P: Print>(to: &P, s: &[u8], out: &mut [u8]) {
     let mut at: usize = 0;
     while at < s.len() {
-        let End::At(end) = run_case(to, s, at, out) else {
+        let Some(end) = run_case(to, s, at, out) else {
             print_nowhere(to);
             return;
         };
@@ -232,7 +203,7 @@ fn run<P: Print>(to: &P, s: &[u8], out: &mut [u8]) {
     }
 }
 
-// Reads until `buf` is full or the input ends.
+// Reads until `buf` is full or the input ends. (`vectors` has the same: no crate below the two reads input, and one for this alone is no plainer.)
 fn read_full<F: Read>(from: &mut F, buf: &mut [u8]) -> std::io::Result<usize>
     ensures { IfOk result (λ n. IsPrefixLen n buf.new) }
 {

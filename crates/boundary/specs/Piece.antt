@@ -1,13 +1,12 @@
 -- What is said of a boundary piece (RULES K1 to K12): its octets, what reading them and writing their sheet give, and the sentences
 -- that its row adds in words; and the statement of an entry. Assumes nothing: these are definitions.
-use Rattle.std.specs.Prelude.{◌≡◌, List, [], map, ℕ, ◌-◌, ◌≤◌, ◌<◌, length, take, drop}
+use Rattle.std.specs.Prelude.{◌≡◌, List, [], map, ℕ, ◌-◌, ◌≤◌, ◌<◌, length, take, drop, Option, Some, None}
 use Rattle.octets.specs.Numbers.{number_at}
 use Rattle.octets.specs.Lists.{All, flat}
 use Rattle.octets.specs.Over.{over}
 use Rattle.numbers.specs.Refusal as refusal
+use Rattle.carriers.specs.declared.Carrier.{Carrier}
 use Rattle.carriers.specs.declared.Carrier.TheVariants.{Dhcp4}
-use Rattle.carriers.specs.declared.Chosen.{Chosen}
-use Rattle.carriers.specs.declared.Chosen.TheVariants.{Known, Unknown}
 use Rattle.carriers.specs.Carriers.{chosen_of}
 use Rattle.frames.specs.Frame.{Framed, framed, frame}
 use Rattle.frames.specs.Frame as area
@@ -110,9 +109,9 @@ Returns p again = IsWritten p p.area
 Returns p (others bs) = IsWritten p bs × IsOther p
 
 -- a sheet of the carrier with this number, with these records
-abbrev pub sheet_in : Chosen → List Fields → Taken
-sheet_in Unknown rs = taking.refuse refusal.sheet_carrier
-sheet_in (Known c) rs = taking.sheet c rs
+abbrev pub sheet_in : Option Carrier → List Fields → Taken
+sheet_in None rs = taking.refuse refusal.sheet_carrier
+sheet_in (Some c) rs = taking.sheet c rs
 
 -- reading, writing, the records of the sheet, and each sentence
 pub record Holds (p : Piece) : Type 0 where

@@ -1,5 +1,5 @@
 -- An entry that passes the test is as it says: one law for each test, and `good-holds` for all of them. Assumes nothing.
-use Rattle.std.specs.Prelude.{◌≡◌, refl, Bool, true, false, cond, not, ◌&&◌, List, [], ◌∷◌, ℕ, ltb, length, take, drop}
+use Rattle.std.specs.Prelude.{◌≡◌, refl, Bool, true, false, cond, not, ◌&&◌, List, [], ◌∷◌, ℕ, ltb, length, take, drop, Some}
 use Rattle.std.proofs.Common.{sym, ap, ◌∙◌, true≢false, arith, eqb-true, lt-ltb, le-ltb}
 use Rattle.std.proofs.lemmas.Bool.{false≢true, not-true}
 use Rattle.std.proofs.Math.Bool.{and-eq-true_iff}
@@ -7,7 +7,6 @@ use Rattle.octets.specs.Lists.{All, same}
 use Rattle.octets.specs.Over.{over}
 use Rattle.numbers.specs.Refusal as refusal
 use Rattle.carriers.specs.declared.Carrier.{Carrier}
-use Rattle.carriers.specs.declared.Chosen.TheVariants.{Known}
 use Rattle.carriers.specs.Carriers.{chosen_of, number_of}
 use Rattle.carriers.proofs.CarriersLaws.{chosen-number}
 use Rattle.blocks.specs.Block.{Fields, head_with, fields_of}
@@ -70,7 +69,7 @@ records-true (x ∷ xs) (y ∷ ys) e =
     cc
 
 number_same : (c d : Carrier) → number_of c ≡ number_of d → c ≡ d
-number_same c d e = let k : Known c ≡ Known d = sym (chosen-number c) ∙ ap chosen_of e ∙ chosen-number d in cc
+number_same c d e = let k : Some c ≡ Some d = sym (chosen-number c) ∙ ap chosen_of e ∙ chosen-number d in cc
 
 taken_true : (a b : Taken) → same_taken a b ≡ true → a ≡ b
 taken_true (taking.refuse k) (taking.refuse j) e = ap taking.refuse (eqb-true k j e)

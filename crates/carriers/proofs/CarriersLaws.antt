@@ -1,13 +1,11 @@
 -- What holds of every row of the table, that each carrier has a number of its own, and that the two conversions of lengths are inverse.
 -- Assumes nothing.
-use Rattle.std.specs.Prelude.{◌≡◌, refl, Bool, true, false, cond, ℕ, ◌*◌, ◌/◌, ◌%◌, ◌^◌, ◌≤◌, ◌<◌, eqb, get_or}
+use Rattle.std.specs.Prelude.{◌≡◌, refl, Bool, true, false, cond, ℕ, ◌*◌, ◌/◌, ◌%◌, ◌^◌, ◌≤◌, ◌<◌, eqb, get_or, Option, Some, None}
 use Rattle.std.proofs.Common.{sym, ap, ◌∙◌, true≢false, inl, inr, mul-le-mul, div-add-mod', arith, eqb-true}
 use Rattle.std.proofs.lemmas.Bool.{false≢true}
 use Rattle.octets.specs.Numbers.{be}
 use Rattle.carriers.specs.declared.Carrier.{Carrier}
 use Rattle.carriers.specs.declared.Carrier.TheVariants.{Dhcp4, Dhcp6, Router, Ike4, Ike6}
-use Rattle.carriers.specs.declared.Chosen.{Chosen}
-use Rattle.carriers.specs.declared.Chosen.TheVariants.{Known, Unknown}
 use Rattle.carriers.specs.declared.Eights.{Eights}
 use Rattle.carriers.specs.declared.Form.{Form}
 use Rattle.carriers.specs.declared.Form.TheVariants.{Wire, Padded, Text}
@@ -17,7 +15,7 @@ use Rattle.carriers.specs.Told.{Chooses}
 
 -- a number names its carrier, and has room in one octet
 record Numbered (c : Carrier) : Type 0 where
-  pub known : chosen_of (number_of c) ≡ Known c
+  pub known : chosen_of (number_of c) ≡ Some c
   pub octet : number_of c < 256
 
 numbered : (c : Carrier) → Numbered c
@@ -28,7 +26,7 @@ numbered Router = record { known = refl; octet = omega arith }
 numbered Ike4 = record { known = refl; octet = omega arith }
 numbered Ike6 = record { known = refl; octet = omega arith }
 
-pub chosen-number : (c : Carrier) → chosen_of (number_of c) ≡ Known c
+pub chosen-number : (c : Carrier) → chosen_of (number_of c) ≡ Some c
 chosen-number c = (numbered c).known
 
 pub number-room : (c : Carrier) → number_of c < 256
@@ -38,35 +36,35 @@ number-room c = (numbered c).octet
 pub number-octet : (c : Carrier) → number_of c % 256 ≡ number_of c
 number-octet c = omega (arith, number-room c)
 
-unknown-known : {c : Carrier} → Unknown ≡ Known c → ⊥
+unknown-known : {c : Carrier} → None ≡ Some c → ⊥
 unknown-known e = let z : ◌≡◌ {A = ℕ} 0 1 = cc in omega arith
 
 -- a number names at most one carrier
-pub number-chosen : (n : ℕ) (c : Carrier) → chosen_of n ≡ Known c → n ≡ number_of c
+pub number-chosen : (n : ℕ) (c : Carrier) → chosen_of n ≡ Some c → n ≡ number_of c
 unfolding chosen_of
 number-chosen n c =
     is 1 Dhcp4 refl (is 2 Dhcp6 refl (is 3 Router refl (is 4 Ike4 refl (is 5 Ike6 refl (λ e. absurd (unknown-known e))))))
   where
-    is : (k : ℕ) (d : Carrier) → number_of d ≡ k → {o : Chosen} → (o ≡ Known c → n ≡ number_of c)
-        → cond (eqb n k) (Known d) o ≡ Known c → n ≡ number_of c
+    is : (k : ℕ) (d : Carrier) → number_of d ≡ k → {o : Option Carrier} → (o ≡ Some c → n ≡ number_of c)
+        → cond (eqb n k) (Some d) o ≡ Some c → n ≡ number_of c
     is k d i {o} h = go (eqb n k) refl
       where
-        go : (b : Bool) → eqb n k ≡ b → cond b (Known d) o ≡ Known c → n ≡ number_of c
+        go : (b : Bool) → eqb n k ≡ b → cond b (Some d) o ≡ Some c → n ≡ number_of c
         go true t e = let j : d ≡ c = cc in eqb-true n k t ∙ sym i ∙ ap number_of j
         go false t e = h e
 
 -- a number that no carrier has chooses none
-pub chosen-unknown : (n : ℕ) → ((c : Carrier) → number_of c ≡ n → ⊥) → chosen_of n ≡ Unknown
+pub chosen-unknown : (n : ℕ) → ((c : Carrier) → number_of c ≡ n → ⊥) → chosen_of n ≡ None
 chosen-unknown n never = go (chosen_of n) refl
   where
-    go : (o : Chosen) → chosen_of n ≡ o → o ≡ Unknown
-    go Unknown e = refl
-    go (Known c) e = absurd (never c (sym (number-chosen n c e)))
+    go : (o : Option Carrier) → chosen_of n ≡ o → o ≡ None
+    go None e = refl
+    go (Some c) e = absurd (never c (sym (number-chosen n c e)))
 
 -- the carrier that was chosen has the number, or none has it, whatever number refuses
-pub chosen-chooses : (none n : ℕ) (r : Chosen) → r ≡ chosen_of n → Chooses none n r
-chosen-chooses none n (Known c) e = inl (refl, sym (number-chosen n c (sym e)))
-chosen-chooses none n Unknown e = inr (refl, λ c q. unknown-known (e ∙ ap chosen_of (sym q) ∙ chosen-number c))
+pub chosen-chooses : (none n : ℕ) (r : Option Carrier) → r ≡ chosen_of n → Chooses none n r
+chosen-chooses none n (Some c) e = inl (refl, sym (number-chosen n c (sym e)))
+chosen-chooses none n None e = inr (refl, λ c q. unknown-known (e ∙ ap chosen_of (sym q) ∙ chosen-number c))
 
 -- code and length have one or two octets, two but in carriers 1 and 3, in which the carrier's code has room; it has no reserved bit, and is
 -- neither padding nor an end

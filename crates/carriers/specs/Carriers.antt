@@ -1,9 +1,7 @@
 -- What is said of each carrier (RULES C1, W1 to W7, B1): one table. Assumes nothing: these are definitions.
-use Rattle.std.specs.Prelude.{Bool, true, false, cond, ℕ, ◌+◌, ◌*◌, ◌/◌, ◌%◌, eqb}
+use Rattle.std.specs.Prelude.{Bool, true, false, cond, ℕ, ◌+◌, ◌*◌, ◌/◌, ◌%◌, eqb, Option, Some, None}
 use Rattle.carriers.specs.declared.Carrier.{Carrier}
 use Rattle.carriers.specs.declared.Carrier.TheVariants.{Dhcp4, Dhcp6, Router, Ike4, Ike6}
-use Rattle.carriers.specs.declared.Chosen.{Chosen}
-use Rattle.carriers.specs.declared.Chosen.TheVariants.{Known, Unknown}
 use Rattle.carriers.specs.declared.Facts.{Facts}
 use Rattle.carriers.specs.declared.Form.{Form}
 use Rattle.carriers.specs.declared.Form.TheVariants.{Wire, Padded, Text}
@@ -11,13 +9,13 @@ use Rattle.carriers.specs.declared.Octets.{Octets}
 use Rattle.carriers.specs.declared.Eights.{Eights}
 
 -- the carrier of a number (RULES C1)
-unfoldable pub chosen_of : ℕ → Chosen
+unfoldable pub chosen_of : ℕ → Option Carrier
 chosen_of n =
-    cond (eqb n 1) (Known Dhcp4)
-    (cond (eqb n 2) (Known Dhcp6)
-    (cond (eqb n 3) (Known Router)
-    (cond (eqb n 4) (Known Ike4)
-    (cond (eqb n 5) (Known Ike6) Unknown))))
+    cond (eqb n 1) (Some Dhcp4)
+    (cond (eqb n 2) (Some Dhcp6)
+    (cond (eqb n 3) (Some Router)
+    (cond (eqb n 4) (Some Ike4)
+    (cond (eqb n 5) (Some Ike6) None))))
 
 -- ---- the table
 

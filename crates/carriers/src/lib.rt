@@ -7,7 +7,7 @@ ghost use Rattle.numbers.specs.Refusal as refusal;
 ghost use Rattle.carriers.specs.Told.{Chooses};
 ghost use Rattle.carriers.specs.Carriers.{octets_of, eights_of, chosen_of, facts_of, number_of, code_of, header_of, address_width, length_width, form_of, lifetime_width, as_text};
 
-#[derive(Clone, Copy)]
+#[derive(Clone, Copy, PartialEq, Eq)]
 pub enum Carrier {
     // 1: DHCPv4 option 162 (RFC 9463 §5).
     Dhcp4,
@@ -21,15 +21,8 @@ pub enum Carrier {
     Ike6,
 }
 
-// The carrier of a number, or that there is none: 0, or 1 when read and 42 of a sheet (specs/Told).
-#[derive(Clone, Copy)]
-pub enum Chosen {
-    Known(Carrier),
-    Unknown,
-}
-
 // The form of a block's body (RULES B1).
-#[derive(Clone, Copy)]
+#[derive(Clone, Copy, PartialEq, Eq)]
 pub enum Form {
     // Carriers 1 and 2: the name in wire form, and alone or with addresses and parameters.
     Wire,
@@ -69,8 +62,7 @@ impl Octets {
     pub fn none(self) -> bool
         ensures { result ≡ eqb self.0 0 }
     {
-        let n = self.0;
-        n == 0
+        self.0 == 0
     }
 }
 
@@ -83,16 +75,14 @@ pub fn octets_of(e: Eights) -> Octets
     requires { e.0 < 65536 }
     ensures { result ≡ octets_of e }
 {
-    let units = e.0;
-    Octets(Carrier::UNIT * units)
+    Octets(Carrier::UNIT * e.0)
 }
 
 // The one place where octets become units of eight.
 pub fn eights_of(o: Octets) -> Eights
     ensures { result ≡ eights_of o }
 {
-    let n = o.0;
-    Eights(n / Carrier::UNIT)
+    Eights(o.0 / Carrier::UNIT)
 }
 
 impl Carrier {
@@ -112,27 +102,19 @@ impl Carrier {
 
     pub const IKE6: usize = 28;
 
-    // The carrier of a number.
-    pub fn of(number: usize) -> Chosen
+    // The carrier of a number, or that there is none: 0, or 1 when read and 42 of a sheet (specs/Told).
+    pub fn of(number: usize) -> Option<Carrier>
         ensures value { result ≡ chosen_of number }
         ensures chooses { Chooses refusal.carrier number result × Chooses refusal.sheet_carrier number result }
     {
-        if number == 1 {
-            return Chosen::Known(Carrier::Dhcp4);
+        match number {
+            1 => Some(Carrier::Dhcp4),
+            2 => Some(Carrier::Dhcp6),
+            3 => Some(Carrier::Router),
+            4 => Some(Carrier::Ike4),
+            5 => Some(Carrier::Ike6),
+            _ => None,
         }
-        if number == 2 {
-            return Chosen::Known(Carrier::Dhcp6);
-        }
-        if number == 3 {
-            return Chosen::Known(Carrier::Router);
-        }
-        if number == 4 {
-            return Chosen::Known(Carrier::Ike4);
-        }
-        if number == 5 {
-            return Chosen::Known(Carrier::Ike6);
-        }
-        Chosen::Unknown
     }
 
     // The table.
@@ -201,24 +183,21 @@ impl Carrier {
     pub fn number(self) -> u8
         ensures { result ≡ number_of self }
     {
-        let f = self.facts();
-        f.number
+        self.facts().number
     }
 
     // The code of the options, or the type of the attributes, that are this carrier's blocks.
     pub fn code(self) -> usize
         ensures { result ≡ code_of self }
     {
-        let f = self.facts();
-        f.code
+        self.facts().code
     }
 
     // Octets of an option's header.
     pub fn header_size(self) -> usize
         ensures { result ≡ header_of self }
     {
-        let f = self.facts();
-        let width = f.width;
+        let width = self.facts().width;
         width + width
     }
 
@@ -226,24 +205,21 @@ impl Carrier {
     pub fn address_width(self) -> usize
         ensures { result ≡ address_width self }
     {
-        let f = self.facts();
-        f.address
+        self.facts().address
     }
 
     // Octets of the ADN length, of the address length in carriers 1 to 3, and of the parameter length in carrier 3.
     pub fn length_width(self) -> usize
         ensures { result ≡ length_width self }
     {
-        let f = self.facts();
-        f.length
+        self.facts().length
     }
 
     // The form of its bodies.
     pub fn form(self) -> Form
         ensures { result ≡ form_of self }
     {
-        let f = self.facts();
-        f.form
+        self.facts().form
     }
 
     // Octets of a lifetime: only carrier 3 has one.
@@ -251,9 +227,8 @@ impl Carrier {
         ensures { result ≡ lifetime_width self }
     {
         match self.form() {
-            Form::Wire => 0,
             Form::Padded => Carrier::LIFETIME,
-            Form::Text => 0,
+            Form::Wire | Form::Text => 0,
         }
     }
 
@@ -261,10 +236,6 @@ impl Carrier {
     pub fn as_text(self) -> bool
         ensures { result ≡ as_text self }
     {
-        match self.form() {
-            Form::Wire => false,
-            Form::Padded => false,
-            Form::Text => true,
-        }
+        self.form() == Form::Text
     }
 }

@@ -24,11 +24,9 @@ pub fn put_all(out: &mut [u8], at: usize, s: &[u8]) -> usize
     ensures prefix_len { IsPrefixLen result out.new }
     ensures puts { Puts at s.now out.old result out.new }
 {
-    let mut o = octets::lesser(at, out.len());
-    let mut i = 0;
-    while i < s.len() {
-        o = put(out, o, s[i]);
-        i += 1;
+    let mut o = at.min(out.len());
+    for &b in s {
+        o = put(out, o, b);
     }
     o
 }

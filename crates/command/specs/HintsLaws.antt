@@ -1,15 +1,9 @@
 -- The laws of looking for another carrier, one for each turn of the code. Assumes nothing.
-use Rattle.std.specs.Prelude.{◌≡◌, true, false, List, ℕ, suc, ◌+◌, ◌-◌, ◌≤◌, ◌<◌, ltb}
+use Rattle.std.specs.Prelude.{◌≡◌, refl, true, false, List, ℕ, zero, suc, ◌+◌, ◌-◌, ◌≤◌, ◌<◌, ltb}
 use Rattle.std.proofs.Common.{ap, arith, eq-eqb, ne_eqb}
-use Rattle.reading.specs.declared.Reading.{Reading}
-use Rattle.command.specs.Hints.{finds, finds_in, suits_in, hint_from}
-
-module _ {r s : Reading} (e : r ≡ s) where
-  pub finds-refused : (r.number ≡ 0 → ⊥) → false ≡ finds s
-  finds-refused z = rw (ne_eqb r.number 0 z) at (ap finds e)
-
-  pub finds-told : r.number ≡ 0 → ltb r.discarded r.found ≡ finds s
-  finds-told z = rw (eq-eqb r.number 0 z) at (ap finds e)
+use Rattle.carriers.specs.Carriers.{chosen_of}
+use Rattle.carriers.specs.Told.{carrier_in}
+use Rattle.command.specs.Hints.{finds_in, suits_in, hint_from}
 
 module _ (carrier : ℕ) (area : List ℕ) (k : ℕ) where
   pub suits-own : k ≡ carrier → false ≡ suits_in k carrier area
@@ -32,3 +26,14 @@ module _ (carrier : ℕ) (area : List ℕ) (k : ℕ) where
 pub hint-none : (carrier : ℕ) (area : List ℕ) (k : ℕ) → 6 ≤ k → 0 ≡ hint_from (6 - k) k carrier area
 unfolding hint_from
 hint-none carrier area k h = let e : 6 - k ≡ 0 = omega arith in rw e
+
+-- the carrier of such a number
+pub hint-carrier : (k : ℕ) → 0 < k → k < 6 → carrier_in (chosen_of k) ≡ k
+unfolding chosen_of
+hint-carrier zero h l = absurd (omega arith)
+hint-carrier (suc zero) h l = refl
+hint-carrier (suc (suc zero)) h l = refl
+hint-carrier (suc (suc (suc zero))) h l = refl
+hint-carrier (suc (suc (suc (suc zero)))) h l = refl
+hint-carrier (suc (suc (suc (suc (suc zero))))) h l = refl
+hint-carrier (suc (suc (suc (suc (suc (suc k)))))) h l = absurd (omega arith)

@@ -1,61 +1,41 @@
 -- What each test of the command says of what is done, and that each status is one of the four. Assumes nothing.
-use Rattle.std.specs.Prelude.{◌≡◌, Bool, true, false, List, ℕ, min, eqb, length, take, ℤ, pos}
-use Rattle.std.proofs.Common.{sym, subst, eq-eqb, ne_eqb}
-use Rattle.carriers.specs.declared.Carrier.{Carrier}
-use Rattle.carriers.specs.declared.Chosen.TheVariants.{Known, Unknown}
-use Rattle.carriers.specs.Carriers.{chosen_of}
+use Rattle.std.specs.Prelude.{◌≡◌, refl, Bool, true, false, List, ℕ, min, length, take, leb, ℤ, pos, Option, Some, None}
+use Rattle.std.proofs.Common.{sym, subst, ◌∙◌, arith, take_all}
+use Rattle.std.proofs.Math.Path.{ap}
+use borrow.Author.Tests.{leb-true, leb-false}
+use Rattle.carriers.specs.Told.{carrier_in}
 use Rattle.vetting.specs.Vetting.{vet_of}
 use Rattle.vetting.specs.Vetting as vetting
-use Rattle.inputs.specs.declared.Read.{Read}
-use Rattle.inputs.specs.declared.Read.TheVariants.{Octets, Bad, Long}
+use Rattle.inputs.specs.Read.{Read, Octets, Bad, Long}
 use Rattle.decoding.specs.Decoding.{Answer, Answered}
-use Rattle.decoding.specs.Decoding as decoding
-use Rattle.decoding.specs.DecodingLaws.{take-some}
-use Rattle.arguments.specs.declared.Asked.{Asked}
-use Rattle.arguments.specs.Command as command
-use Rattle.files.specs.Status.{Delivered, Exited, Answers, refused, failed}
+use Rattle.arguments.specs.declared.asked.Asked.{Asked}
+use Rattle.arguments.specs.declared.Command.{Command}
+use Rattle.arguments.specs.declared.Command.TheVariants as command
+use Rattle.files.specs.Status.{Exited, refused, failed}
 use Rattle.files.specs.StatusLaws.{failed-exited, refused-exited, delivered-exited, answers-exited}
-use Rattle.command.specs.Numbers.{reading_of, ReadAs, write_number, Shows, performing, Performs, input_of, takes, Takes}
+use Rattle.command.specs.Numbers.{reading_of, write_number, performing, Performs, takes, Takes}
 use Rattle.command.specs.NumbersLaws.{read-exited, shows-exited}
 
 -- ---- by the command
 
-module _ (a : Asked) (s : List ℕ) where
-  pub performs-read : a.command ≡ command.read → (x : ℤ) → ReadAs a.strict (reading_of a.carrier s) x → Performs a s x
-  performs-read e x h = rw (eq-eqb a.command command.read e) h
-
-  module _ (n : a.command ≡ command.read → ⊥) where
-    pub performs-write : a.command ≡ command.write → (x : ℤ) → Answers (write_number s) x → Performs a s x
-    performs-write e x h = rw (ne_eqb a.command command.read n, eq-eqb a.command command.write e) h
-
-    module _ (m : a.command ≡ command.write → ⊥) where
-      pub performs-show : a.command ≡ command.show → (x : ℤ) → Shows (vetting.told (vet_of s)) x → Performs a s x
-      performs-show e x h = rw (ne_eqb a.command command.read n, ne_eqb a.command command.write m, eq-eqb a.command command.show e) h
-
-      pub performs-octets : (a.command ≡ command.show → ⊥) → (x : ℤ) → Delivered x → Performs a s x
-      performs-octets k x h = rw (ne_eqb a.command command.read n, ne_eqb a.command command.write m, ne_eqb a.command command.show k) h
-
-performing-exited : (b w k : Bool) (a : Asked) (s : List ℕ) (r : ℤ) → performing b w k a s r → Exited r
-performing-exited true w k a s r h = read-exited a.strict (reading_of a.carrier s) r h
-performing-exited false true k a s r h = answers-exited (write_number s) r h
-performing-exited false false true a s r h = shows-exited (vetting.told (vet_of s)) r h
-performing-exited false false false a s r h = delivered-exited r h
+performing-exited : (c : Option Command) (a : Asked) (s : List ℕ) (r : ℤ) → performing c a s r → Exited r
+performing-exited None a s r h = delivered-exited r h
+performing-exited (Some command.Read) a s r h = read-exited a.strict (reading_of (carrier_in a.carrier) s) r h
+performing-exited (Some command.Write) a s r h = answers-exited (write_number s) r h
+performing-exited (Some command.Show) a s r h = shows-exited (vetting.told (vet_of s)) r h
+performing-exited (Some command.Octets) a s r h = delivered-exited r h
+performing-exited (Some command.Help) a s r h = delivered-exited r h
+performing-exited (Some command.Version) a s r h = delivered-exited r h
 
 -- ---- by the input
 
-module _ (a : Asked) (text out : List ℕ) where
-  pub input-plain : a.value ≡ false → decoding.read_of a.form text out ≡ input_of a text out
-  unfolding input_of
-  input-plain v = rw v
-
-  module _ (v : a.value ≡ true) where
-    pub input-valued : (c : Carrier) → chosen_of a.carrier ≡ Known c → decoding.values_of a.form c text out ≡ input_of a text out
-    unfolding input_of
-    input-valued c e = rw (v, e)
-
-    pub input-unknown : chosen_of a.carrier ≡ Unknown → decoding.read_of a.form text out ≡ input_of a text out
-    unfolding input_of
-    input-unknown e = rw (v, e)
+-- no more octets are taken than there are
+take-some : (k e : ℕ) (l : List ℕ) → e ≡ min k (length l) → take e l ≡ take k l
+take-some k e l m = go (leb k (length l)) refl
+  where
+    go : (b : Bool) → leb k (length l) ≡ b → take e l ≡ take k l
+    go true h = let q : e ≡ k = omega (arith, leb-true k (length l) h) in ap (λ (n : ℕ). take n l) q
+    go false h = let q = leb-false k (length l) h in take_all e l (omega arith) ∙ sym (take_all k l (omega arith))
 
 pub answered-as : {i j : Answer} {r : Read} {out' : List ℕ} → i ≡ j → Answered i r out' → Answered j r out'
 answered-as {i} {j} {r} {out'} e h = subst (λ (k : Answer). Answered k r out') e h
@@ -79,7 +59,7 @@ module _ (a : Asked) {i : Answer} {r : Read} {out' : List ℕ} (h : Answered i r
 
 takes-read : (a : Asked) (k : Read) (out : List ℕ) (x : ℤ) → takes a k out x → Exited x
 takes-read a (Octets n) out x h =
-    performing-exited (eqb a.command command.read) (eqb a.command command.write) (eqb a.command command.show) a (take n out) x h
+    performing-exited a.command a (take n out) x h
 takes-read a (Bad at w) out x h = failed-exited x h
 takes-read a Long out x h = refused-exited x h
 

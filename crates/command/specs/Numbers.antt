@@ -1,25 +1,23 @@
 -- By which number the command refuses octets, what it takes its input for (docs/COMMAND.md, "Input"), and the exit status of each. Assumes nothing:
 -- these are definitions.
-use Rattle.std.specs.Prelude.{◌≡◌, Bool, true, false, cond, ◌&&◌, List, ℕ, eqb, ℤ, pos, take}
+use Rattle.std.specs.Prelude.{◌≡◌, Bool, true, false, cond, ◌&&◌, List, ℕ, eqb, ℤ, pos, take, Option, Some, None}
 use Rattle.numbers.specs.Limit as limit
-use Rattle.carriers.specs.declared.Chosen.{Chosen}
-use Rattle.carriers.specs.declared.Chosen.TheVariants.{Known, Unknown}
-use Rattle.carriers.specs.Carriers.{chosen_of}
+use Rattle.carriers.specs.declared.Carrier.{Carrier}
+use Rattle.carriers.specs.Told.{carrier_in}
 use Rattle.reading.specs.declared.Reading.{Reading}
 use Rattle.reading.specs.Result as reading
 use Rattle.reading.specs.Reading.{read_of}
-use Rattle.vetting.specs.declared.Vetted.{Vetted}
-use Rattle.vetting.specs.declared.Vetted.TheVariants.{Refused, Sheet}
-use Rattle.vetting.specs.Vetting.{vet_of}
+use Rattle.vetting.specs.Vetting.{Told, Refused, Sheet, vet_of}
 use Rattle.vetting.specs.Vetting as vetting
 use Rattle.written.specs.Writing.{write_of}
 use Rattle.answers.specs.Answers as answers
-use Rattle.inputs.specs.declared.Read.{Read}
-use Rattle.inputs.specs.declared.Read.TheVariants.{Octets, Bad, Long}
+use Rattle.inputs.specs.Read.{Read, Octets, Bad, Long}
 use Rattle.decoding.specs.Decoding.{Answer}
 use Rattle.decoding.specs.Decoding as decoding
-use Rattle.arguments.specs.declared.Asked.{Asked}
-use Rattle.arguments.specs.Command as command
+use Rattle.arguments.specs.declared.asked.Asked.{Asked}
+use Rattle.arguments.specs.declared.Command.{Command}
+use Rattle.arguments.specs.declared.Command.TheVariants as command
+use Rattle.arguments.specs.declared.Form.{Form}
 use Rattle.files.specs.Status.{Delivered, Denied, Answers, refused, failed}
 
 -- ---- reading
@@ -53,31 +51,31 @@ abbrev pub Fitting : Bool → ℤ → Type 0
 Fitting true r = r ≡ pos refused
 Fitting false r = Delivered r
 
-abbrev pub Shows : Vetted → ℤ → Type 0
+abbrev pub Shows : Told → ℤ → Type 0
 Shows (Refused k p) r = r ≡ pos refused
 Shows (Sheet c n large size) r = Fitting large r
 
 -- ---- what is asked, done with octets
 
--- by whether it is `read`, or else `write`, or else `show`
-abbrev pub performing : Bool → Bool → Bool → Asked → List ℕ → ℤ → Type 0
-performing true w h a s r = ReadAs a.strict (reading_of a.carrier s) r
-performing false true h a s r = Answers (write_number s) r
-performing false false true a s r = Shows (vetting.told (vet_of s)) r
-performing false false false a s r = Delivered r
+-- by the command; without a carrier an area is read as of 0, which is none
+abbrev pub performing : Option Command → Asked → List ℕ → ℤ → Type 0
+performing (Some command.Read) a s r = ReadAs a.strict (reading_of (carrier_in a.carrier) s) r
+performing (Some command.Write) a s r = Answers (write_number s) r
+performing (Some command.Show) a s r = Shows (vetting.told (vet_of s)) r
+performing c a s r = Delivered r
 
 abbrev pub Performs : Asked → List ℕ → ℤ → Type 0
-Performs a s r = performing (eqb a.command command.read) (eqb a.command command.write) (eqb a.command command.show) a s r
+Performs a s r = performing a.command a s r
 
 -- ---- the input
 
 -- the octets of an input, or the options of its values
-abbrev pub valued : Chosen → ℕ → List ℕ → List ℕ → Answer
-valued (Known c) form text out = decoding.values_of form c text out
-valued Unknown form text out = decoding.read_of form text out
+abbrev pub valued : Option Carrier → Option Form → List ℕ → List ℕ → Answer
+valued (Some c) form text out = decoding.values_of form c text out
+valued None form text out = decoding.read_of form text out
 
 unfoldable pub input_of : Asked → List ℕ → List ℕ → Answer
-input_of a text out = cond a.value (valued (chosen_of a.carrier) a.form text out) (decoding.read_of a.form text out)
+input_of a text out = cond a.value (valued a.carrier a.form text out) (decoding.read_of a.form text out)
 
 -- the status: more octets than are taken are refused (2)
 abbrev pub takes : Asked → Read → List ℕ → ℤ → Type 0

@@ -1,6 +1,6 @@
 -- What a call's number, and what vetting a sheet, say of the exit status. Assumes nothing.
-use Rattle.std.specs.Prelude.{◌≡◌, refl, Bool, true, false, ◌&&◌, List, [], ◌∷◌, ℕ, eqb, length, ℤ, pos}
-use Rattle.std.proofs.Common.{ap, subst, ◌∙◌, sym, eq-eqb, ne_eqb, eqb-true}
+use Rattle.std.specs.Prelude.{◌≡◌, refl, Bool, true, false, ◌&&◌, List, ℕ, eqb, length, ℤ, pos}
+use Rattle.std.proofs.Common.{ap, subst, ◌∙◌, sym, arith, eqb-true}
 use Rattle.std.proofs.lemmas.Bool.{eqb-false}
 use Rattle.numbers.specs.Limit as limit
 use Rattle.carriers.specs.declared.Carrier.{Carrier}
@@ -8,14 +8,15 @@ use Rattle.reading.specs.declared.Reading.{Reading}
 use Rattle.reading.specs.Reading.{read_of}
 use Rattle.reading.specs.Result.{Reads}
 use Rattle.reading.specs.Result as reading
-use Rattle.vetting.specs.declared.Vetted.{Vetted}
-use Rattle.vetting.specs.declared.Vetted.TheVariants.{Refused, Sheet}
+use Rattle.vetting.specs.Vetting.{Told, Refused, Sheet}
 use Rattle.written.specs.Writing.{write_of}
 use Rattle.answers.specs.declared.Result.{Result}
 use Rattle.answers.specs.Answers.{Writes}
 use Rattle.answers.specs.Answers as answers
-use Rattle.files.specs.Status.{one_of, Delivered, Exited, Answers, done, refused, failed, no}
-use Rattle.files.specs.StatusLaws.{failed-delivered, delivered-exited, denied-exited, refused-exited, answers-done, answers-refused}
+use Rattle.carriers.specs.Carriers.{chosen_of}
+use Rattle.files.specs.declared.status.Stop.{Stop}
+use Rattle.files.specs.Status.{Delivered, Exited, Answers, number_of, done, refused, no}
+use Rattle.files.specs.StatusLaws.{stopped-denied, delivered-exited, denied-exited, refused-exited, answers-done, answers-refused}
 use Rattle.command.specs.Numbers.{reading_of, less, Gives, ReadAs, write_number, Fitting, Shows}
 
 answers-as : {m n : ℕ} {x : ℤ} → m ≡ n → Answers m x → Answers n x
@@ -36,26 +37,14 @@ module _ (carrier : ℕ) (area out : List ℕ) {out' : List ℕ} {r : Reading} (
   reading-is = h.numbers ∙ ap (λ (n : ℕ). reading.told (read_of carrier area n)) e
 
 -- what is given, by whether the answer is no
-module _ (r : Reading) where
-  pub gives-failed : (strict : Bool) (x : ℤ) → x ≡ pos failed → Gives (strict && less r) x
-  gives-failed strict x e = go (strict && less r)
-    where
-      go : (b : Bool) → Gives b x
-      go true = ap (one_of (failed ∷ no ∷ [])) e
-      go false = failed-delivered x e
+pub gives-stopped : (b : Bool) (s : Stop) → Delivered (pos (number_of s)) → Gives b (pos (number_of s))
+gives-stopped true s h = stopped-denied s h
+gives-stopped false s h = h
 
-  pub gives-plain : (x : ℤ) → x ≡ pos done → Gives (false && less r) x
-  gives-plain x e = ap (one_of (done ∷ failed ∷ [])) e
-
-  pub gives_nothing : r.found ≡ 0 → (x : ℤ) → x ≡ pos no → Gives (true && less r) x
-  gives_nothing f x e = rw (eq-eqb r.found 0 f) (ap (one_of (failed ∷ no ∷ [])) e)
-
-  module _ (f : r.found ≡ 0 → ⊥) where
-    pub gives-fewer : (r.discarded ≡ 0 → ⊥) → (x : ℤ) → x ≡ pos no → Gives (true && less r) x
-    gives-fewer d x e = rw (ne_eqb r.found 0 f, ne_eqb r.discarded 0 d) (ap (one_of (failed ∷ no ∷ [])) e)
-
-    pub gives_all : r.discarded ≡ 0 → (x : ℤ) → x ≡ pos done → Gives (true && less r) x
-    gives_all d x e = rw (ne_eqb r.found 0 f, eq-eqb r.discarded 0 d) (ap (one_of (done ∷ failed ∷ [])) e)
+-- without a carrier an area is refused
+pub read-carrierless : (strict : Bool) (area : List ℕ) → ReadAs strict (reading_of 0 area) (pos refused)
+unfolding read_of chosen_of
+read-carrierless strict area = record { done = λ e. absurd (omega (arith, e)); refuses = λ _. refl }
 
 gives-exited : (b : Bool) (x : ℤ) → Gives b x → Exited x
 gives-exited true x g = denied-exited x g
@@ -82,21 +71,21 @@ module _ (sheet out : List ℕ) {out' : List ℕ} {r : Result} (h : Writes (writ
 
 -- ---- showing
 
-module _ {v w : Vetted} (e : v ≡ w) where
+module _ {v w : Told} (e : v ≡ w) where
   pub shows-refused : {k p : ℕ} → v ≡ Refused k p → (x : ℤ) → x ≡ pos refused → Shows w x
-  shows-refused i x h = subst (λ (u : Vetted). Shows u x) (sym i ∙ e) h
+  shows-refused i x h = subst (λ (u : Told). Shows u x) (sym i ∙ e) h
 
   module _ {c : Carrier} {n size : ℕ} {large : Bool} (i : v ≡ Sheet c n large size) where
     pub shows-large : large ≡ true → (x : ℤ) → x ≡ pos refused → Shows w x
-    shows-large l x h = subst (λ (u : Vetted). Shows u x) (sym i ∙ e) (subst (λ (b : Bool). Fitting b x) (sym l) h)
+    shows-large l x h = subst (λ (u : Told). Shows u x) (sym i ∙ e) (subst (λ (b : Bool). Fitting b x) (sym l) h)
 
     pub shows-fitting : large ≡ false → (x : ℤ) → Delivered x → Shows w x
-    shows-fitting l x h = subst (λ (u : Vetted). Shows u x) (sym i ∙ e) (subst (λ (b : Bool). Fitting b x) (sym l) h)
+    shows-fitting l x h = subst (λ (u : Told). Shows u x) (sym i ∙ e) (subst (λ (b : Bool). Fitting b x) (sym l) h)
 
 fitting-exited : (large : Bool) (r : ℤ) → Fitting large r → Exited r
 fitting-exited true r e = refused-exited r e
 fitting-exited false r w = delivered-exited r w
 
-pub shows-exited : (v : Vetted) (r : ℤ) → Shows v r → Exited r
+pub shows-exited : (v : Told) (r : ℤ) → Shows v r → Exited r
 shows-exited (Refused k p) r e = refused-exited r e
 shows-exited (Sheet c n large size) r h = fitting-exited large r h

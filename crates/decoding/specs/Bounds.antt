@@ -2,8 +2,7 @@
 use Rattle.std.specs.Prelude.{◌≡◌, refl, Bool, true, false, cond, List, [], ◌∷◌, ◌++◌, ℕ, ◌+◌, ◌≤◌, leb, ltb, eqb, length, set}
 use Rattle.std.proofs.Common.{subst, arith, length-append, ltb-false, eq-eqb}
 use Rattle.inputs.specs.Why as why
-use Rattle.inputs.specs.declared.Read.{Read}
-use Rattle.inputs.specs.declared.Read.TheVariants.{Octets, Bad, Long}
+use Rattle.inputs.specs.Read.{Read, Octets, Bad, Long}
 use Rattle.groups.specs.Groups as groups
 use Rattle.groups.specs.GroupsWithin.{bad-within}
 use Rattle.groups.specs.Escapes as escapes

@@ -1,13 +1,13 @@
 -- What an input is taken for (docs/COMMAND.md, "Input"): octets as they are, or those that a text spells; with `--value`, the options of its values.
 -- Assumes nothing: these are definitions.
-use Rattle.std.specs.Prelude.{Bool, true, false, cond, List, [], ◌∷◌, ℕ, ◌+◌, max, ltb, eqb, length, take}
+use Rattle.std.specs.Prelude.{Bool, true, false, cond, List, [], ◌∷◌, ℕ, ◌+◌, max, ltb, eqb, length, take, Option, Some, None}
 use Rattle.numbers.specs.Limit as limit
 use Rattle.octets.specs.Numbers.{zeros}
 use Rattle.octets.specs.Over.{over}
-use Rattle.arguments.specs.Form as form
+use Rattle.arguments.specs.declared.Form.{Form}
+use Rattle.arguments.specs.declared.Form.TheVariants.{Hex, Raw, Base64}
 use Rattle.carriers.specs.declared.Carrier.{Carrier}
-use Rattle.inputs.specs.declared.Read.{Read}
-use Rattle.inputs.specs.declared.Read.TheVariants.{Octets, Bad, Long}
+use Rattle.inputs.specs.Read.{Read, Octets, Bad, Long}
 use Rattle.base64_text.specs.Base64 as base64
 use Rattle.forms.specs.Places.{textual_of, begin_of}
 use Rattle.forms.specs.Forms.{list_of}
@@ -36,12 +36,11 @@ base64_of text out =
     answer (base64.answer (length out) (base64.decode text)) (over 0 (take (length out) (base64.decode text).octets) out)
 
 -- in the form that is asked for; where none is, text in the form that it has, and anything else as it is
-unfoldable pub read_of : ℕ → List ℕ → List ℕ → Answer
-read_of f text out =
-    cond (eqb f form.raw) (raw_of text out)
-    (cond (eqb f form.base64) (base64_of text out)
-    (cond (eqb f form.hex) (forms.read_of text out)
-    (cond (textual_of text) (forms.read_of text out) (raw_of text out))))
+unfoldable pub read_of : Option Form → List ℕ → List ℕ → Answer
+read_of (Some Raw) text out = raw_of text out
+read_of (Some Base64) text out = base64_of text out
+read_of (Some Hex) text out = forms.read_of text out
+read_of None text out = cond (textual_of text) (forms.read_of text out) (raw_of text out)
 
 -- ---- values
 
@@ -93,10 +92,13 @@ abbrev pub lines_of : Carrier → List ℕ → List ℕ → Answer
 lines_of c text out = lines_from c 0 0 out (lines_in text)
 
 -- lines are values where the input is text, but for base64
-abbrev pub is_lines : ℕ → List ℕ → Bool
-is_lines f text = cond (eqb f form.hex) true (cond (eqb f form.none) (textual_of text) false)
+abbrev pub is_lines : Option Form → List ℕ → Bool
+is_lines (Some Hex) text = true
+is_lines (Some Raw) text = false
+is_lines (Some Base64) text = false
+is_lines None text = textual_of text
 
 -- the options of the values: of each line, or of the whole input
-unfoldable pub values_of : ℕ → Carrier → List ℕ → List ℕ → Answer
+unfoldable pub values_of : Option Form → Carrier → List ℕ → List ℕ → Answer
 values_of f c text out =
     cond (is_lines f text) (lines_of c text out) (added_of c (read_of f text room).read (read_of f text room).out out 0)

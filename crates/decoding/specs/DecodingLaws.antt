@@ -1,19 +1,18 @@
 -- The laws of inputs: what each outcome answers and leaves, and the lines of a text one after another. Assumes nothing.
-use Rattle.std.specs.Prelude.{◌≡◌, refl, Bool, true, false, cond, List, [], ◌∷◌, ℕ, suc, ◌+◌, ◌-◌, ◌≤◌, ◌<◌, min, leb, eqb, length, take, drop}
-use Rattle.std.proofs.Common.{sym, ◌∙◌, subst, arith, length-take, length-drop, drop_of_length-le, take_all, drop-drop}
+use Rattle.std.specs.Prelude.{◌≡◌, refl, Bool, true, false, cond, List, [], ◌∷◌, ℕ, suc, ◌+◌, ◌-◌, ◌≤◌, ◌<◌, eqb, length, take, drop, Option}
+use Rattle.std.proofs.Common.{sym, ◌∙◌, subst, arith, length-take, length-drop, drop_of_length-le, drop-drop}
 use Rattle.std.proofs.Math.Path.{ap}
-use borrow.Author.Tests.{leb-true, leb-false, lt-ltb, le-ltb, eq-eqb, ne_eqb}
+use borrow.Author.Tests.{lt-ltb, le-ltb}
 use Rattle.octets.specs.Over.{Wrote}
-use Rattle.arguments.specs.Form as form
+use Rattle.arguments.specs.declared.Form.{Form}
 use Rattle.carriers.specs.declared.Carrier.{Carrier}
-use Rattle.inputs.specs.declared.Read.{Read}
-use Rattle.inputs.specs.declared.Read.TheVariants.{Octets, Bad, Long}
-use Rattle.base64_text.specs.Base64 as base64
-use Rattle.forms.specs.Places.{blank, textual_of, place_of, begin_of}
+use Rattle.inputs.specs.Why as why
+use Rattle.inputs.specs.declared.Unread.{Unread}
+use Rattle.inputs.specs.declared.Unread.TheVariants as unread
+use Rattle.inputs.specs.Read.{Read, Octets, Bad, Long, unread_in, place_in, back}
+use Rattle.forms.specs.Places.{blank, place_of, begin_of}
 use Rattle.forms.specs.Forms.{list_of}
-use Rattle.forms.specs.Forms as forms
 use Rattle.decoding.specs.Bounds.{list-within}
-use Rattle.headers.specs.Headers as headers
 use Rattle.headers.specs.HeadersLaws.{Sound, add-sound}
 use Rattle.decoding.specs.Decoding.{Answer, Answered, answer, raw_of, read_of, room, added_of, listed_of, at_value, line_of, onto, lines_in}
 use Rattle.decoding.specs.Decoding.{after_line, lines_from, lines_of, is_lines, values_of}
@@ -27,55 +26,9 @@ module _ (s out : List ℕ) where
   pub raw-taken : {r : ℕ} {out' : List ℕ} → length s ≤ length out → Wrote 0 s out r out' → Answered (raw_of s out) (Octets r) out'
   raw-taken h w = rw (le-ltb (length out) (length s) h) (record { answered = ap Octets (omega (arith, w.next)); leaves = w.laid })
 
--- the tests one after another
-module _ (f : ℕ) (text out : List ℕ) where
-  pub as-raw : f ≡ form.raw → read_of f text out ≡ raw_of text out
-  unfolding read_of
-  as-raw e = rw (eq-eqb f form.raw e)
-
-  module _ (a : f ≡ form.raw → ⊥) where
-    pub as-base64 : {r : Read} {out' : List ℕ} → f ≡ form.base64 → base64.Answered text out r out' → Answered (read_of f text out) r out'
-    unfolding read_of
-    as-base64 e w = rw (ne_eqb f form.raw a, eq-eqb f form.base64 e) (record { answered = w.answered; leaves = w.leaves })
-
-    module _ (b : f ≡ form.base64 → ⊥) where
-      pub as-hex : f ≡ form.hex → read_of f text out ≡ forms.read_of text out
-      unfolding read_of
-      as-hex e = rw (ne_eqb f form.raw a, ne_eqb f form.base64 b, eq-eqb f form.hex e)
-
-      module _ (d : f ≡ form.hex → ⊥) where
-        pub as-text : textual_of text ≡ true → read_of f text out ≡ forms.read_of text out
-        unfolding read_of
-        as-text e = rw (ne_eqb f form.raw a, ne_eqb f form.base64 b, ne_eqb f form.hex d, e)
-
-        pub as-octets : textual_of text ≡ false → read_of f text out ≡ raw_of text out
-        unfolding read_of
-        as-octets e = rw (ne_eqb f form.raw a, ne_eqb f form.base64 b, ne_eqb f form.hex d, e)
-
 -- ---- a value
 
--- no more octets are taken than there are
-pub take-some : (k e : ℕ) (l : List ℕ) → e ≡ min k (length l) → take e l ≡ take k l
-take-some k e l m = go (leb k (length l)) refl
-  where
-    go : (b : Bool) → leb k (length l) ≡ b → take e l ≡ take k l
-    go true h = let q : e ≡ k = omega (arith, leb-true k (length l) h) in ap (λ (n : ℕ). take n l) q
-    go false h = let q = leb-false k (length l) h in take_all e l (omega arith) ∙ sym (take_all k l (omega arith))
-
 module _ (c : Carrier) (value out : List ℕ) (n : ℕ) where
-  pub added-octets : {k e : ℕ} {p r : Read} {out' : List ℕ} → p ≡ Octets k → e ≡ min k (length value)
-      → headers.Adds (headers.add_of out n c (take e value)) r out' → Answered (added_of c p value out n) r out'
-  added-octets {k} {e} {p} {r} {out'} q m w =
-      let u : headers.Adds (headers.add_of out n c (take k value)) r out' =
-      subst (λ (l : List ℕ). headers.Adds (headers.add_of out n c l) r out') (take-some k e value m) w in
-      rw q (record { answered = u.answered; leaves = u.leaves })
-
-  pub added-bad : {at w : ℕ} {p : Read} → p ≡ Bad at w → Answered (added_of c p value out n) (Bad at w) out
-  added-bad q = rw q (record { answered = refl; leaves = refl })
-
-  pub added-long : {p : Read} → p ≡ Long → Answered (added_of c p value out n) Long out
-  added-long q = rw q (record { answered = refl; leaves = refl })
-
   -- by what was read, and how the buffer was left
   pub added-by : {a : Answer} {p r : Read} {out' : List ℕ} → Answered a p value → Answered (added_of c p value out n) r out'
       → Answered (added_of c a.read a.out out n) r out'
@@ -240,26 +193,27 @@ module _ {c : Carrier} {text out₀ : List ℕ} {n i : ℕ} {out : List ℕ} (w 
             size = s ∙ w.size;
           }
 
-      pub lining-room : {at why : ℕ} → r ≡ Bad at why → i + at ≤ length text
-      lining-room {at} {why} e =
-          let within : at ≤ length line = subst (Sound (length out) (length line)) e (sound a) in
-          omega (arith, line-length, stands.1)
+      module _ (u : Unread) (e : r ≡ unread_in u) where
+        pub lining-room : i + place_in (unread_in u) ≤ length text
+        lining-room = go u (subst (Sound (length out) (length line)) e (sound a))
+          where
+            go : (u : Unread) → Sound (length out) (length line) (unread_in u) → i + place_in (unread_in u) ≤ length text
+            go (unread.Bad at w) within = omega (arith, line-length, stands.1)
+            go unread.Long within = omega arith
 
-      pub lining-bad : {at why : ℕ} → r ≡ Bad at why → Answered (lines_of c text out₀) (Bad (i + at) why) out'
-      lining-bad {at} {why} e =
-          let q : answer (Bad (i + at) why) out' ≡ lines_of c text out₀ =
-          ap (λ (r : Read). after_line i r out' (λ m l. lines_from c (end + 1) m l (lines_in (drop (end + 1) text)))) (sym e) ∙ turn r out' a in
-          subst (λ (a : Answer). Answered a (Bad (i + at) why) out') q (record { answered = refl; leaves = refl })
+        pub lining-unread : {q : Read} → q ≡ back i (unread_in u) → Answered (lines_of c text out₀) q out'
+        lining-unread {q} f = rw f (go u (ap (λ (r : Read). after_line i r out' next) (sym e) ∙ turn r out' a))
+          where
+            next : ℕ → List ℕ → Answer
+            next m l = lines_from c (end + 1) m l (lines_in (drop (end + 1) text))
 
-      pub lining-long : r ≡ Long → Answered (lines_of c text out₀) Long out'
-      lining-long e =
-          let q : answer Long out' ≡ lines_of c text out₀ =
-          ap (λ (r : Read). after_line i r out' (λ m l. lines_from c (end + 1) m l (lines_in (drop (end + 1) text)))) (sym e) ∙ turn r out' a in
-          subst (λ (a : Answer). Answered a Long out') q (record { answered = refl; leaves = refl })
+            go : (u : Unread) → after_line i (unread_in u) out' next ≡ lines_of c text out₀ → Answered (lines_of c text out₀) (back i (unread_in u)) out'
+            go (unread.Bad at w) q = subst (λ (a : Answer). Answered a (Bad (i + at) (why.number_of w)) out') q (record { answered = refl; leaves = refl })
+            go unread.Long q = subst (λ (a : Answer). Answered a Long out') q (record { answered = refl; leaves = refl })
 
 -- ---- values
 
-module _ (f : ℕ) (c : Carrier) (text out : List ℕ) where
+module _ (f : Option Form) (c : Carrier) (text out : List ℕ) where
   pub values-lines : is_lines f text ≡ true → values_of f c text out ≡ lines_of c text out
   unfolding values_of
   values-lines e = rw e

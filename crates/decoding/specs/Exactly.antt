@@ -6,8 +6,7 @@ use Rattle.std.proofs.Math.ListN.{length}
 use Rattle.std.proofs.lemmas.Bool.{eqb-false}
 use Rattle.octets.specs.Lists.{All}
 use Rattle.carriers.specs.declared.Carrier.{Carrier}
-use Rattle.inputs.specs.declared.Read.{Read}
-use Rattle.inputs.specs.declared.Read.TheVariants.{Octets, Bad, Long}
+use Rattle.inputs.specs.Read.{Read, Octets, Bad, Long}
 use Rattle.forms.specs.Forms.{list_of}
 use Rattle.headers.specs.Headers.{Held, Framed, area_of, headed_of}
 use Rattle.headers.specs.HeadersLaws.{Sound, Lays, add-length, add-lays}

@@ -1,7 +1,6 @@
 -- The values of an input (docs/COMMAND.md, "Input"): one of each line that spells octets, in order. Assumes nothing: these are definitions.
 use Rattle.std.specs.Prelude.{cond, List, [], ◌∷◌, map, ℕ, eqb, length, take}
-use Rattle.inputs.specs.declared.Read.{Read}
-use Rattle.inputs.specs.declared.Read.TheVariants.{Octets, Bad, Long}
+use Rattle.inputs.specs.Read.{Read, Octets, Bad, Long}
 use Rattle.forms.specs.Forms.{list_of}
 use Rattle.decoding.specs.Decoding.{room, lines_in}
 

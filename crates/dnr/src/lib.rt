@@ -12,7 +12,6 @@ ghost use Rattle.words.specs.Words.{words_of};
 ghost use Rattle.words.specs.Strings.{PutsString};
 
 use answers::Result;
-use octets::lesser;
 use reading::Reading;
 
 // Reads an area under a carrier number and writes its record sheet. (Field by field: see docs/DESIGN.md, Speed.)
@@ -48,7 +47,7 @@ pub extern "C" fn dnr_words(number: usize, text: &mut [u8]) -> usize
         return 0;
     }
     let written = words::put_words(text, 0, number);
-    let end = lesser(written, text.len() - 1);
+    let end = written.min(text.len() - 1);
     text[end] = 0;
     end
 }

@@ -2,14 +2,13 @@
 -- definitions.
 use Rattle.std.specs.Prelude.{◌≡◌, cond, List, [], ◌∷◌, ◌++◌, ℕ, zero, suc, ◌+◌, ◌-◌, ◌%◌, ltb, leb, eqb, length, get_or, set}
 use Rattle.inputs.specs.Why as why
-use Rattle.inputs.specs.declared.Read.{Read}
-use Rattle.inputs.specs.declared.Read.TheVariants.{Octets, Bad, Long}
+use Rattle.inputs.specs.Read.{Read, Octets, Bad, Long}
 use Rattle.dumps.specs.declared.Style.{Style}
-use Rattle.dumps.specs.declared.Reach.{Reach}
-use Rattle.dumps.specs.declared.Reach.TheVariants as reach
-use Rattle.dumps.specs.declared.Turn.{Turn}
-use Rattle.dumps.specs.declared.Turn.TheVariants as turns
-use Rattle.dumps.specs.declared.state.State.{State}
+use Rattle.dumps.specs.Reach.{Reach}
+use Rattle.dumps.specs.Reach as reach
+use Rattle.dumps.specs.Turn.{Turn}
+use Rattle.dumps.specs.Turn as turns
+use Rattle.dumps.specs.State.{State}
 use Rattle.dumps.specs.Mode as mode
 use Rattle.dumps.specs.States.{begun, moved}
 
@@ -46,10 +45,10 @@ filled_to r out = record { fill = r; out = out }
 unfoldable pub fill_of : ℕ → ℕ → ℕ → List ℕ → FilledTo
 fill_of from n upto out =
     cond (leb upto n) (filled_to (reach.To n) out)
-    (cond (leb n from) (filled_to reach.No out)
+    (cond (leb n from) (filled_to (reach.Bad why.offset) out)
     (cond (eqb ((upto - n) % (n - from)) 0)
     (cond (ltb (length out) upto) (filled_to reach.Long out) (filled_to (reach.To upto) (repeated_of (upto - n) from n out)))
-    (filled_to reach.No out)))
+    (filled_to (reach.Bad why.offset) out)))
 
 pub record Filled (from n upto : ℕ) (out : List ℕ) (r : Reach) (out' : List ℕ) : Type 0 where
   pub answered : r ≡ (fill_of from n upto out).fill
@@ -59,7 +58,7 @@ pub record Filled (from n upto : ℕ) (out : List ℕ) (r : Reach) (out' : List 
 
 abbrev pub lay_by : Reach → State → List ℕ → After
 lay_by (reach.To m) s out = lay_of s m out
-lay_by reach.No s out = after (turns.Bad why.offset) out
+lay_by (reach.Bad w) s out = after (turns.Bad w) out
 lay_by reach.Long s out = after turns.Long out
 
 unfoldable pub settled : State → ℕ → List ℕ → After

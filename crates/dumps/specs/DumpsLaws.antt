@@ -5,14 +5,13 @@ use Rattle.std.proofs.Math.Path.{ap}
 use borrow.Author.Tests.{lt-ltb, le-ltb, le-leb, lt-leb, eq-eqb, ne_eqb, ltb-false, leb-false}
 use Rattle.inputs.specs.Why as why
 use Rattle.inputs.specs.TextLaws.{closed-cons, closed-end}
-use Rattle.inputs.specs.declared.Read.{Read}
-use Rattle.inputs.specs.declared.Read.TheVariants.{Octets, Bad, Long}
+use Rattle.inputs.specs.Read.{Read, Octets, Bad, Long}
 use Rattle.dumps.specs.declared.Style.{Style}
-use Rattle.dumps.specs.declared.Reach.{Reach}
-use Rattle.dumps.specs.declared.Reach.TheVariants as reach
-use Rattle.dumps.specs.declared.Turn.{Turn}
-use Rattle.dumps.specs.declared.Turn.TheVariants as turns
-use Rattle.dumps.specs.declared.state.State.{State}
+use Rattle.dumps.specs.Reach.{Reach}
+use Rattle.dumps.specs.Reach as reach
+use Rattle.dumps.specs.Turn.{Turn}
+use Rattle.dumps.specs.Turn as turns
+use Rattle.dumps.specs.State.{State}
 use Rattle.dumps.specs.Mode as mode
 use Rattle.dumps.specs.States.{begun, moved}
 use Rattle.dumps.specs.Dumps.{repeated_of, After, lay_of, fill_of, Filled, lay_by, settled, take_of, Turned}
@@ -44,9 +43,6 @@ pub record Repeating (before : List ℕ) (from n upto : ℕ) (out : List ℕ) (s
   pub size : length out ≡ length before
   pub rest : repeated_of (upto - i) source i out ≡ repeated_of (upto - n) from n before
 
-pub repeat-start : {out : List ℕ} {from n upto : ℕ} → from < n → Repeating out from n upto out from n
-repeat-start h = record { apart = h; size = refl; rest = refl }
-
 module _ {before out : List ℕ} {from n upto source i : ℕ} (r : Repeating before from n upto out source i) where
   pub repeat-turn : i < upto → Repeating before from n upto (set out i (get_or out source 0)) (source + 1) (i + 1)
   repeat-turn h = record {
@@ -66,12 +62,12 @@ module _ (from n upto : ℕ) (out : List ℕ) where
   fill_none h = let e = le-leb upto n h in record { answered = rw e; leaves = rw e }
 
   module _ (h : n < upto) where
-    pub fill-early : n ≤ from → Filled from n upto out reach.No out
+    pub fill-early : n ≤ from → Filled from n upto out (reach.Bad why.offset) out
     unfolding fill_of
     fill-early l = let e = lt-leb upto n h in let g = le-leb n from l in record { answered = rw (e, g); leaves = rw (e, g) }
 
     module _ (l : from < n) where
-      pub fill-part : ((upto - n) % (n - from) ≡ 0 → ⊥) → Filled from n upto out reach.No out
+      pub fill-part : ((upto - n) % (n - from) ≡ 0 → ⊥) → Filled from n upto out (reach.Bad why.offset) out
       unfolding fill_of
       fill-part d =
           let e = lt-leb upto n h in
@@ -141,7 +137,7 @@ module _ (f : Style) (s : State) (x n : ℕ) (out : List ℕ) {t : State} {b : �
     pub take-laid : {m : ℕ} {q : Turn} {out'' : List ℕ} → r ≡ reach.To m → Turned (lay_of t m out') q out'' → Turned (take_of f s x n out) q out''
     take-laid {m} k l = turned_as (sym (ap (λ (r : Reach). lay_by r t out') k) ∙ settled-filled t n out h p ∙ take-is) l
 
-    pub take_no : r ≡ reach.No → Turned (take_of f s x n out) (turns.Bad why.offset) out'
+    pub take_no : {w : ℕ} → r ≡ reach.Bad w → Turned (take_of f s x n out) (turns.Bad w) out'
     take_no k =
         turned_as (sym (ap (λ (r : Reach). lay_by r t out') k) ∙ settled-filled t n out h p ∙ take-is) (record { answered = refl; leaves = refl })
 
@@ -158,7 +154,7 @@ Within turns.Long k = Unit
 
 abbrev Reaches : Reach → ℕ → Type 0
 Reaches (reach.To m) k = m ≤ k
-Reaches reach.No k = Unit
+Reaches (reach.Bad w) k = Unit
 Reaches reach.Long k = Unit
 
 pub record Kept (a : After) (k : ℕ) : Type 0 where
@@ -193,7 +189,7 @@ fill-kept from n upto out h = go (leb upto n) refl (leb n from) refl (eqb ((upto
 
 by-kept : (r : Reach) (t : State) (out : List ℕ) (k : ℕ) → length out ≡ k → Reaches r k → Kept (lay_by r t out) k
 by-kept (reach.To m) t out k e h = subst (Kept (lay_of t m out)) e (lay-kept t m out (subst (λ (j : ℕ). m ≤ j) (sym e) h))
-by-kept reach.No t out k e h = record { size = e; few = tt }
+by-kept (reach.Bad w) t out k e h = record { size = e; few = tt }
 by-kept reach.Long t out k e h = record { size = e; few = tt }
 
 settled-kept : (t : State) (n : ℕ) (out : List ℕ) → n ≤ length out → Kept (settled t n out) (length out)

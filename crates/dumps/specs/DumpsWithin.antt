@@ -2,12 +2,11 @@
 use Rattle.std.specs.Prelude.{◌≡◌, Bool, true, false, cond, List, [], ◌∷◌, ◌++◌, ℕ, ◌+◌, ◌≤◌, length}
 use Rattle.std.proofs.Common.{subst, arith, length-append}
 use Rattle.inputs.specs.Why as why
-use Rattle.inputs.specs.declared.Read.{Read}
-use Rattle.inputs.specs.declared.Read.TheVariants.{Octets, Bad, Long}
+use Rattle.inputs.specs.Read.{Read, Octets, Bad, Long}
 use Rattle.dumps.specs.declared.Style.{Style}
-use Rattle.dumps.specs.declared.Turn.{Turn}
-use Rattle.dumps.specs.declared.Turn.TheVariants as turns
-use Rattle.dumps.specs.declared.state.State.{State}
+use Rattle.dumps.specs.Turn.{Turn}
+use Rattle.dumps.specs.Turn as turns
+use Rattle.dumps.specs.State.{State}
 use Rattle.dumps.specs.States.{begun}
 use Rattle.dumps.specs.Dumps.{take_of, ended, end_of, onward, read_from, read_of}
 

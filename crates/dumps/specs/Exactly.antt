@@ -5,12 +5,12 @@ use Rattle.std.proofs.Math.Path.{refl, sym, subst}
 use Rattle.std.proofs.Common.{ap, ◌∙◌, arith, leb-true, leb-false, length-take}
 use Rattle.std.proofs.Math.Bool.{true, false}
 use mathlib.Core.List.{List, [], ◌∷◌, ◌++◌}
-use Rattle.inputs.specs.declared.Read.TheVariants.{Octets}
+use Rattle.inputs.specs.Read.{Octets}
 use Rattle.dumps.specs.declared.Style.{Style}
-use Rattle.dumps.specs.declared.state.State.{State}
+use Rattle.dumps.specs.State.{State}
 use Rattle.dumps.specs.States.{begun}
-use Rattle.dumps.specs.declared.Turn.{Turn}
-use Rattle.dumps.specs.declared.Turn.TheVariants as turns
+use Rattle.dumps.specs.Turn.{Turn}
+use Rattle.dumps.specs.Turn as turns
 use Rattle.dumps.specs.Dumps.{Ended, end_of, take_of, read_from, read_of}
 use Rattle.dumps.specs.DumpsLaws.{Within, take-kept, from-go, from-bad, from-long}
 use Rattle.dumps.specs.Shows.{Lines, done, Shows, Told}

@@ -1,5 +1,6 @@
 -- One character more in a line that has octets: the octets, and the text column beside them. Assumes nothing.
-use Rattle.std.specs.Prelude.{◌≡◌, refl, Bool, true, false, List, [], ◌∷◌, ◌++◌, ℕ, ◌+◌, ◌-◌, ◌*◌, ◌%◌, ◌≤◌, ◌<◌, length, get_or, set, take, drop}
+use Rattle.std.specs.Prelude.{◌≡◌, refl, Bool, true, false, List, [], ◌∷◌, ◌++◌, ℕ, ◌+◌}
+use Rattle.std.specs.Prelude.{◌-◌, ◌*◌, ◌%◌, ◌≤◌, ◌<◌, length, get_or, set, take, drop, None}
 use Rattle.std.proofs.Common.{sym, ap, subst, ◌∙◌, append-nil, append_assoc, add-zero, add-one, arith, length-append, take-append-drop, drop-cons, drop-drop}
 use Rattle.std.proofs.Math.Seq.{append_snoc, drop-append_seam, drop-length}
 use Rattle.octets.specs.ListsLaws.{all_drop}
@@ -7,9 +8,9 @@ use Rattle.hexes.specs.Hexes.{digit}
 use Rattle.hexes.specs.Hexes as hexes
 use Rattle.hexes.specs.Spelled as spelled
 use Rattle.dumps.specs.declared.Style.{Style}
-use Rattle.dumps.specs.declared.state.State.{State}
-use Rattle.dumps.specs.declared.state.Class.{Class}
-use Rattle.dumps.specs.declared.state.Class.TheVariants as class
+use Rattle.dumps.specs.State.{State}
+use Rattle.dumps.specs.Class.{Class}
+use Rattle.dumps.specs.Class as class
 use Rattle.dumps.specs.Mode as mode
 use Rattle.dumps.specs.States as states
 use Rattle.dumps.specs.States.{class_of, shown_of}
@@ -182,7 +183,7 @@ module _ {f : Style} {size m : ℕ} {bs : List ℕ} {x : ℕ} {xs : List ℕ} {s
     -- a character of the column, where the octets from the k-th of the line on are to be shown
     besides : (k : ℕ) → s.beside ≡ length b.now + k → k ≤ length b.cs → (c : List ℕ)
         → ((t : List ℕ) → Text f (drop k b.cs) t → End f b.cs stood true (c ++ t)) → pre ≡ b.h ++ (b.u ++ c) → (x ≡ 10 → ⊥)
-        → (f.closing ≡ 0 → x ≡ 32 → drop k b.cs ≡ [] → s ≡ then f s x n out → Lines f stood star os last (pre ++ (x ∷ xs)) bs)
+        → (f.closing ≡ None → x ≡ 32 → drop k b.cs ≡ [] → s ≡ then f s x n out → Lines f stood star os last (pre ++ (x ∷ xs)) bs)
         → states.beside f x n (get_or out s.beside 0) s ≡ then f s x n out → Lines f stood star os last (pre ++ (x ∷ xs)) bs
     besides k w j c l p y blank e =
         moves.by-beside f x n (get_or out s.beside 0) s
@@ -191,11 +192,11 @@ module _ {f : Style} {size m : ℕ} {bs : List ℕ} {x : ℕ} {xs : List ℕ} {s
         moves.by-past f x n 0 s
         (λ o. bad-column here (o ∙ q ∙ e))
         (λ z h o. blank z h d (o ∙ q ∙ e))
-        (λ z h o.
+        (λ h o.
         keep here (states.to mode.closed s) (o ∙ q ∙ e) b.lined.good b.lined.filled (λ z. absurd (omega arith)) y
         (places.closed refl (again (states.to mode.closed s) b.lined) (c ++ (x ∷ []))
         (λ t v.
-        further t (subst (λ (o : List ℕ). Text f o (x ∷ t)) (sym d) (subst (λ (o : ℕ). Text f [] (o ∷ t)) (sym h) (shows.closes z v))))
+        further t (subst (λ (o : List ℕ). Text f o (x ∷ t)) (sym d) (shows.closes h v)))
         (snoc-three b.h b.u c x p))))
         (λ q. bad-column here (q ∙ e))
         (λ g z q.
@@ -306,13 +307,13 @@ module _ {f : Style} {size m : ℕ} {bs : List ℕ} {x : ℕ} {xs : List ℕ} {s
         (places.text refl (again t b.lined) 0 (b.lined.here ∙ sym (add-zero (length b.now))) (omega arith) (q ++ (x ∷ []))
         (λ t j.
         subst (End f b.cs stood true) (sym (append_snoc q x t))
-        (shows.beside q g two (subst (λ (y : ℕ). Column f b.cs (y ∷ t)) (sym w) (shows.fenced o j))))
+        (shows.beside q g two (shows.fenced w j)))
         (snoc-three b.h b.u q x p)))))
       where
         at : (k : Class) → class_of x ≡ k → states.more_by k f x n (get_or out s.beside 0) s ≡ then f s x n out
         at k c = moves.at_more f x n (get_or out s.beside 0) s k c v
 
-        free : f.opening ≡ 0 → (t : List ℕ) → Text f (drop c.index b.cs) t → End f b.cs stood true (q ++ t)
+        free : f.opening ≡ None → (t : List ℕ) → Text f (drop c.index b.cs) t → End f b.cs stood true (q ++ t)
         free o t j =
             shows.beside q g two
             (subst (λ (l : List ℕ). Column f l t) (take-append-drop c.index b.cs) (shows.free (take c.index b.cs) o c.faint j))

@@ -1,8 +1,14 @@
 pub mod Mode
+pub mod Class
+pub mod State
+pub mod Turn
+pub mod Reach
+pub mod Held
 pub mod States
 pub mod StatesLaws
 pub mod Dumps
 pub mod DumpsLaws
+pub mod HeldLaws
 pub mod DumpsWithin
 pub mod Shows
 pub mod Moves

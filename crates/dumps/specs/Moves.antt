@@ -1,5 +1,5 @@
 -- How a character moves a dump, by cases: to show something, show it of each outcome. Assumes nothing.
-use Rattle.std.specs.Prelude.{◌≡◌, Bool, ℕ, ◌+◌, ◌*◌, ◌%◌, ◌≤◌, ◌<◌}
+use Rattle.std.specs.Prelude.{◌≡◌, Bool, ℕ, ◌+◌, ◌*◌, ◌%◌, ◌≤◌, ◌<◌, Option, Some, None}
 use Rattle.std.proofs.Math.Path.{refl, ap}
 use Rattle.std.proofs.Common.{sym, ◌∙◌, arith, leb-true, leb-false, ltb-true, ltb-false, eqb-true}
 use Rattle.std.proofs.Math.Bool.{true, false}
@@ -11,9 +11,9 @@ use Rattle.hexes.specs.HexesLaws.{by-digit, value-decimal, value-upper, value-lo
 use Rattle.hexes.specs.Spelled as spelled
 use Rattle.inputs.specs.Why as why
 use Rattle.dumps.specs.declared.Style.{Style}
-use Rattle.dumps.specs.declared.state.State.{State}
-use Rattle.dumps.specs.declared.state.Class.{Class}
-use Rattle.dumps.specs.declared.state.Class.TheVariants as class
+use Rattle.dumps.specs.State.{State}
+use Rattle.dumps.specs.Class.{Class}
+use Rattle.dumps.specs.Class as class
 use Rattle.dumps.specs.Mode as mode
 use Rattle.dumps.specs.States.{class_of, shown_of, but, to, reading, first, prefixed, further, opened, filled, counted, finished, alone, star_at, high, octet_by}
 use Rattle.dumps.specs.States.{complete, showing, column, low, closed, columned, cut, past, beside, fenced, broken, text, moved, fronted, within, behind}
@@ -21,6 +21,10 @@ use Rattle.dumps.specs.StatesLaws.{counted-short, counted-less, counted-star, co
 use Rattle.dumps.specs.StatesLaws.{star-other, star-late, star-twice, star-early, star-stands, cut-blank, cut-asked, cut-stood, cut-none}
 use Rattle.dumps.specs.States.{start_by, offset_by, starred_by, gap_by, after_by, one_by, more_by, rest_by}
 use Rattle.dumps.specs.Shows.{Blank, space, tab, carriage_return, Shown, printed, control, beyond, dotted}
+
+-- what stands is not nothing
+pub some-none : {x : ℕ} → Some x ≡ None → ⊥
+some-none e = let z : ◌≡◌ {A = ℕ} 0 1 = cc in absurd (omega arith)
 
 -- ---- characters
 
@@ -225,16 +229,19 @@ module _ (f : Style) (x n b : ℕ) (s : State) {P : Type 0} where
       go true p true q = bad (rw (p, q))
       go true p false q = c p q (rw (p, q))
 
-  pub by-past : (but why.column s ≡ past f x s → P) → (f.closing ≡ 0 → x ≡ 32 → s ≡ past f x s → P)
-      → ((f.closing ≡ 0 → ⊥) → x ≡ f.closing → to mode.closed s ≡ past f x s → P) → P
+  pub by-past : (but why.column s ≡ past f x s → P) → (f.closing ≡ None → x ≡ 32 → s ≡ past f x s → P)
+      → (f.closing ≡ Some x → to mode.closed s ≡ past f x s → P) → P
   unfolding past
-  by-past bad c d = go (eqb f.closing 0) refl (eqb x 32) refl (eqb x f.closing) refl
+  by-past bad c d = go f.closing refl (eqb x 32) refl
     where
-      go : (g : Bool) → eqb f.closing 0 ≡ g → (h : Bool) → eqb x 32 ≡ h → (i : Bool) → eqb x f.closing ≡ i → P
-      go true p true q i r = c (eqb-true f.closing 0 p) (eqb-true x 32 q) (rw (p, q))
-      go true p false q i r = bad (rw (p, q))
-      go false p h q true r = d (eqb-false f.closing 0 p) (eqb-true x f.closing r) (rw (p, r))
-      go false p h q false r = bad (rw (p, r))
+      close : (y : ℕ) → f.closing ≡ Some y → (i : Bool) → eqb x y ≡ i → P
+      close y p true r = d (p ∙ ap (λ (o : ℕ). Some o) (sym (eqb-true x y r))) (rw (p, r))
+      close y p false r = bad (rw (p, r))
+
+      go : (g : Option ℕ) → f.closing ≡ g → (h : Bool) → eqb x 32 ≡ h → P
+      go None p true q = c p (eqb-true x 32 q) (rw (p, q))
+      go None p false q = bad (rw (p, q))
+      go (Some y) p h q = close y p (eqb x y) refl
 
   pub by-beside : (n ≤ s.beside → past f x s ≡ beside f x n b s → P) → (but why.column s ≡ beside f x n b s → P)
       → (s.beside < n → x ≡ shown_of f.prefix b → to mode.text (column (s.beside + 1) s) ≡ beside f x n b s → P) → P
@@ -246,22 +253,26 @@ module _ (f : Style) (x n b : ℕ) (s : State) {P : Type 0} where
       go false p true q = c (leb-false n s.beside p) (eqb-true x (shown_of f.prefix b) q) (rw (p, q))
       go false p false q = bad (rw (p, q))
 
-  pub by-fenced : (but why.form s ≡ fenced f x s → P) → (x ≡ f.opening → to mode.text (column s.line s) ≡ fenced f x s → P) → P
+  pub by-fenced : (but why.form s ≡ fenced f x s → P) → (f.opening ≡ Some x → to mode.text (column s.line s) ≡ fenced f x s → P) → P
   unfolding fenced
-  by-fenced bad c = go (eqb x f.opening) refl
+  by-fenced bad c = go f.opening refl
     where
-      go : (g : Bool) → eqb x f.opening ≡ g → P
-      go true p = c (eqb-true x f.opening p) (rw p)
-      go false p = bad (rw p)
+      opens : (y : ℕ) → f.opening ≡ Some y → (i : Bool) → eqb x y ≡ i → P
+      opens y p true r = c (p ∙ ap (λ (o : ℕ). Some o) (sym (eqb-true x y r))) (rw (p, r))
+      opens y p false r = bad (rw (p, r))
 
-  pub by-broken : (but why.column s ≡ broken f n s → P) → (f.closing ≡ 0 → s.solid ≤ s.beside → columned n s ≡ broken f n s → P) → P
+      go : (g : Option ℕ) → f.opening ≡ g → P
+      go None p = bad (rw p)
+      go (Some y) p = opens y p (eqb x y) refl
+
+  pub by-broken : (but why.column s ≡ broken f n s → P) → (f.closing ≡ None → s.solid ≤ s.beside → columned n s ≡ broken f n s → P) → P
   unfolding broken
-  by-broken bad c = go (eqb f.closing 0) refl (ltb s.beside s.solid) refl
+  by-broken bad c = go f.closing refl (ltb s.beside s.solid) refl
     where
-      go : (g : Bool) → eqb f.closing 0 ≡ g → (h : Bool) → ltb s.beside s.solid ≡ h → P
-      go true p false q = c (eqb-true f.closing 0 p) (ltb-false s.beside s.solid q) (rw (p, q))
-      go true p true q = bad (rw (p, q))
-      go false p h q = bad (rw p)
+      go : (g : Option ℕ) → f.closing ≡ g → (h : Bool) → ltb s.beside s.solid ≡ h → P
+      go None p false q = c p (ltb-false s.beside s.solid q) (rw (p, q))
+      go None p true q = bad (rw (p, q))
+      go (Some y) p h q = bad (rw p)
 
   pub by-cut : (but why.column s ≡ cut f n s → P) → (s.solid ≤ s.line → closed n s ≡ cut f n s → P)
       → (f.column ≡ false → s.column ≡ false → closed n s ≡ cut f n s → P) → P
@@ -300,18 +311,18 @@ module _ (f : Style) (x n b : ℕ) (s : State) {P : Type 0} where
       go true p false q = bad (rw (p, q))
 
   -- the text column begins after two blanks where nothing stands before it
-  pub by-opening : (f.opening ≡ 0 → beside f x n b s ≡ more_by class.Digit f x n b s → P)
-      → ((f.opening ≡ 0 → ⊥) → high false x s ≡ more_by class.Digit f x n b s → P) → P
-  by-opening c d = go (eqb f.opening 0) refl
+  pub by-opening : (f.opening ≡ None → beside f x n b s ≡ more_by class.Digit f x n b s → P)
+      → ((f.opening ≡ None → ⊥) → high false x s ≡ more_by class.Digit f x n b s → P) → P
+  by-opening c d = go f.opening refl
     where
-      go : (g : Bool) → eqb f.opening 0 ≡ g → P
-      go true p = c (eqb-true f.opening 0 p) (rw p)
-      go false p = d (eqb-false f.opening 0 p) (rw p)
+      go : (g : Option ℕ) → f.opening ≡ g → P
+      go None p = c p (rw p)
+      go (Some y) p = d (λ e. absurd (some-none (sym p ∙ e))) (rw p)
 
-  pub by-fence : (f.opening ≡ 0 → beside f x n b s ≡ more_by class.Other f x n b s → P)
-      → ((f.opening ≡ 0 → ⊥) → fenced f x s ≡ more_by class.Other f x n b s → P) → P
-  by-fence c d = go (eqb f.opening 0) refl
+  pub by-fence : (f.opening ≡ None → beside f x n b s ≡ more_by class.Other f x n b s → P)
+      → ((f.opening ≡ None → ⊥) → fenced f x s ≡ more_by class.Other f x n b s → P) → P
+  by-fence c d = go f.opening refl
     where
-      go : (g : Bool) → eqb f.opening 0 ≡ g → P
-      go true p = c (eqb-true f.opening 0 p) (rw p)
-      go false p = d (eqb-false f.opening 0 p) (rw p)
+      go : (g : Option ℕ) → f.opening ≡ g → P
+      go None p = c p (rw p)
+      go (Some y) p = d (λ e. absurd (some-none (sym p ∙ e))) (rw p)

@@ -3,7 +3,7 @@ use Rattle.std.specs.Prelude.{◌≡◌, Bool, true, false, List, [], ◌∷◌,
 use Rattle.octets.specs.Lists.{All}
 use Rattle.hexes.specs.Spelled.{Digit}
 use Rattle.dumps.specs.declared.Style.{Style}
-use Rattle.dumps.specs.declared.state.State.{State}
+use Rattle.dumps.specs.State.{State}
 use Rattle.dumps.specs.Mode as mode
 use Rattle.dumps.specs.Shows.{Blank, Blanks, Bare, Faint, Number, Prefix, Octets, Text, End, Front, Lines}
 

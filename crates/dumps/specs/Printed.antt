@@ -1,5 +1,6 @@
 -- What two tools write for octets, 16 in a line: `xxd`, and `hexdump -C -v`. Assumes nothing: these are definitions.
-use Rattle.std.specs.Prelude.{true, false, cond, List, [], ◌∷◌, ◌++◌, map, ℕ, zero, suc, ◌+◌, ◌-◌, ◌/◌, ◌%◌, eqb, length, take, drop, replicate}
+use Rattle.std.specs.Prelude.{true, false, cond, List, [], ◌∷◌, ◌++◌, map, ℕ, zero, suc}
+use Rattle.std.specs.Prelude.{◌+◌, ◌-◌, ◌/◌, ◌%◌, eqb, length, take, drop, replicate, Some, None}
 use Rattle.hexes.specs.Hexes.{digit_of, two}
 use Rattle.dumps.specs.declared.Style.{Style}
 use Rattle.dumps.specs.States.{shown_of}
@@ -17,7 +18,7 @@ pub record Layout : Type 0 where
 -- xxd: a colon, groups of two octets, and nothing around the column
 abbrev pub xxd : Layout
 xxd = record {
-  style = record { digits = 8; prefix = false; colon = true; pairs = true; opening = 0; closing = 0; column = false; ends = false };
+  style = record { digits = 8; prefix = false; colon = true; pairs = true; opening = None; closing = None; column = false; ends = false };
   mark = 58 ∷ [];
   then = 32 ∷ [];
   gap = λ i. cond (eqb (i % 2) 1) [] (32 ∷ []);
@@ -28,7 +29,7 @@ xxd = record {
 -- hexdump -C: two blanks, octets, two blanks before the eighth from 0, and bars around the column
 abbrev pub hexdump : Layout
 hexdump = record {
-  style = record { digits = 8; prefix = false; colon = false; pairs = false; opening = 124; closing = 124; column = true; ends = true };
+  style = record { digits = 8; prefix = false; colon = false; pairs = false; opening = Some 124; closing = Some 124; column = true; ends = true };
   mark = [];
   then = 32 ∷ 32 ∷ [];
   gap = λ i. cond (eqb i 8) (32 ∷ 32 ∷ []) (32 ∷ []);

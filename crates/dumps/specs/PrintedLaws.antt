@@ -1,5 +1,5 @@
 -- What the two tools write for octets is a dump of them, and is read as them. Assumes nothing.
-use Rattle.std.specs.Prelude.{◌≡◌, refl, Bool, cond, leb, eqb, replicate}
+use Rattle.std.specs.Prelude.{◌≡◌, refl, Bool, cond, leb, eqb, replicate, Some}
 use Rattle.std.proofs.Common.{sym, ◌∙◌, pow-suc, arith, eqb-true, leb-true, leb-false, le-ltb, lt-ltb, ne_eqb, take-append-drop}
 use Rattle.std.proofs.Math.Path.{ap, subst}
 use Rattle.std.proofs.Math.Bool.{true, false}
@@ -12,13 +12,13 @@ use Rattle.octets.specs.ListsLaws.{all_take, all_drop}
 use Rattle.octets.specs.Numbers.{Bytes}
 use Rattle.hexes.specs.Hexes.{digit_of, two}
 use Rattle.hexes.specs.Spelled.{Digit, decimal, upper, lower}
-use Rattle.inputs.specs.declared.Read.TheVariants.{Octets}
+use Rattle.inputs.specs.Read.{Octets}
 use Rattle.dumps.specs.declared.Style.{Style}
 use Rattle.dumps.specs.States.{shown_of}
 use Rattle.dumps.specs.Dumps.{read_of}
 use Rattle.dumps.specs.Shows as shows
 use Rattle.dumps.specs.Shows.{Blank, Blanks, Number, Mark, Offset, Pair, pair, Gap, Text, Column, End, Front, Lines, Shows, Apart, Told}
-use Rattle.dumps.specs.Moves.{shown-says}
+use Rattle.dumps.specs.Moves.{some-none, shown-says}
 use Rattle.dumps.specs.Printed.{Layout, xxd, hexdump, digits_of, octets_of, rest_of, line_of, lines_of, xxd_of, hexdump_of}
 use Rattle.dumps.specs.Exactly.{shows-read}
 
@@ -181,7 +181,7 @@ xxd-proper = record {
         go false e = rw e (shows.next o (one-space xxd.style) q)
 
 xxd-told : Told xxd.style
-xxd-told = record { digits = omega arith; opening = λ h. absurd (h refl); closing = λ h. absurd (h refl) }
+xxd-told = record { digits = omega arith; opening = λ x h. absurd (some-none (sym h)); closing = λ x h. absurd (some-none (sym h)) }
 
 hexdump-flag : ℕ → Bool
 hexdump-flag i = false
@@ -204,7 +204,10 @@ bar = record {
     no_blank (shows.carriage_return e) = absurd (omega arith)
 
 hexdump-told : Told hexdump.style
-hexdump-told = record { digits = omega arith; opening = λ _. bar; closing = λ _. bar }
+hexdump-told = record { digits = omega arith; opening = bars; closing = bars }
+  where
+    bars : (x : ℕ) → Some 124 ≡ Some x → Apart x
+    bars x e = let q : 124 ≡ x = cc in subst Apart q bar
 
 hexdump-proper : Proper hexdump hexdump-flag
 unfolding hexdump-flag
@@ -216,7 +219,7 @@ hexdump-proper = record {
   some = omega arith;
   first = refl;
   joins = joins;
-  shown = λ cs. shows.fenced (λ e. absurd (omega arith)) (shown-each hexdump.style cs (124 ∷ []) (shows.closes (λ e. absurd (omega arith)) tt));
+  shown = λ cs. shows.fenced refl (shown-each hexdump.style cs (124 ∷ []) (shows.closes refl tt));
 }
   where
     joins : (i : ℕ) {t cs : List ℕ} {x y b : ℕ} → shows.Octets hexdump.style false t cs → Pair x y b
@@ -229,7 +232,7 @@ hexdump-proper = record {
             let g : Gap hexdump.style (32 ∷ 32 ∷ []) = record {
               blank = (shows.space refl, (shows.space refl, tt));
               some = omega arith;
-              one = λ h. absurd (omega arith);
+              one = λ h. absurd (some-none h);
             } in
             rw e (shows.next o g q)
         go false e = rw e (shows.next o (one-space hexdump.style) q)

@@ -1,5 +1,5 @@
 -- How a text is read as octets, for one character of it: from what follows it back to it. Assumes nothing.
-use Rattle.std.specs.Prelude.{◌≡◌, refl, Bool, true, false, List, ◌∷◌, ℕ, ◌+◌, ◌-◌, ◌*◌, ◌%◌, ◌≤◌, ◌<◌, length, get_or, set}
+use Rattle.std.specs.Prelude.{◌≡◌, refl, Bool, true, false, List, ◌∷◌, ℕ, ◌+◌, ◌-◌, ◌*◌, ◌%◌, ◌≤◌, ◌<◌, length, get_or, set, Option, Some, None}
 use Rattle.std.proofs.Common.{sym, ap, subst, ◌∙◌, arith}
 use borrow.Author.Tests.{le-leb, lt-leb, lt-ltb, le-ltb, eq-eqb, ne_eqb}
 use Rattle.hexes.specs.Hexes.{digit}
@@ -7,10 +7,10 @@ use Rattle.hexes.specs.Hexes as hexes
 use Rattle.hexes.specs.HexesLaws.{value-decimal, value-upper, value-lower, digit-decimal, digit-upper, digit-lower}
 use Rattle.hexes.specs.Spelled as spelled
 use Rattle.dumps.specs.declared.Style.{Style}
-use Rattle.dumps.specs.declared.Turn.{Turn}
-use Rattle.dumps.specs.declared.Turn.TheVariants as turns
-use Rattle.dumps.specs.declared.state.State.{State}
-use Rattle.dumps.specs.declared.state.Class.TheVariants as class
+use Rattle.dumps.specs.Turn.{Turn}
+use Rattle.dumps.specs.Turn as turns
+use Rattle.dumps.specs.State.{State}
+use Rattle.dumps.specs.Class as class
 use Rattle.dumps.specs.Mode as mode
 use Rattle.dumps.specs.States as states
 use Rattle.dumps.specs.States.{class_of, shown_of, moved}
@@ -131,13 +131,13 @@ module _ (f : Style) (x n b : ℕ) (s : State) where
   unfolding states.low
   low-faint d h e = rw (d, eq-eqb (shown_of f.prefix (s.octet % 16 * 16 + hexes.value x)) 32 h, ne_eqb s.beside n e)
 
-  pub past-blank : f.closing ≡ 0 → x ≡ 32 → s ≡ states.past f x s
+  pub past-blank : f.closing ≡ None → x ≡ 32 → s ≡ states.past f x s
   unfolding states.past
-  past-blank c z = rw (eq-eqb f.closing 0 c, eq-eqb x 32 z)
+  past-blank c z = rw (c, eq-eqb x 32 z)
 
-  pub past-closes : (f.closing ≡ 0 → ⊥) → x ≡ f.closing → states.to mode.closed s ≡ states.past f x s
+  pub past-closes : f.closing ≡ Some x → states.to mode.closed s ≡ states.past f x s
   unfolding states.past
-  past-closes c z = rw (ne_eqb f.closing 0 c, eq-eqb x f.closing z)
+  past-closes c = rw (c, eq-eqb x x refl)
 
   pub beside-over : n ≤ s.beside → states.past f x s ≡ states.beside f x n b s
   unfolding states.beside
@@ -147,13 +147,13 @@ module _ (f : Style) (x n b : ℕ) (s : State) where
   unfolding states.beside
   beside-shows h z = rw (lt-leb n s.beside h, eq-eqb x (shown_of f.prefix b) z)
 
-  pub fenced-on : x ≡ f.opening → states.to mode.text (states.column s.line s) ≡ states.fenced f x s
+  pub fenced-on : f.opening ≡ Some x → states.to mode.text (states.column s.line s) ≡ states.fenced f x s
   unfolding states.fenced
-  fenced-on z = rw (eq-eqb x f.opening z)
+  fenced-on z = rw (z, eq-eqb x x refl)
 
-  pub broken-on : f.closing ≡ 0 → s.solid ≤ s.beside → states.columned n s ≡ states.broken f n s
+  pub broken-on : f.closing ≡ None → s.solid ≤ s.beside → states.columned n s ≡ states.broken f n s
   unfolding states.broken
-  broken-on c h = rw (eq-eqb f.closing 0 c, le-ltb s.beside s.solid h)
+  broken-on c h = rw (c, le-ltb s.beside s.solid h)
 
   pub text-returned : x ≡ 13 → s ≡ states.text f x n b s
   unfolding states.text
@@ -167,14 +167,18 @@ module _ (f : Style) (x n b : ℕ) (s : State) where
   unfolding states.text
   text-beside y z = rw (ne_eqb x 13 y, ne_eqb x 10 z)
 
-  pub more-digit : f.opening ≡ 0 → states.beside f x n b s ≡ states.more_by class.Digit f x n b s
-  more-digit o = rw (eq-eqb f.opening 0 o)
+  pub more-digit : f.opening ≡ None → states.beside f x n b s ≡ states.more_by class.Digit f x n b s
+  more-digit o = rw o
 
-  pub more-next : (f.opening ≡ 0 → ⊥) → states.high false x s ≡ states.more_by class.Digit f x n b s
-  more-next o = rw (ne_eqb f.opening 0 o)
+  pub more-next : (f.opening ≡ None → ⊥) → states.high false x s ≡ states.more_by class.Digit f x n b s
+  more-next o = go f.opening refl
+    where
+      go : (g : Option ℕ) → f.opening ≡ g → states.high false x s ≡ states.more_by class.Digit f x n b s
+      go None p = absurd (o p)
+      go (Some y) p = rw p
 
-  pub more-other : f.opening ≡ 0 → states.beside f x n b s ≡ states.more_by class.Other f x n b s
-  more-other o = rw (eq-eqb f.opening 0 o)
+  pub more-other : f.opening ≡ None → states.beside f x n b s ≡ states.more_by class.Other f x n b s
+  more-other o = rw o
 
-  pub more-fenced : (f.opening ≡ 0 → ⊥) → states.fenced f x s ≡ states.more_by class.Other f x n b s
-  more-fenced o = rw (ne_eqb f.opening 0 o)
+  pub more-fenced : {y : ℕ} → f.opening ≡ Some y → states.fenced f x s ≡ states.more_by class.Other f x n b s
+  more-fenced o = rw o

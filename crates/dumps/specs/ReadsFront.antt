@@ -6,8 +6,8 @@ use Rattle.hexes.specs.Hexes.{digit}
 use Rattle.hexes.specs.Hexes as hexes
 use Rattle.hexes.specs.Spelled as spelled
 use Rattle.dumps.specs.declared.Style.{Style}
-use Rattle.dumps.specs.declared.state.State.{State}
-use Rattle.dumps.specs.declared.state.Class.TheVariants as class
+use Rattle.dumps.specs.State.{State}
+use Rattle.dumps.specs.Class as class
 use Rattle.dumps.specs.Mode as mode
 use Rattle.dumps.specs.States as states
 use Rattle.dumps.specs.States.{moved}

@@ -1,5 +1,6 @@
 -- What follows the octets of a line is read past: blanks, or a text column that shows them. Assumes nothing.
-use Rattle.std.specs.Prelude.{◌≡◌, refl, Bool, true, false, List, [], ◌∷◌, ◌++◌, ℕ, suc, ◌+◌, ◌-◌, ◌≤◌, ◌<◌, ltb, leb, eqb, length, get_or, take, drop}
+use Rattle.std.specs.Prelude.{◌≡◌, refl, Bool, true, false, List, [], ◌∷◌, ◌++◌, ℕ, suc, ◌+◌}
+use Rattle.std.specs.Prelude.{◌-◌, ◌≤◌, ◌<◌, ltb, leb, eqb, length, get_or, take, drop, Some, None}
 use Rattle.std.proofs.Common.{sym, ap, subst, ◌∙◌, append-nil, append_assoc, add-zero, add-one, arith, eqb-true, leb-true, leb-false, ltb-true, ltb-false, length-append, length-drop, length-take-le, get_or-take, drop-cons, get_or-drop}
 use Rattle.std.proofs.lemmas.Bool.{eqb-false}
 use Rattle.std.proofs.Math.ListN.{get_or-append}
@@ -7,8 +8,8 @@ use Rattle.std.proofs.Math.Seq.{append_snoc, drop-append_seam, get_or-append_sea
 use Rattle.octets.specs.ListsLaws.{all_append, all-at}
 use Rattle.hexes.specs.Hexes as hexes
 use Rattle.dumps.specs.declared.Style.{Style}
-use Rattle.dumps.specs.declared.state.State.{State}
-use Rattle.dumps.specs.declared.state.Class.TheVariants as class
+use Rattle.dumps.specs.State.{State}
+use Rattle.dumps.specs.Class as class
 use Rattle.dumps.specs.Mode as mode
 use Rattle.dumps.specs.States as states
 use Rattle.dumps.specs.States.{class_of, shown_of, moved}
@@ -23,9 +24,9 @@ use Rattle.dumps.specs.Reads.{Good, back_on, class-break, class-blank, shown-is,
 use Rattle.dumps.specs.ReadsLine.{RowOf, Sides, row_count, row_at, row-front, one-blank, two-blanks}
 
 -- a column by its two kinds
-by-column : {f : Style} {cs t : List ℕ} {P : Type 0} → Column f cs t → ((f.opening ≡ 0 → ⊥) → (u : List ℕ) → t ≡ f.opening ∷ u → Text f cs u → P)
-    → (f.opening ≡ 0 → (ds b : List ℕ) → cs ≡ ds ++ b → Faint f ds → Text f b t → P) → P
-by-column (shows.fenced {cs} {t} o e) p q = p o t refl e
+by-column : {f : Style} {cs t : List ℕ} {P : Type 0} → Column f cs t → ((x : ℕ) → f.opening ≡ Some x → (u : List ℕ) → t ≡ x ∷ u → Text f cs u → P)
+    → (f.opening ≡ None → (ds b : List ℕ) → cs ≡ ds ++ b → Faint f ds → Text f b t → P) → P
+by-column (shows.fenced {o = x} {cs} {t} o e) p q = p x o t refl e
 by-column (shows.free ds {bs} {t} o h e) p q = q o ds bs refl h e
 
 -- what follows the octets, by its two kinds
@@ -180,13 +181,12 @@ module _ (f : Style) (told : Told f) (m : ℕ) (bs now cs rest : List ℕ) (n : 
         ∙ reads.text-beside f 32 n (get_or out s.beside 0) s (λ z. absurd (omega arith)) (λ z. absurd (omega arith))
         ∙ moves.at-text f 32 n (get_or out s.beside 0) s v)
         a.good a.filled (λ z. absurd (omega arith)) (text-read e s v a i w k d j z l c)
-    text-read (shows.closes {q} o b) s v a i w k d j z l c =
+    text-read (shows.closes {c = x} {q} o b) s v a i w k d j z l c =
         let p : length cs - i ≡ 0 = sym (length-drop i cs) ∙ ap length d in
         let u = row_count a in
-        let x : ℕ = f.closing in
-        let y = told.closing o in
+        let y = told.closing x o in
         back_on f s x n out (q ++ (10 ∷ rest)) m bs (states.to mode.closed s)
-        (reads.past-closes f x n 0 s o refl
+        (reads.past-closes f x n 0 s o
         ∙ reads.beside-over f x n (get_or out s.beside 0) s (omega arith)
         ∙ reads.text-beside f x n (get_or out s.beside 0) s (λ z. y.blank (shows.carriage_return z)) y.line_break
         ∙ moves.at-text f x n (get_or out s.beside 0) s v)
@@ -194,7 +194,7 @@ module _ (f : Style) (told : Told f) (m : ℕ) (bs now cs rest : List ℕ) (n : 
 
     -- ---- before a column that nothing stands before
 
-    module _ (s : State) (v : s.mode ≡ mode.more) (a : RowOf stood s n out now cs) (c : Sides f s.beside s.solid now cs) (op : f.opening ≡ 0) where
+    module _ (s : State) (v : s.mode ≡ mode.more) (a : RowOf stood s n out now cs) (c : Sides f s.beside s.solid now cs) (op : f.opening ≡ None) where
       passes : (x : ℕ) (t : List ℕ) → Blank x → Good f s n out (t ++ (10 ∷ rest)) m bs → Good f s n out (x ∷ (t ++ (10 ∷ rest))) m bs
       passes x t b r =
           back_on f s x n out (t ++ (10 ∷ rest)) m bs s (moves.at_more f x n (get_or out s.beside 0) s class.Blank (class-blank b) v) a.good a.filled
@@ -288,30 +288,28 @@ module _ (f : Style) (told : Told f) (m : ℕ) (bs now cs rest : List ℕ) (n : 
           over-bare s a (λ _. beside) (cut-blank f n s (faint-solid c w a.here))
           (moves.at_more f 10 n (get_or out s.beside 0) s class.Break class-break v)
       lead-read (shows.blank {t} o e) ds q d = passes 32 t (shows.space refl) (lead-read e ds q d)
-      lead-read (shows.closes {q} o b) ds h d =
-          let x : ℕ = f.closing in
+      lead-read (shows.closes {c = x} {q} o b) ds h d =
           let u = row_count a in
           let p = not-fewer ds [] h d in
           let l : length cs ≡ length ds = ap length (d ∙ append-nil ds) in
           back_on f s x n out (q ++ (10 ∷ rest)) m bs (states.to mode.closed s)
-          (reads.past-closes f x n 0 s o refl
+          (reads.past-closes f x n 0 s o
           ∙ reads.beside-over f x n (get_or out s.beside 0) s (omega (arith, c.beside_is))
           ∙ reads.more-other f x n (get_or out s.beside 0) s op
-          ∙ moves.at_more f x n (get_or out s.beside 0) s class.Other (apart_other x (told.closing o)) v)
+          ∙ moves.at_more f x n (get_or out s.beside 0) s class.Other (apart_other x (told.closing x o)) v)
           a.good a.filled (λ z. absurd (omega arith)) (closed-read (states.to mode.closed s) refl a q b)
 
     column-read : {t : List ℕ} → Column f cs t → (s : State) → s.mode ≡ mode.more → RowOf stood s n out now cs → Sides f s.beside s.solid now cs
         → Good f s n out (t ++ (10 ∷ rest)) m bs
     column-read {t} e s v a c =
         by-column e
-        (λ o u p q.
-        let x : ℕ = f.opening in
+        (λ x o u p q.
         let t₁ : State = states.to mode.text (states.column s.line s) in
         subst (λ (l : List ℕ). Good f s n out (l ++ (10 ∷ rest)) m bs) (sym p)
         (back_on f s x n out (u ++ (10 ∷ rest)) m bs t₁
-        (reads.fenced-on f x n 0 s refl
+        (reads.fenced-on f x n 0 s o
         ∙ reads.more-fenced f x n (get_or out s.beside 0) s o
-        ∙ moves.at_more f x n (get_or out s.beside 0) s class.Other (apart_other x (told.opening o)) v)
+        ∙ moves.at_more f x n (get_or out s.beside 0) s class.Other (apart_other x (told.opening x o)) v)
         a.good a.filled (λ z. absurd (omega arith))
         (text-read q t₁ refl a 0 (a.here ∙ sym (add-zero (length now))) (omega arith) refl c.last c.solid_is c.fewer c.clear)))
         (λ o ds b p h q. lead-read s v a c o q ds h p)

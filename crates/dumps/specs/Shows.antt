@@ -1,6 +1,6 @@
 -- What it is for a text to be a dump of octets in a style (docs/COMMAND.md, "Dumps"), line by line and without a reader. Assumes nothing: these
 -- are definitions.
-use Rattle.std.specs.Prelude.{◌≡◌, Bool, true, false, List, [], ◌∷◌, ◌++◌, ℕ, zero, suc, ◌+◌, ◌*◌, ◌≤◌, ◌<◌, length}
+use Rattle.std.specs.Prelude.{◌≡◌, Bool, true, false, List, [], ◌∷◌, ◌++◌, ℕ, zero, suc, ◌+◌, ◌*◌, ◌≤◌, ◌<◌, length, Some, None}
 use Rattle.octets.specs.Lists.{All}
 use Rattle.hexes.specs.Spelled.{Digit}
 use Rattle.dumps.specs.declared.Style.{Style}
@@ -68,7 +68,7 @@ pub data Pair (x y b : ℕ) : Type 0 where
 pub record Gap (f : Style) (q : List ℕ) : Type 0 where
   pub blank : Blanks q
   pub some : 1 ≤ length q
-  pub one : f.opening ≡ 0 → length q ≡ 1
+  pub one : f.opening ≡ None → length q ≡ 1
 
 -- the text t has the octets cs, in groups; the flag is whether the last is the second of its group
 pub data Octets (f : Style) : Bool → List ℕ → List ℕ → Type 0 where
@@ -83,14 +83,14 @@ pub data Octets (f : Style) : Bool → List ℕ → List ℕ → Type 0 where
 pub data Text (f : Style) : List ℕ → List ℕ → Type 0 where
   shows : {b x : ℕ} {bs t : List ℕ} → Shown f b x → Text f bs t → Text f (b ∷ bs) (x ∷ t)
   returned : {bs t : List ℕ} → Text f bs t → Text f bs (13 ∷ t)
-  ends : {bs : List ℕ} → f.closing ≡ 0 → Faint f bs → Text f bs []
-  blank : {t : List ℕ} → f.closing ≡ 0 → Text f [] t → Text f [] (32 ∷ t)
-  closes : {q : List ℕ} → (f.closing ≡ 0 → ⊥) → Blanks q → Text f [] (f.closing ∷ q)
+  ends : {bs : List ℕ} → f.closing ≡ None → Faint f bs → Text f bs []
+  blank : {t : List ℕ} → f.closing ≡ None → Text f [] t → Text f [] (32 ∷ t)
+  closes : {c : ℕ} {q : List ℕ} → f.closing ≡ Some c → Blanks q → Text f [] (c ∷ q)
 
 -- a column that something stands before; or that nothing does, where blanks at its front cannot be told from those before it
 pub data Column (f : Style) : List ℕ → List ℕ → Type 0 where
-  fenced : {cs t : List ℕ} → (f.opening ≡ 0 → ⊥) → Text f cs t → Column f cs (f.opening ∷ t)
-  free : (ds : List ℕ) {bs t : List ℕ} → f.opening ≡ 0 → Faint f ds → Text f bs t → Column f (ds ++ bs) t
+  fenced : {o : ℕ} {cs t : List ℕ} → f.opening ≡ Some o → Text f cs t → Column f cs (o ∷ t)
+  free : (ds : List ℕ) {bs t : List ℕ} → f.opening ≡ None → Faint f ds → Text f bs t → Column f (ds ++ bs) t
 
 -- The line of the octets cs may be without a column: they are all shown as blanks; or the style asks for no column, and none has stood before.
 pub data Without (f : Style) (cs : List ℕ) : Bool → Type 0 where
@@ -161,5 +161,5 @@ pub record Apart (x : ℕ) : Type 0 where
 -- a style that can be told: an offset has a digit at least, and what stands before a text column and after it is none of theirs
 pub record Told (f : Style) : Type 0 where
   pub digits : 1 ≤ f.digits
-  pub opening : (f.opening ≡ 0 → ⊥) → Apart f.opening
-  pub closing : (f.closing ≡ 0 → ⊥) → Apart f.closing
+  pub opening : (x : ℕ) → f.opening ≡ Some x → Apart x
+  pub closing : (x : ℕ) → f.closing ≡ Some x → Apart x

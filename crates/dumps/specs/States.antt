@@ -1,13 +1,14 @@
 -- Where a dump stands, and how a character moves it (docs/COMMAND.md, "Dumps"), in the code's order of tests. x is the character, n the number of octets
 -- before it, b the octet that the text column shows next. Assumes nothing: these are definitions.
-use Rattle.std.specs.Prelude.{Bool, true, false, cond, ℕ, ◌+◌, ◌*◌, ◌%◌, ltb, leb, eqb}
+use Rattle.std.specs.Prelude.{Bool, true, false, cond, ℕ, ◌+◌, ◌*◌, ◌%◌, ltb, leb, eqb, Option, Some, None}
+use Rattle.std.specs.Option.{is_none}
 use Rattle.hexes.specs.Hexes.{digit}
 use Rattle.hexes.specs.Hexes as hexes
 use Rattle.inputs.specs.Why as why
 use Rattle.dumps.specs.declared.Style.{Style}
-use Rattle.dumps.specs.declared.state.State.{State}
-use Rattle.dumps.specs.declared.state.Class.{Class}
-use Rattle.dumps.specs.declared.state.Class.TheVariants.{Break, Blank, Digit, Other}
+use Rattle.dumps.specs.State.{State}
+use Rattle.dumps.specs.Class.{Class}
+use Rattle.dumps.specs.Class.{Break, Blank, Digit, Other}
 use Rattle.dumps.specs.Mode as mode
 
 -- ---- characters
@@ -59,21 +60,27 @@ reading d v s =
     state s.mode d v s.octet s.second s.line s.before s.beside s.solid s.star s.upto s.ended s.column s.why
 
 -- its first digit, or the 0 of 0x; after an offset that stood alone there is none
-unfoldable pub first : Style → ℕ → State → State
-first f x s =
+abbrev pub first_of : Style → ℕ → ℕ → State → State
+first_of f x v s =
     cond s.ended (but why.offset s)
     (cond f.prefix (cond (eqb x 48) (to mode.prefix s) (but why.form s))
-    (to mode.offset (reading 1 (hexes.value x) s)))
+    (to mode.offset (reading 1 v s)))
+
+unfoldable pub first : Style → ℕ → State → State
+first f x s = first_of f x (hexes.value x) s
 
 unfoldable pub prefixed : ℕ → State → State
 prefixed x s = cond (eqb x 120) (to mode.offset (reading 0 0 s)) (but why.form s)
 
 -- a further digit; no input has 65,536 octets
-unfoldable pub further : Style → ℕ → State → State
-further f x s =
+abbrev pub further_of : Style → ℕ → State → State
+further_of f v s =
     cond (leb f.digits s.digits) (but why.form s)
     (cond (ltb 65535 s.value) (but why.offset s)
-    (reading (s.digits + 1) (16 * s.value + hexes.value x) s))
+    (reading (s.digits + 1) (16 * s.value + v) s))
+
+unfoldable pub further : Style → ℕ → State → State
+further f x s = further_of f (hexes.value x) s
 
 -- the octets begin, the first of them the n-th
 abbrev pub opened : ℕ → State → State
@@ -153,9 +160,12 @@ starred x s = starred_by (class_of x) s
 -- ---- its octets
 
 -- the first digit of an octet, which may be the second of its group
+abbrev pub high_of : Bool → ℕ → State → State
+high_of g v s =
+    state mode.high s.digits s.value v g s.line s.before s.beside s.solid s.star s.upto s.ended s.column s.why
+
 abbrev pub high : Bool → ℕ → State → State
-high g x s =
-    state mode.high s.digits s.value (hexes.value x) g s.line s.before s.beside s.solid s.star s.upto s.ended s.column s.why
+high g x s = high_of g (hexes.value x) s
 
 -- the n-th octet is o. Where the column shows it as a blank: at the line's front the column may begin after it, and at its end the column need not show it.
 abbrev pub complete : ℕ → State → State
@@ -229,33 +239,38 @@ one f x n s = one_by (class_of x) f x n s
 -- ---- its text column
 
 -- after all octets: what closes the column, or a blank where nothing does
+abbrev pub past_by : Option ℕ → ℕ → State → State
+past_by None x s = cond (eqb x 32) s (but why.column s)
+past_by (Some c) x s = cond (eqb x c) (to mode.closed s) (but why.column s)
+
 unfoldable pub past : Style → ℕ → State → State
-past f x s =
-    cond (eqb f.closing 0)
-    (cond (eqb x 32) s (but why.column s))
-    (cond (eqb x f.closing) (to mode.closed s) (but why.column s))
+past f x s = past_by f.closing x s
 
 -- a character of the column
 unfoldable pub beside : Style → ℕ → ℕ → ℕ → State → State
 beside f x n b s = cond (leb n s.beside) (past f x s) (cond (eqb x (shown_of f.prefix b)) (to mode.text (column (s.beside + 1) s)) (but why.column s))
 
 -- what stands before the column
+abbrev pub fenced_by : Option ℕ → ℕ → State → State
+fenced_by None x s = but why.form s
+fenced_by (Some o) x s = cond (eqb x o) (to mode.text (column s.line s)) (but why.form s)
+
 unfoldable pub fenced : Style → ℕ → State → State
-fenced f x s = cond (eqb x f.opening) (to mode.text (column s.line s)) (but why.form s)
+fenced f x s = fenced_by f.opening x s
 
 -- what follows an octet and two blanks or more
 abbrev pub more_by : Class → Style → ℕ → ℕ → ℕ → State → State
 more_by Break f x n b s = cut f n s
 more_by Blank f x n b s = s
-more_by Digit f x n b s = cond (eqb f.opening 0) (beside f x n b s) (high false x s)
-more_by Other f x n b s = cond (eqb f.opening 0) (beside f x n b s) (fenced f x s)
+more_by Digit f x n b s = cond (is_none f.opening) (beside f x n b s) (high false x s)
+more_by Other f x n b s = cond (is_none f.opening) (beside f x n b s) (fenced f x s)
 
 abbrev pub more : Style → ℕ → ℕ → ℕ → State → State
 more f x n b s = more_by (class_of x) f x n b s
 
 -- the column ends with its line; blanks at its end may be missing where nothing closes it
 unfoldable pub broken : Style → ℕ → State → State
-broken f n s = cond (eqb f.closing 0) (cond (ltb s.beside s.solid) (but why.column s) (columned n s)) (but why.column s)
+broken f n s = cond (is_none f.closing) (cond (ltb s.beside s.solid) (but why.column s) (columned n s)) (but why.column s)
 
 -- the rest of the column; a carriage return may stand before a line break
 unfoldable pub text : Style → ℕ → ℕ → ℕ → State → State

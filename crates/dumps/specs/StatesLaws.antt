@@ -1,31 +1,15 @@
 -- The laws of the states of a dump. Assumes nothing.
-use Rattle.std.specs.Prelude.{◌≡◌, refl, Bool, true, false, cond, ℕ, ◌≤◌, ◌<◌, eqb}
-use Rattle.std.proofs.Common.{arith}
+use Rattle.std.specs.Prelude.{◌≡◌, refl, Bool, true, false, List, ℕ, ◌≤◌, ◌<◌, ltb, length, get_or, take}
+use Rattle.std.proofs.Common.{ap, ltb-true, ltb-false, length-take-le}
+use Rattle.std.proofs.lemmas.List.{get_or-take}
 use borrow.Author.Tests.{le-leb, lt-leb, eq-eqb, ne_eqb}
-use Rattle.hexes.specs.Hexes.{digit}
 use Rattle.inputs.specs.Why as why
 use Rattle.dumps.specs.declared.Style.{Style}
-use Rattle.dumps.specs.declared.state.State.{State}
-use Rattle.dumps.specs.declared.state.Class.TheVariants.{Break, Blank, Digit, Other}
+use Rattle.dumps.specs.State.{State}
+use Rattle.dumps.specs.Class.{Class, Break, Blank, Digit, Other}
 use Rattle.dumps.specs.Mode as mode
 use Rattle.dumps.specs.States.{class_of, but, to, opened, filled, counted, star_at, high, closed, cut, octet}
-
--- what is no digit is of another class
-other-class : (a b c d : Bool) → cond a Break (cond b Blank (cond c Blank (cond d Blank Other))) ≡ Digit → ⊥
-other-class true b c d e = let z : ◌≡◌ {A = ℕ} 0 1 = cc in absurd (omega arith)
-other-class false true c d e = let z : ◌≡◌ {A = ℕ} 0 1 = cc in absurd (omega arith)
-other-class false false true d e = let z : ◌≡◌ {A = ℕ} 0 1 = cc in absurd (omega arith)
-other-class false false false true e = let z : ◌≡◌ {A = ℕ} 0 1 = cc in absurd (omega arith)
-other-class false false false false e = let z : ◌≡◌ {A = ℕ} 0 1 = cc in absurd (omega arith)
-
--- only a digit is of the class of digits
-pub class-digit : (x : ℕ) → class_of x ≡ Digit → digit x ≡ true
-unfolding class_of
-class-digit x e = go (digit x) refl
-  where
-    go : (b : Bool) → digit x ≡ b → digit x ≡ true
-    go true d = d
-    go false d = absurd (other-class (eqb x 10) (eqb x 32) (eqb x 9) (eqb x 13) (rw d at e))
+use Rattle.dumps.specs.States.{shown_of, beside, more_by, text, behind, moved}
 
 -- ---- an offset that is whole
 
@@ -81,15 +65,8 @@ module _ (x : ℕ) (s : State) where
 -- ---- a digit after an octet
 
 module _ (f : Style) (x n : ℕ) (s : State) (d : class_of x ≡ Digit) where
-  pub octet-alone : f.pairs ≡ false → but why.form s ≡ octet f x n s
-  octet-alone p = rw (d, p)
-
-  module _ (p : f.pairs ≡ true) where
-    pub octet-third : s.second ≡ true → but why.form s ≡ octet f x n s
-    octet-third g = rw (d, p, g)
-
-    pub octet-second : s.second ≡ false → high true x s ≡ octet f x n s
-    octet-second g = rw (d, p, g)
+  pub octet-second : f.pairs ≡ true → s.second ≡ false → high true x s ≡ octet f x n s
+  octet-second p g = rw (d, p, g)
 
 -- ---- a line that ends without a text column
 
@@ -111,3 +88,35 @@ module _ (f : Style) (n : ℕ) (s : State) where
       pub cut-none : s.column ≡ false → closed n s ≡ cut f n s
       unfolding cut
       cut-none l = rw (lt-leb s.solid s.line h, k, l)
+
+-- ---- the octet that the text column shows next
+
+module _ (f : Style) (x n : ℕ) (s : State) (b c : ℕ) where
+  beside-past : n ≤ s.beside → beside f x n b s ≡ beside f x n c s
+  unfolding beside
+  beside-past h = rw (le-leb n s.beside h) refl
+
+  more-past : beside f x n b s ≡ beside f x n c s → (k : Class) → more_by k f x n b s ≡ more_by k f x n c s
+  more-past e Break = refl
+  more-past e Blank = refl
+  more-past e Digit = rw e refl
+  more-past e Other = rw e refl
+
+  -- past the last there is none to show
+  moved-past : n ≤ s.beside → moved f x n b s ≡ moved f x n c s
+  unfolding moved behind text
+  moved-past h = rw (more-past (beside-past h) (class_of x), beside-past h) refl
+
+-- the column shows another character
+pub beside-other : (f : Style) (x n b : ℕ) (s : State) → s.beside < n → (x ≡ shown_of f.prefix b → ⊥) → but why.column s ≡ beside f x n b s
+unfolding beside
+beside-other f x n b s h d = rw (lt-leb n s.beside h, ne_eqb x (shown_of f.prefix b) d)
+
+-- it is one of the octets so far
+pub moved-laid : (f : Style) (x n : ℕ) (s : State) (out laid : List ℕ) → laid ≡ take n out → n ≤ length out
+    → moved f x (length laid) (get_or laid s.beside 0) s ≡ moved f x n (get_or out s.beside 0) s
+moved-laid f x n s out laid e h = rw (e, length-take-le n out h) (go (ltb s.beside n) refl)
+  where
+    go : (p : Bool) → ltb s.beside n ≡ p → moved f x n (get_or (take n out) s.beside 0) s ≡ moved f x n (get_or out s.beside 0) s
+    go true p = ap (λ (b : ℕ). moved f x n b s) (get_or-take n out s.beside 0 (ltb-true s.beside n p))
+    go false p = moved-past f x n s (get_or (take n out) s.beside 0) (get_or out s.beside 0) (ltb-false s.beside n p)

@@ -2,11 +2,11 @@
 use Rattle.std.specs.Prelude.{◌≡◌, refl, Bool, true, false, List, ◌∷◌, ℕ, ◌+◌, ◌-◌, ◌%◌, ◌≤◌, ◌<◌, ltb, leb, eqb, length, get_or, set, take}
 use Rattle.std.proofs.Common.{sym, ap, subst, ◌∙◌, arith, leb-true, leb-false, ltb-true, ltb-false, eqb-true}
 use Rattle.std.proofs.lemmas.Bool.{eqb-false}
-use Rattle.inputs.specs.declared.Read.TheVariants.{Octets, Bad, Long}
+use Rattle.inputs.specs.Read.{Octets, Bad, Long}
 use Rattle.dumps.specs.declared.Style.{Style}
-use Rattle.dumps.specs.declared.Turn.{Turn}
-use Rattle.dumps.specs.declared.Turn.TheVariants as turns
-use Rattle.dumps.specs.declared.state.State.{State}
+use Rattle.dumps.specs.Turn.{Turn}
+use Rattle.dumps.specs.Turn as turns
+use Rattle.dumps.specs.State.{State}
 use Rattle.dumps.specs.Mode as mode
 use Rattle.dumps.specs.States.{moved}
 use Rattle.dumps.specs.Dumps.{repeated_of, take_of, Turned, Ended, read_from}

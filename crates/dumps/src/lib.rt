@@ -4,13 +4,15 @@
 #![tactic(auto)]
 
 ghost use Rattle.std.specs.Prelude.{◌≡◌, ◌-◌, ◌<◌, ◌≤◌, length};
+ghost use Rattle.inputs.specs.Read.{read_in, unread_in};
+ghost use Rattle.dumps.specs.Held.{state_in, reach_in, turn_in, stopped_at};
 ghost use Rattle.dumps.specs.Dumps.{repeated_of, Filled, lay_of, take_of, Turned, Dumped};
+ghost use Rattle.dumps.specs.declared.Stop.TheVariants.{Bad};
 
 mod line;
-mod moves;
 mod state;
 
-use inputs::{Read, Why, character, octet};
+use inputs::{Unread, Why, character};
 use state::{Mode, State};
 
 // How a tool writes its dumps.
@@ -24,29 +26,40 @@ pub struct Style {
     pub colon: bool,
     // Whether two octets may make a group.
     pub pairs: bool,
-    // What stands before the text column and after it, or 0. Where nothing does, two blanks end the octets.
-    pub opening: u8,
-    pub closing: u8,
+    // What stands before the text column and after it. Where nothing does, two blanks end the octets.
+    pub opening: Option<u8>,
+    pub closing: Option<u8>,
     // Whether every line has a text column; where not, every line has one after the first that has.
     pub column: bool,
     // Whether a dump may end in an offset that stands alone; where not, none does.
     pub ends: bool,
 }
 
-// How many octets there are after stars: so many; or that they stand for no whole lines; or that there is no room.
+// Why a character is not taken: the text is no dump; or there is no room.
 #[derive(Clone, Copy)]
-enum Reach {
-    To(usize),
-    No,
+pub enum Stop {
+    Bad(Why),
     Long,
 }
 
-// What comes of a character: where the dump stands, and how many octets there are; or why the text is no dump; or that there is no room.
-#[derive(Clone, Copy)]
-enum Turn {
-    Go(State, usize),
-    Bad(usize),
-    Long,
+impl From<Why> for Stop {
+    ghost from_gives = { λ w s. s ≡ Bad w };
+
+    fn from(why: Why) -> Stop {
+        Stop::Bad(why)
+    }
+}
+
+impl Stop {
+    // The same of the character at `at`.
+    fn at(self, at: usize) -> Unread
+        ensures { unread_in result ≡ stopped_at at self }
+    {
+        match self {
+            Stop::Bad(why) => Unread::Bad { at, why },
+            Stop::Long => Unread::Long,
+        }
+    }
 }
 
 // Lays the octets from `from` on again from n on, up to `upto`.
@@ -54,90 +67,76 @@ fn repeat(out: &mut [u8], from: usize, n: usize, upto: usize)
     requires { (from < n) × (upto ≤ length out.old) }
     ensures { out.new ≡ repeated_of (upto - n) from n out.old }
 {
-    let mut source = from;
-    let mut i = n;
-    while i < upto {
-        out[i] = out[source];
-        source += 1;
-        i += 1;
+    let back = n - from;
+    for i in n..upto {
+        out[i] = out[i - back];
     }
 }
 
 // A star stands for whole lines like the line before it, which begins at `from`, up to `upto`: how many octets there are then.
-fn fill(out: &mut [u8], from: usize, n: usize, upto: usize) -> Reach
-    ensures { Filled from n upto out.old result out.new }
+fn fill(out: &mut [u8], from: usize, n: usize, upto: usize) -> Result<usize, Stop>
+    ensures { Filled from n upto out.old (reach_in result) out.new }
 {
     if upto <= n {
-        return Reach::To(n);
+        return Ok(n);
     }
     if n <= from {
-        return Reach::No;
+        return Err(Stop::Bad(Why::Offset));
     }
     if (upto - n) % (n - from) != 0 {
-        return Reach::No;
+        return Err(Stop::Bad(Why::Offset));
     }
     if out.len() < upto {
-        return Reach::Long;
+        return Err(Stop::Long);
     }
     repeat(out, from, n, upto);
-    Reach::To(upto)
+    Ok(upto)
 }
 
 // Lays an octet that is complete.
-fn lay(s: State, n: usize, out: &mut [u8]) -> Turn
-    ensures { Turned (lay_of s n out.old) result out.new }
+fn lay(s: State, n: usize, out: &mut [u8]) -> Result<(State, usize), Stop>
+    ensures { Turned (lay_of (state_in s) n out.old) (turn_in result) out.new }
 {
-    if s.mode != Mode::LOW {
-        return Turn::Go(s, n);
-    }
+    let Mode::Low = s.mode else {
+        return Ok((s, n));
+    };
     if out.len() <= n {
-        return Turn::Long;
+        return Err(Stop::Long);
     }
     out[n] = s.octet;
-    Turn::Go(s, n + 1)
+    Ok((s, n + 1))
 }
 
-// Takes a character.
-fn take(style: Style, s: State, x: u8, n: usize, out: &mut [u8]) -> Turn
-    requires { n < 65536 }
-    ensures { Turned (take_of style s x n out.old) result out.new }
+// Takes a character after n octets: where the dump stands then, and how many octets there are.
+fn take(style: Style, s: State, x: u8, n: usize, out: &mut [u8]) -> Result<(State, usize), Stop>
+    requires { n ≤ length out.old }
+    ensures { Turned (take_of style (state_in s) x n out.old) (turn_in result) out.new }
 {
-    let b = octet(out, s.beside);
-    let t = s.moved(style, x, n, b);
-    if t.why != 0 {
-        return Turn::Bad(t.why);
-    }
-    match fill(out, t.before, n, t.upto) {
-        Reach::To(m) => lay(t, m, out),
-        Reach::No => Turn::Bad(Why::OFFSET),
-        Reach::Long => Turn::Long,
-    }
+    let t = s.moved(style, x, &out[..n])?;
+    let m = fill(out, t.before, n, t.upto)?;
+    lay(t, m, out)
 }
 
 // Reads a dump into `out`.
-pub fn read(style: Style, text: &[u8], out: &mut [u8]) -> Read
-    requires { length out.old < 65536 }
-    ensures { Dumped style text.now out.old result out.new }
+pub fn read(style: Style, text: &[u8], out: &mut [u8]) -> Result<usize, Unread>
+    ensures { Dumped style text.now out.old (read_in result) out.new }
 {
     let mut s = State::begun();
     let mut n = 0;
-    let mut i = 0;
-    while i <= text.len() {
+    for i in 0..=text.len() {
         match take(style, s, character(text, i), n, out) {
-            Turn::Go(t, m) => {
+            Ok((t, m)) => {
                 s = t;
                 n = m;
             }
-            Turn::Bad(why) => return Read::Bad { at: i, why },
-            Turn::Long => return Read::Long,
+            Err(stop) => return Err(stop.at(i)),
         }
-        i += 1;
     }
     if s.star {
-        return Read::Bad {
+        return Err(Unread::Bad {
             at: text.len(),
-            why: Why::FORM,
-        };
+            why: Why::Form,
+        });
     }
-    Read::Octets(n)
+    Ok(n)
 }

@@ -1,225 +1,217 @@
-// How the characters of a line after its offset move a dump: octets, and the text column beside them.
-ghost use Rattle.std.specs.Prelude.{◌≡◌, true, ◌<◌};
-ghost use Rattle.hexes.specs.Hexes as hexes;
+// How the characters of a line after its offset move a dump: octets, and the text column beside them. `laid` are the octets of the dump so far.
+ghost use Rattle.std.specs.Prelude.{◌≡◌, length, get_or};
+ghost use Rattle.dumps.specs.Held.{state_in, Moved};
 ghost use Rattle.dumps.specs.States as states;
 
 use crate::Style;
 use crate::state::{Class, Mode, State, class_of, shown};
-use hexes::{is_digit, value};
 use inputs::Why;
 
 impl State {
     // ---- its octets
 
-    // The first digit of an octet, the first or the second of its group.
-    fn high(mut self, second: bool, x: u8) -> Self
-        requires { hexes.digit x ≡ true }
-        ensures { result ≡ states.high second x self }
+    // The first digit of an octet, the first or the second of its group, of the value v.
+    fn high(self, second: bool, v: u8) -> Self
+        ensures { state_in result ≡ states.high_of second v (state_in self) }
     {
-        self.second = second;
-        self.octet = value(x);
-        self.to(Mode::HIGH)
+        Self {
+            mode: Mode::High,
+            octet: v,
+            second,
+            ..self
+        }
     }
 
     // The second digit. Blanks at the front of a text column cannot be told from those before it, nor those at its end from none.
-    pub fn low(mut self, f: Style, x: u8, n: usize) -> Self
-        requires { n < 65536 }
-        ensures { result ≡ states.low f x n self }
+    #[tactic(auto, unfolding(crate::specs::States::low, crate::specs::States::class_of))]
+    pub fn low(self, f: Style, x: u8, laid: &[u8]) -> Result<Self, Why>
+        ensures { Moved result (states.low f x (length laid.now) (state_in self)) }
     {
-        if !is_digit(x) {
-            return self.but(Why::FORM);
-        }
-        self.octet = self.octet % 16 * 16 + value(x);
-        if shown(self.octet, f.prefix) != b' ' {
-            self.solid = n + 1;
-            return self.to(Mode::LOW);
+        let Class::Digit(v) = class_of(x) else {
+            return Err(Why::Form);
+        };
+        let n = laid.len();
+        let octet = self.octet % 16 * 16 + v;
+        let whole = Self {
+            mode: Mode::Low,
+            octet,
+            ..self
+        };
+        if shown(octet, f.prefix) != b' ' {
+            return Ok(Self {
+                solid: n + 1,
+                ..whole
+            });
         }
         if self.beside == n {
-            self.beside = n + 1;
+            return Ok(Self {
+                beside: n + 1,
+                ..whole
+            });
         }
-        self.to(Mode::LOW)
+        Ok(whole)
     }
 
     // What follows an octet.
-    pub fn octet(self, f: Style, x: u8, n: usize) -> Self
-        ensures { result ≡ states.octet f x n self }
+    pub fn octet(self, f: Style, x: u8, n: usize) -> Result<Self, Why>
+        ensures { Moved result (states.octet f x n (state_in self)) }
     {
         match class_of(x) {
             Class::Break => self.cut(f, n),
-            Class::Blank => self.to(Mode::ONE),
-            Class::Digit => {
-                if !f.pairs {
-                    return self.but(Why::FORM);
-                }
-                if self.second {
-                    return self.but(Why::FORM);
-                }
-                self.high(true, x)
-            }
-            Class::Other => self.but(Why::FORM),
+            Class::Blank => Ok(self.to(Mode::One)),
+            Class::Digit(v) if f.pairs && !self.second => Ok(self.high(true, v)),
+            Class::Digit(_) | Class::Other => Err(Why::Form),
         }
     }
 
     // The line ends.
-    fn closed(mut self, n: usize) -> Self
-        ensures { result ≡ states.closed n self }
+    fn closed(self, n: usize) -> Self
+        ensures { state_in result ≡ states.closed n (state_in self) }
     {
-        self.before = self.line;
-        self.line = n;
-        self.to(Mode::START)
+        Self {
+            mode: Mode::Start,
+            before: self.line,
+            line: n,
+            ..self
+        }
     }
 
     // It ends with a text column: every further line has one.
-    fn columned(mut self, n: usize) -> Self
-        ensures { result ≡ states.columned n self }
+    fn columned(self, n: usize) -> Self
+        ensures { state_in result ≡ states.columned n (state_in self) }
     {
-        self.column = true;
-        self.closed(n)
+        Self {
+            column: true,
+            ..self.closed(n)
+        }
     }
 
     // It ends without one: its octets are all shown as blanks, or there is no column in the dump so far, and the form does not ask for one.
-    fn cut(self, f: Style, n: usize) -> Self
-        ensures { result ≡ states.cut f n self }
+    #[tactic(auto, unfolding(crate::specs::States::cut))]
+    fn cut(self, f: Style, n: usize) -> Result<Self, Why>
+        ensures { Moved result (states.cut f n (state_in self)) }
     {
-        if self.solid <= self.line {
-            return self.closed(n);
+        if self.line < self.solid && (f.column || self.column) {
+            return Err(Why::Column);
         }
-        if f.column {
-            return self.but(Why::COLUMN);
-        }
-        if self.column {
-            return self.but(Why::COLUMN);
-        }
-        self.closed(n)
+        Ok(self.closed(n))
     }
 
     // What follows the offset; octets, or nothing.
-    pub fn after(self, f: Style, x: u8) -> Self
-        ensures { result ≡ states.after f x self }
+    pub fn after(self, f: Style, x: u8) -> Result<Self, Why>
+        ensures { Moved result (states.after f x (state_in self)) }
     {
         match class_of(x) {
             Class::Break => self.alone(f),
-            Class::Blank => self,
-            Class::Digit => self.high(false, x),
-            Class::Other => self.but(Why::FORM),
+            Class::Blank => Ok(self),
+            Class::Digit(v) => Ok(self.high(false, v)),
+            Class::Other => Err(Why::Form),
         }
     }
 
     // What follows one blank.
-    pub fn one(self, f: Style, x: u8, n: usize) -> Self
-        ensures { result ≡ states.one f x n self }
+    pub fn one(self, f: Style, x: u8, n: usize) -> Result<Self, Why>
+        ensures { Moved result (states.one f x n (state_in self)) }
     {
         match class_of(x) {
             Class::Break => self.cut(f, n),
-            Class::Blank => self.to(Mode::MORE),
-            Class::Digit => self.high(false, x),
-            Class::Other => self.but(Why::FORM),
+            Class::Blank => Ok(self.to(Mode::More)),
+            Class::Digit(v) => Ok(self.high(false, v)),
+            Class::Other => Err(Why::Form),
         }
     }
 
     // ---- its text column
 
     // What follows two blanks or more.
-    pub fn more(self, f: Style, x: u8, n: usize, b: u8) -> Self
-        requires { n < 65536 }
-        ensures { result ≡ states.more f x n b self }
+    pub fn more(self, f: Style, x: u8, laid: &[u8]) -> Result<Self, Why>
+        ensures { Moved result (states.more f x (length laid.now) (get_or laid.now self.beside 0) (state_in self)) }
     {
         match class_of(x) {
-            Class::Break => self.cut(f, n),
-            Class::Blank => self,
-            Class::Digit => {
-                if f.opening == 0 {
-                    return self.beside(f, x, n, b);
-                }
-                self.high(false, x)
-            }
-            Class::Other => {
-                if f.opening == 0 {
-                    return self.beside(f, x, n, b);
-                }
-                self.fenced(f, x)
-            }
+            Class::Break => self.cut(f, laid.len()),
+            Class::Blank => Ok(self),
+            _ if f.opening.is_none() => self.beside(f, x, laid),
+            Class::Digit(v) => Ok(self.high(false, v)),
+            Class::Other => self.fenced(f, x),
         }
     }
 
     // What stands before a text column.
-    fn fenced(mut self, f: Style, x: u8) -> Self
-        ensures { result ≡ states.fenced f x self }
+    #[tactic(auto, unfolding(crate::specs::States::fenced))]
+    fn fenced(self, f: Style, x: u8) -> Result<Self, Why>
+        ensures { Moved result (states.fenced f x (state_in self)) }
     {
-        if x == f.opening {
-            self.beside = self.line;
-            return self.to(Mode::TEXT);
+        match f.opening {
+            Some(opening) if x == opening => Ok(Self {
+                mode: Mode::Text,
+                beside: self.line,
+                ..self
+            }),
+            _ => Err(Why::Form),
         }
-        self.but(Why::FORM)
     }
 
-    // A character of a text column, where the octet b is shown next, or after all octets.
-    fn beside(mut self, f: Style, x: u8, n: usize, b: u8) -> Self
-        requires { n < 65536 }
-        ensures { result ≡ states.beside f x n b self }
+    // A character of a text column, which shows the next octet; or what follows where all are shown.
+    #[tactic(auto, unfolding(crate::specs::States::beside))]
+    fn beside(self, f: Style, x: u8, laid: &[u8]) -> Result<Self, Why>
+        ensures { Moved result (states.beside f x (length laid.now) (get_or laid.now self.beside 0) (state_in self)) }
     {
-        if n <= self.beside {
+        let Some(b) = laid.get(self.beside) else {
             return self.past(f, x);
+        };
+        if x != shown(*b, f.prefix) {
+            return Err(Why::Column);
         }
-        if x != shown(b, f.prefix) {
-            return self.but(Why::COLUMN);
-        }
-        self.beside = self.beside + 1;
-        self.to(Mode::TEXT)
+        Ok(Self {
+            mode: Mode::Text,
+            beside: self.beside + 1,
+            ..self
+        })
     }
 
     // After all octets: what closes the column, or a blank.
-    fn past(self, f: Style, x: u8) -> Self
-        ensures { result ≡ states.past f x self }
+    #[tactic(auto, unfolding(crate::specs::States::past))]
+    fn past(self, f: Style, x: u8) -> Result<Self, Why>
+        ensures { Moved result (states.past f x (state_in self)) }
     {
-        if f.closing == 0 {
-            if x == b' ' {
-                return self;
-            }
-            return self.but(Why::COLUMN);
+        match f.closing {
+            None if x == b' ' => Ok(self),
+            Some(closing) if x == closing => Ok(self.to(Mode::Closed)),
+            _ => Err(Why::Column),
         }
-        if x == f.closing {
-            return self.to(Mode::CLOSED);
-        }
-        self.but(Why::COLUMN)
     }
 
     // The rest of the text column; blanks at its end may be missing where nothing closes it. A carriage return may stand before a line break.
-    pub fn text(self, f: Style, x: u8, n: usize, b: u8) -> Self
-        requires { n < 65536 }
-        ensures { result ≡ states.text f x n b self }
+    #[tactic(auto, unfolding(crate::specs::States::text))]
+    pub fn text(self, f: Style, x: u8, laid: &[u8]) -> Result<Self, Why>
+        ensures { Moved result (states.text f x (length laid.now) (get_or laid.now self.beside 0) (state_in self)) }
     {
-        if x == b'\r' {
-            return self;
+        match x {
+            b'\r' => Ok(self),
+            b'\n' => self.broken(f, laid.len()),
+            _ => self.beside(f, x, laid),
         }
-        if x == b'\n' {
-            return self.broken(f, n);
-        }
-        self.beside(f, x, n, b)
     }
 
     // The column ends with its line.
-    fn broken(self, f: Style, n: usize) -> Self
-        ensures { result ≡ states.broken f n self }
+    #[tactic(auto, unfolding(crate::specs::States::broken))]
+    fn broken(self, f: Style, n: usize) -> Result<Self, Why>
+        ensures { Moved result (states.broken f n (state_in self)) }
     {
-        if f.closing != 0 {
-            return self.but(Why::COLUMN);
+        if f.closing.is_some() || self.beside < self.solid {
+            return Err(Why::Column);
         }
-        if self.beside < self.solid {
-            return self.but(Why::COLUMN);
-        }
-        self.columned(n)
+        Ok(self.columned(n))
     }
 
     // What follows a closed column.
-    pub fn rest(self, x: u8, n: usize) -> Self
-        ensures { result ≡ states.rest x n self }
+    pub fn rest(self, x: u8, n: usize) -> Result<Self, Why>
+        ensures { Moved result (states.rest x n (state_in self)) }
     {
         match class_of(x) {
-            Class::Break => self.columned(n),
-            Class::Blank => self,
-            Class::Digit => self.but(Why::FORM),
-            Class::Other => self.but(Why::FORM),
+            Class::Break => Ok(self.columned(n)),
+            Class::Blank => Ok(self),
+            Class::Digit(_) | Class::Other => Err(Why::Form),
         }
     }
 }

@@ -1,65 +1,51 @@
 // Where a dump stands, and how a character moves it. Octets are counted from the first of the dump; n is how many there are so far.
-ghost use Rattle.std.specs.Prelude.{◌≡◌, true, ◌<◌};
-ghost use Rattle.hexes.specs.Hexes as hexes;
+ghost use Rattle.std.specs.Prelude.{◌≡◌, length, get_or};
+ghost use Rattle.dumps.specs.Held.{class_in, Worth, mode_in, state_in, Moved};
 ghost use Rattle.dumps.specs.States as states;
 
 use crate::Style;
 use hexes::{is_digit, value};
 use inputs::Why;
-use octets::wide;
 
 // Before which character of a line the dump stands.
-#[derive(Drop)]
-pub struct Mode();
-
-impl Mode {
+#[derive(Clone, Copy)]
+pub enum Mode {
     // The offset.
-    pub const START: usize = 0;
-
+    Start,
     // The x of 0x.
-    pub const PREFIX: usize = 1;
-
+    Prefix,
     // The rest of the offset.
-    pub const OFFSET: usize = 2;
-
+    Offset,
     // What follows a star: the end of the line.
-    pub const STAR: usize = 3;
-
+    Star,
     // What follows a colon: a blank, or the end of the line.
-    pub const GAP: usize = 4;
-
+    Gap,
     // The first octet.
-    pub const AFTER: usize = 5;
-
+    After,
     // The second digit of an octet.
-    pub const HIGH: usize = 6;
-
+    High,
     // What follows an octet: here alone one is complete.
-    pub const LOW: usize = 7;
-
+    Low,
     // What follows one blank after an octet, and two or more.
-    pub const ONE: usize = 8;
-
-    pub const MORE: usize = 9;
-
+    One,
+    More,
     // The rest of the text column, and what follows it.
-    pub const TEXT: usize = 10;
-
-    pub const CLOSED: usize = 11;
+    Text,
+    Closed,
 }
 
-// What a character is, as far as most modes ask.
+// What a character is, as far as most modes ask; a digit has its value.
 #[derive(Clone, Copy)]
 pub enum Class {
     Break,
     Blank,
-    Digit,
+    Digit(u8),
     Other,
 }
 
 #[derive(Clone, Copy)]
 pub struct State {
-    pub mode: usize,
+    pub mode: Mode,
     // Digits of the offset so far, and their value.
     pub digits: usize,
     pub value: usize,
@@ -79,55 +65,41 @@ pub struct State {
     pub ended: bool,
     // Whether a line has had a text column.
     pub column: bool,
-    // Why the text is no dump, or 0.
-    pub why: usize,
 }
 
+#[tactic(auto, unfolding(crate::specs::States::class_of))]
 pub fn class_of(x: u8) -> Class
-    ensures { result ≡ states.class_of x }
+    ensures class { class_in result ≡ states.class_of x }
+    ensures worth { Worth x result }
 {
     if is_digit(x) {
-        return Class::Digit;
+        return Class::Digit(value(x));
     }
-    if x == b'\n' {
-        return Class::Break;
+    match x {
+        b'\n' => Class::Break,
+        b' ' | b'\t' | b'\r' => Class::Blank,
+        _ => Class::Other,
     }
-    if x == b' ' {
-        return Class::Blank;
-    }
-    if x == b'\t' {
-        return Class::Blank;
-    }
-    if x == b'\r' {
-        return Class::Blank;
-    }
-    Class::Other
 }
 
 // The character that a text column has for an octet; `dot` is whether a blank is a dot.
+#[tactic(auto, unfolding(crate::specs::States::shown_of))]
 pub fn shown(b: u8, dot: bool) -> u8
     ensures { result ≡ states.shown_of dot b }
 {
-    if b < b' ' {
-        return b'.';
+    match b {
+        b' ' if dot => b'.',
+        b' '..=b'~' => b,
+        _ => b'.',
     }
-    if b'~' < b {
-        return b'.';
-    }
-    if dot {
-        if b == b' ' {
-            return b'.';
-        }
-    }
-    b
 }
 
 impl State {
     pub fn begun() -> Self
-        ensures { result ≡ states.begun }
+        ensures { state_in result ≡ states.begun }
     {
         Self {
-            mode: Mode::START,
+            mode: Mode::Start,
             digits: 0,
             value: 0,
             octet: 0,
@@ -140,199 +112,210 @@ impl State {
             upto: 0,
             ended: false,
             column: false,
-            why: 0,
         }
     }
 
-    pub fn but(mut self, why: usize) -> Self
-        ensures { result ≡ states.but why self }
+    pub fn to(self, mode: Mode) -> Self
+        ensures { state_in result ≡ states.to (mode_in mode) (state_in self) }
     {
-        self.why = why;
-        self
+        Self { mode, ..self }
     }
 
-    pub fn to(mut self, mode: usize) -> Self
-        ensures { result ≡ states.to mode self }
+    // Moved by a character, by where the dump stands; `laid` are the octets so far.
+    #[tactic(auto, unfolding(crate::specs::States::moved, crate::specs::States::fronted, crate::specs::States::within, crate::specs::States::behind))]
+    pub fn moved(self, f: Style, x: u8, laid: &[u8]) -> Result<Self, Why>
+        ensures { Moved result (states.moved f x (length laid.now) (get_or laid.now self.beside 0) (state_in self)) }
     {
-        self.mode = mode;
-        self
+        match self.mode {
+            Mode::Start => self.start(f, x),
+            Mode::Prefix => self.prefixed(x),
+            Mode::Offset => self.offset(f, x, laid.len()),
+            Mode::Star => self.starred(x),
+            Mode::Gap => self.gap(f, x),
+            Mode::After => self.after(f, x),
+            Mode::High => self.low(f, x, laid),
+            Mode::Low => self.octet(f, x, laid.len()),
+            Mode::One => self.one(f, x, laid.len()),
+            Mode::More => self.more(f, x, laid),
+            Mode::Text => self.text(f, x, laid),
+            Mode::Closed => self.rest(x, laid.len()),
+        }
     }
 
     // ---- a line's front
 
-    // The first digit of an offset.
-    fn first(mut self, f: Style, x: u8) -> Self
-        requires { hexes.digit x ≡ true }
-        ensures { result ≡ states.first f x self }
+    // The first digit of an offset, of the value v.
+    fn first(self, f: Style, x: u8, v: u8) -> Result<Self, Why>
+        ensures { Moved result (states.first_of f x v (state_in self)) }
     {
         if self.ended {
-            return self.but(Why::OFFSET);
+            return Err(Why::Offset);
         }
-        if f.prefix {
-            if x == b'0' {
-                return self.to(Mode::PREFIX);
-            }
-            return self.but(Why::FORM);
+        if !f.prefix {
+            return Ok(Self {
+                mode: Mode::Offset,
+                digits: 1,
+                value: usize::from(v),
+                ..self
+            });
         }
-        self.digits = 1;
-        self.value = wide(value(x));
-        self.to(Mode::OFFSET)
+        if x == b'0' {
+            return Ok(self.to(Mode::Prefix));
+        }
+        Err(Why::Form)
     }
 
     // The x of 0x.
-    pub fn prefixed(mut self, x: u8) -> Self
-        ensures { result ≡ states.prefixed x self }
+    #[tactic(auto, unfolding(crate::specs::States::prefixed))]
+    fn prefixed(self, x: u8) -> Result<Self, Why>
+        ensures { Moved result (states.prefixed x (state_in self)) }
     {
-        if x == b'x' {
-            self.digits = 0;
-            self.value = 0;
-            return self.to(Mode::OFFSET);
+        if x != b'x' {
+            return Err(Why::Form);
         }
-        self.but(Why::FORM)
+        Ok(Self {
+            mode: Mode::Offset,
+            digits: 0,
+            value: 0,
+            ..self
+        })
     }
 
     // A further digit of an offset. No input has 65,536 octets.
-    fn further(mut self, f: Style, x: u8) -> Self
-        requires { hexes.digit x ≡ true }
-        ensures { result ≡ states.further f x self }
+    fn further(self, f: Style, v: u8) -> Result<Self, Why>
+        ensures { Moved result (states.further_of f v (state_in self)) }
     {
         if f.digits <= self.digits {
-            return self.but(Why::FORM);
+            return Err(Why::Form);
         }
         if 65535 < self.value {
-            return self.but(Why::OFFSET);
+            return Err(Why::Offset);
         }
-        self.digits = self.digits + 1;
-        self.value = 16 * self.value + wide(value(x));
-        self
+        Ok(Self {
+            digits: self.digits + 1,
+            value: 16 * self.value + usize::from(v),
+            ..self
+        })
     }
 
     // The offset is whole: it is the number of octets before its line, or after a star a greater one.
-    fn counted(mut self, f: Style, n: usize) -> Self
-        ensures { result ≡ states.counted f n self }
+    #[tactic(auto, unfolding(crate::specs::States::counted))]
+    fn counted(self, f: Style, n: usize) -> Result<Self, Why>
+        ensures { Moved result (states.counted f n (state_in self)) }
     {
         if self.digits != f.digits {
-            return self.but(Why::FORM);
+            return Err(Why::Form);
         }
         if self.star {
             if self.value <= n {
-                return self.but(Why::OFFSET);
+                return Err(Why::Offset);
             }
-            self.star = false;
-            self.upto = self.value;
-            return self.opened(self.value);
+            let filled = Self {
+                star: false,
+                upto: self.value,
+                ..self
+            };
+            return Ok(filled.opened(self.value));
         }
         if self.value != n {
-            return self.but(Why::OFFSET);
+            return Err(Why::Offset);
         }
-        self.opened(n)
+        Ok(self.opened(n))
     }
 
     // The line's octets begin.
-    fn opened(mut self, n: usize) -> Self
-        ensures { result ≡ states.opened n self }
+    fn opened(self, n: usize) -> Self
+        ensures { state_in result ≡ states.opened n (state_in self) }
     {
-        self.line = n;
-        self.beside = n;
-        self.solid = n;
-        self.to(Mode::AFTER)
+        Self {
+            mode: Mode::After,
+            line: n,
+            beside: n,
+            solid: n,
+            ..self
+        }
     }
 
     // The dump ends.
-    fn finished(mut self) -> Self
-        ensures { result ≡ states.finished self }
+    fn finished(self) -> Self
+        ensures { state_in result ≡ states.finished (state_in self) }
     {
-        self.ended = true;
-        self.to(Mode::START)
+        Self {
+            mode: Mode::Start,
+            ended: true,
+            ..self
+        }
     }
 
     // An offset stands alone, which ends the dump where the style has such an end.
-    pub fn alone(self, f: Style) -> Self
-        ensures { result ≡ states.alone f self }
+    #[tactic(auto, unfolding(crate::specs::States::alone))]
+    pub fn alone(self, f: Style) -> Result<Self, Why>
+        ensures { Moved result (states.alone f (state_in self)) }
     {
         if f.ends {
-            return self.finished();
+            return Ok(self.finished());
         }
-        self.but(Why::FORM)
+        Err(Why::Form)
     }
 
     // What follows the digits of an offset.
-    pub fn offset(self, f: Style, x: u8, n: usize) -> Self
-        ensures { result ≡ states.offset f x n self }
+    #[tactic(auto, unfolding(crate::specs::States::alone, crate::specs::States::further))]
+    fn offset(self, f: Style, x: u8, n: usize) -> Result<Self, Why>
+        ensures { Moved result (states.offset f x n (state_in self)) }
     {
         match class_of(x) {
-            Class::Digit => self.further(f, x),
-            Class::Break => self.counted(f, n).alone(f),
-            Class::Blank => {
-                if f.colon {
-                    return self.but(Why::FORM);
-                }
-                self.counted(f, n)
-            }
-            Class::Other => {
-                if f.colon {
-                    if x == b':' {
-                        return self.counted(f, n).to(Mode::GAP);
-                    }
-                }
-                self.but(Why::FORM)
-            }
+            Class::Digit(v) => self.further(f, v),
+            Class::Break if f.ends => Ok(self.counted(f, n)?.finished()),
+            Class::Blank if !f.colon => self.counted(f, n),
+            Class::Other if f.colon && x == b':' => Ok(self.counted(f, n)?.to(Mode::Gap)),
+            _ => Err(Why::Form),
         }
     }
 
     // What follows a colon.
-    pub fn gap(self, f: Style, x: u8) -> Self
-        ensures { result ≡ states.gap f x self }
+    fn gap(self, f: Style, x: u8) -> Result<Self, Why>
+        ensures { Moved result (states.gap f x (state_in self)) }
     {
         match class_of(x) {
             Class::Break => self.alone(f),
-            Class::Blank => self.to(Mode::AFTER),
-            Class::Digit => self.but(Why::FORM),
-            Class::Other => self.but(Why::FORM),
+            Class::Blank => Ok(self.to(Mode::After)),
+            Class::Digit(_) | Class::Other => Err(Why::Form),
         }
     }
 
-    pub fn start(self, f: Style, x: u8) -> Self
-        ensures { result ≡ states.start f x self }
+    #[tactic(auto, unfolding(crate::specs::States::first))]
+    fn start(self, f: Style, x: u8) -> Result<Self, Why>
+        ensures { Moved result (states.start f x (state_in self)) }
     {
         match class_of(x) {
-            Class::Break => self,
-            Class::Blank => self,
-            Class::Digit => self.first(f, x),
+            Class::Break | Class::Blank => Ok(self),
+            Class::Digit(v) => self.first(f, x, v),
             Class::Other => self.star(x),
         }
     }
 
     // A star, after a line that it can stand for.
-    fn star(self, x: u8) -> Self
-        ensures { result ≡ states.star_at x self }
+    #[tactic(auto, unfolding(crate::specs::States::star_at))]
+    fn star(self, x: u8) -> Result<Self, Why>
+        ensures { Moved result (states.star_at x (state_in self)) }
     {
-        if x != b'*' {
-            return self.but(Why::FORM);
+        if x != b'*' || self.ended || self.star || self.line <= self.before {
+            return Err(Why::Form);
         }
-        if self.ended {
-            return self.but(Why::FORM);
-        }
-        if self.star {
-            return self.but(Why::FORM);
-        }
-        if self.line <= self.before {
-            return self.but(Why::FORM);
-        }
-        self.to(Mode::STAR)
+        Ok(self.to(Mode::Star))
     }
 
-    pub fn starred(mut self, x: u8) -> Self
-        ensures { result ≡ states.starred x self }
+    fn starred(self, x: u8) -> Result<Self, Why>
+        ensures { Moved result (states.starred x (state_in self)) }
     {
         match class_of(x) {
-            Class::Break => {
-                self.star = true;
-                self.to(Mode::START)
-            }
-            Class::Blank => self,
-            Class::Digit => self.but(Why::FORM),
-            Class::Other => self.but(Why::FORM),
+            Class::Break => Ok(Self {
+                mode: Mode::Start,
+                star: true,
+                ..self
+            }),
+            Class::Blank => Ok(self),
+            Class::Digit(_) | Class::Other => Err(Why::Form),
         }
     }
 }

@@ -1,5 +1,5 @@
 -- What the blocks of an area yield, and what reading answers, is what `Answers` says and nothing else (RULES D2). Assumes nothing.
-use Rattle.std.specs.Prelude.{◌≡◌, refl, Bool, true, false, cond, ◌↔◌, List, [], ◌∷◌, map, ℕ, ◌≤◌, ◌<◌, ltb, length}
+use Rattle.std.specs.Prelude.{◌≡◌, refl, Bool, true, false, cond, ◌↔◌, List, [], ◌∷◌, map, ℕ, ◌≤◌, ◌<◌, ltb, length, Option, Some, None}
 use Rattle.std.proofs.Common.{sym, ap, ap₂, subst, ◌∙◌, arith, lt-ltb, le-ltb, ltb-true, ltb-false}
 use Rattle.octets.specs.Numbers.{Octet, Bytes}
 use Rattle.octets.specs.Lists.{All, flat}
@@ -8,8 +8,6 @@ use Rattle.numbers.specs.Refusal as refusal
 use Rattle.numbers.specs.Limit as limit
 use Rattle.carriers.specs.declared.Carrier.{Carrier}
 use Rattle.carriers.specs.declared.Carrier.TheVariants.{Dhcp4}
-use Rattle.carriers.specs.declared.Chosen.{Chosen}
-use Rattle.carriers.specs.declared.Chosen.TheVariants.{Known, Unknown}
 use Rattle.carriers.specs.declared.Form.{Form}
 use Rattle.carriers.specs.declared.Form.TheVariants.{Wire, Padded, Text}
 use Rattle.carriers.specs.Carriers.{chosen_of, number_of, form_of}
@@ -81,7 +79,7 @@ arranged-once {came} {rs} a = sort-only (λ (r : Fields). r.priority) came rs a.
 
 -- ---- the carrier of a number
 
-chosen-known : {n : ℕ} (c : Carrier) → number_of c ≡ n → chosen_of n ≡ Known c
+chosen-known : {n : ℕ} (c : Carrier) → number_of c ≡ n → chosen_of n ≡ Some c
 chosen-known c e = ap chosen_of (sym e) ∙ chosen-number c
 
 -- ---- the answer
@@ -120,14 +118,14 @@ module _ (n : ℕ) (area : List ℕ) (room : ℕ) (octets : Bytes area) where
   is-answer : Answers n area room (read_of n area room)
   is-answer = go (chosen_of n) refl (ltb limit.input (length area)) refl
     where
-      go : (k : Chosen) → chosen_of n ≡ k → (long : Bool) → ltb limit.input (length area) ≡ long → Answers n area room (read_of n area room)
-      go Unknown e long l =
+      go : (k : Option Carrier) → chosen_of n ≡ k → (long : Bool) → ltb limit.input (length area) ≡ long → Answers n area room (read_of n area room)
+      go None e long l =
           rw (read-unknown n area room e)
-          (no_carrier (λ c i. let z : Known c ≡ Unknown = sym (chosen-known c i) ∙ e in let o : ◌≡◌ {A = ℕ} 0 1 = cc in omega arith))
-      go (Known c) e true l =
+          (no_carrier (λ c i. let z : Some c ≡ None = sym (chosen-known c i) ∙ e in let o : ◌≡◌ {A = ℕ} 0 1 = cc in omega arith))
+      go (Some c) e true l =
           let h : limit.input < length area = ltb-true _ _ l in
           rw (read-long n area room e h) (too_long c (sym (number-chosen n c e)) h)
-      go (Known c) e false l =
+      go (Some c) e false l =
           let h : length area ≤ limit.input = ltb-false _ _ l in
           rw (read_known n area room e h) (is_framed c (sym (number-chosen n c e)) h)
 

@@ -23,7 +23,7 @@ use Rattle.frames.specs.Area as area
 use Rattle.blocks.specs.Block.{Fields, name_at}
 use Rattle.blocks.specs.NameLaws.{name-there, name-stands}
 use Rattle.judge.specs.declared.Side.TheVariants.{Reading}
-use Rattle.judge.specs.declared.Judged.{Judged}
+use Rattle.judge.specs.Place.{Judged}
 use Rattle.judge.specs.Place.{judged, from}
 use Rattle.judge.specs.Allowed.{PlaceOf, in_name, nowhere}
 use Rattle.judge.proofs.PlaceLaws.{named-service, place_none, placed-from}

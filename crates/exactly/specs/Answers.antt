@@ -13,7 +13,7 @@ use Rattle.frames.specs.Area.{blocks_of, Area}
 use Rattle.blocks.specs.Block.{Fields, name_at}
 use Rattle.blocks.specs.Holding.{Laid, Short, Misfilled}
 use Rattle.judge.specs.declared.Side.TheVariants.{Reading}
-use Rattle.judge.specs.declared.Judged.{Judged}
+use Rattle.judge.specs.Place.{Judged}
 use Rattle.judge.specs.Place.{judged, from}
 use Rattle.judge.specs.Allowed.{NameAllowed, Allowed, FirstBroken, PlaceOf}
 use Rattle.records.specs.Records.{Outcome, faulty, kept, further, keep_of}

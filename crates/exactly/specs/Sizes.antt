@@ -1,5 +1,5 @@
 -- How many octets a sheet has that reading gives (RULES L5). Assumes nothing.
-use Rattle.std.specs.Prelude.{◌≡◌, refl, Bool, true, false, cond, List, [], ◌∷◌, map, ℕ, zero, suc, ◌+◌, ◌-◌, ◌≤◌, ◌<◌, ltb, eqb, length, take, drop}
+use Rattle.std.specs.Prelude.{◌≡◌, refl, Bool, true, false, cond, List, [], ◌∷◌, map, ℕ, zero, suc, ◌+◌, ◌-◌, ◌≤◌, ◌<◌, ltb, eqb, length, take, drop, Option, Some, None}
 use Rattle.std.proofs.Common.{subst, arith, ltb-true, ltb-false}
 use Rattle.octets.specs.Lists.{All}
 use Rattle.octets.specs.ListsLaws.{all_append, flat-few}
@@ -9,15 +9,13 @@ use Rattle.numbers.specs.Fault as fault
 use Rattle.numbers.specs.Limit as limit
 use Rattle.carriers.specs.declared.Carrier.{Carrier}
 use Rattle.carriers.specs.declared.Carrier.TheVariants.{Dhcp4}
-use Rattle.carriers.specs.declared.Chosen.{Chosen}
-use Rattle.carriers.specs.declared.Chosen.TheVariants.{Known, Unknown}
 use Rattle.carriers.specs.Carriers.{chosen_of, header_of}
 use Rattle.carriers.proofs.CarriersLaws.{by-joined}
 use Rattle.frames.specs.Frame.{Framed, framed, frame}
 use Rattle.frames.specs.Area.{blocks_of}
 use Rattle.frames.specs.Frame as area
 use Rattle.blocks.specs.Block.{Fields}
-use Rattle.judge.specs.declared.Judged.{Judged}
+use Rattle.judge.specs.Place.{Judged}
 use Rattle.judge.specs.Place.{judged}
 use Rattle.records.specs.Records.{Outcome, faulty, kept, further, record_of}
 use Rattle.records.specs.Yielded.{outcome_of}
@@ -118,9 +116,9 @@ framed-within : (c : Carrier) (f : Framed) (room : ℕ) → Within room (read_fr
 framed-within c area.fault room = λ e. absurd (omega arith)
 framed-within c (framed bodies) room = yields_within c (map (yield_of c) (blocks_of c bodies)) room (arrivals-small c (blocks_of c bodies))
 
-chosen-within : (k : Chosen) (s : List ℕ) (room : ℕ) → Within room (read_chosen k s room)
-chosen-within Unknown s room = λ e. absurd (omega arith)
-chosen-within (Known c) s room = go (ltb limit.input (length s))
+chosen-within : (k : Option Carrier) (s : List ℕ) (room : ℕ) → Within room (read_chosen k s room)
+chosen-within None s room = λ e. absurd (omega arith)
+chosen-within (Some c) s room = go (ltb limit.input (length s))
   where
     go : (long : Bool) → Within room (cond long (refuse refusal.input) (read_framed c (frame c s) room))
     go true = λ e. absurd (omega arith)

@@ -11,7 +11,7 @@ use Rattle.frames.specs.Area.{IsOption, Area, blocks_of}
 use Rattle.blocks.specs.Block.{Fields, name_at}
 use Rattle.blocks.specs.Holding.{Laid}
 use Rattle.judge.specs.declared.Side.TheVariants.{Reading}
-use Rattle.judge.specs.declared.Judged.{Judged}
+use Rattle.judge.specs.Place.{Judged}
 use Rattle.judge.specs.Place.{judged}
 use Rattle.judge.specs.Allowed.{NameAllowed}
 use Rattle.reading.specs.Result.{discarded, yields}

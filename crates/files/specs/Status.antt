@@ -1,5 +1,7 @@
 -- Exit statuses (docs/COMMAND.md: 0 done, 1 refused, 2 wrong use or a file, 3 done and the answer is no). Assumes nothing: these are definitions.
-use Rattle.std.specs.Prelude.{◌≡◌, Bool, true, false, cond, List, [], ◌∷◌, ℕ, eqb, ℤ, pos, negsuc}
+use Rattle.std.specs.Prelude.{◌≡◌, Bool, true, false, cond, List, [], ◌∷◌, ℕ, eqb, ℤ, pos, negsuc, Result, Ok, Err}
+use Rattle.files.specs.declared.status.Stop.{Stop}
+use Rattle.files.specs.declared.status.Stop.TheVariants.{Refused, Failed, No}
 
 abbrev pub done : ℕ
 done = 0
@@ -12,6 +14,16 @@ failed = 2
 
 abbrev pub no : ℕ
 no = 3
+
+-- the status of what stops a command, and of how it ends
+abbrev pub number_of : Stop → ℕ
+number_of Refused = refused
+number_of Failed = failed
+number_of No = no
+
+abbrev pub status_of : {T : Type 0} → Result T Stop → ℤ
+status_of (Ok _) = pos done
+status_of (Err s) = pos (number_of s)
 
 abbrev pub among : ℕ → List ℕ → Bool
 among k [] = false

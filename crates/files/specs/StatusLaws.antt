@@ -1,8 +1,10 @@
 -- A status that is one of fewer is one of more, and what a call's number says of it. Assumes nothing.
-use Rattle.std.specs.Prelude.{◌≡◌, refl, Bool, true, false, cond, [], ◌∷◌, ℕ, eqb, ℤ, pos, negsuc}
+use Rattle.std.specs.Prelude.{◌≡◌, refl, Bool, true, false, cond, [], ◌∷◌, ℕ, eqb, ℤ, pos, negsuc, Result, Ok, Err}
 use Rattle.std.proofs.Common.{ap, eqb-true, eq-eqb}
 use Rattle.std.proofs.lemmas.Bool.{false≢true, eqb-false}
-use Rattle.files.specs.Status.{among, one_of, Delivered, Denied, Exited, Answers}
+use Rattle.files.specs.declared.status.Stop.{Stop}
+use Rattle.files.specs.declared.status.Stop.TheVariants.{Refused, Failed, No}
+use Rattle.files.specs.Status.{among, one_of, Delivered, Denied, Exited, Answers, number_of, status_of}
 use Rattle.files.specs.Status as status
 
 pub among_first : (r a b : ℕ) → r ≡ a → among r (a ∷ b ∷ []) ≡ true
@@ -55,3 +57,16 @@ answers-exited n r a = go (eqb n 0) refl
     go : (b : Bool) → eqb n 0 ≡ b → Exited r
     go true t = delivered-exited r (a.done (eqb-true n 0 t))
     go false t = refused-exited r (a.refuses (eqb-false n 0 t))
+
+-- however a command ends, it is with one of the four
+pub ends-exited : {T : Type 0} (r : Result T Stop) → Exited (status_of r)
+ends-exited (Ok x) = refl
+ends-exited (Err Refused) = refl
+ends-exited (Err Failed) = refl
+ends-exited (Err No) = refl
+
+-- what stops a delivery denies it too
+pub stopped-denied : (s : Stop) → Delivered (pos (number_of s)) → Denied (pos (number_of s))
+stopped-denied Refused h = absurd (false≢true h)
+stopped-denied Failed h = refl
+stopped-denied No h = absurd (false≢true h)

@@ -1,16 +1,15 @@
 // The octets that are given: a file, or standard input, read whole.
-ghost use Rattle.std.specs.Prelude.{◌≡◌, IfOk};
-ghost use Rattle.io.specs.Counts.{IsPrefixLen};
+ghost use Rattle.std.specs.Prelude.{◌≡◌, ◌≤◌, length, IfOk, IfSome, IfErr, IsNone};
 ghost use Rattle.chars.specs.Ascii.{ascii};
-ghost use Rattle.chars.specs.Puts.{Puts};
+ghost use Rattle.files.specs.declared.status.Stop.TheVariants.{Failed};
 
 use crate::known::Known;
 use crate::paths::PATH_MAX;
-use crate::{System, known, messages, paths};
-use chars::put_all;
+use crate::{Stop, System, Voice, paths};
+use arguments::Target;
 use numbers::Limit;
 use std::fs::File;
-use std::io::{Error, Read};
+use std::io::Read;
 use std::rt::Env;
 use std::{fs, io};
 
@@ -20,79 +19,52 @@ pub const MOST: usize = 16 * Limit::INPUT;
 // Room for one octet more, by which a longer input is known.
 pub const ROOM: usize = MOST + 1;
 
-// What was read: how many octets, or that a call failed.
-#[derive(Clone, Copy)]
-pub struct Got {
-    pub failed: bool,
-    pub length: usize,
-}
-
-// Nothing was read.
-fn unread() -> Got
-    ensures { result.length ≡ 0 }
-{
-    Got {
-        failed: true,
-        length: 0,
-    }
-}
-
 // The argument i, as the system gives it; nothing where there is none, or it is longer than `out`.
-pub(crate) fn argument<R: Env>(rt: &R, i: usize, out: &mut [u8]) -> usize
-    ensures { IsPrefixLen result out.new }
+pub(crate) fn argument<'a, R: Env>(rt: &R, i: usize, out: &'a mut [u8]) -> &'a [u8]
+    ensures { length result.now ≤ length out.old }
 {
     match rt.arg(i, out) {
-        Ok(n) => n,
-        Err(_) => 0,
+        Ok(n) => &out[..n],
+        Err(_) => b"",
     }
 }
 
-// Writes the name of the input in messages: that of argument i, as the system gives it.
-pub fn name<R: Env>(rt: &R, i: usize, out: &mut [u8]) -> usize
-    ensures prefix_len { IsPrefixLen result out.new }
-    ensures puts { i ≡ 0 → Puts 0 (ascii "standard input") out.old result out.new }
+// The same of an argument that need not be told.
+pub(crate) fn argument_at<'a, R: Env>(rt: &R, at: Option<usize>, out: &'a mut [u8]) -> &'a [u8] {
+    match at {
+        None => b"",
+        Some(i) => argument(rt, i, out),
+    }
+}
+
+// The name of a file that is written, as the system gives it.
+pub(crate) fn target<'a, R: Env>(rt: &R, target: Target, out: &'a mut [u8]) -> &'a [u8] {
+    let word = argument(rt, target.at, out);
+    &word[target.front.min(word.len())..]
+}
+
+// The name of the input in messages: that of its argument, as the system gives it.
+pub fn name<'a, R: Env>(rt: &R, input: Option<usize>, out: &'a mut [u8]) -> &'a [u8]
+    ensures { IsNone input → result.now ≡ ascii "standard input" }
 {
-    if i == 0 {
-        return put_all(out, 0, b"standard input");
+    match input {
+        None => b"standard input",
+        Some(i) => argument(rt, i, out),
     }
-    argument(rt, i, out)
 }
 
-// Reads until `buf` is full or the input ends; says why where a call fails.
-fn fill<F: Read>(from: &mut F, buf: &mut [u8]) -> (Got, Option<Error>)
-    ensures { IsPrefixLen result.0.length buf.new }
+// Reads until `buf` is full or the input ends.
+fn fill<'a, F: Read>(from: &mut F, buf: &'a mut [u8]) -> io::Result<&'a [u8]>
+    ensures { IfOk result (λ s. length s.now ≤ length buf.old) }
 {
     let mut n = 0;
     while n < buf.len() {
-        match from.read(&mut buf[n..]) {
-            Ok(0) => {
-                return (
-                    Got {
-                        failed: false,
-                        length: n,
-                    },
-                    None,
-                );
-            }
-            Ok(more) => n += more,
-            Err(why) => {
-                return (
-                    Got {
-                        failed: true,
-                        length: n,
-                    },
-                    Some(why),
-                );
-            }
+        match from.read(&mut buf[n..])? {
+            0 => break,
+            more => n += more,
         }
     }
-    (
-        Got {
-            failed: false,
-            length: n,
-        },
-        None,
-    )
+    Ok(&buf[..n])
 }
 
 // Opens the file of a path to read it.
@@ -100,94 +72,81 @@ fn open<R: System>(rt: &R, path: &[u8]) -> io::Result<File> {
     fs::open(rt, paths::text(path)?)
 }
 
-// Reads the file of a path, and says why where it cannot.
-fn read_file<R: System>(rt: &R, json: bool, path: &[u8], buf: &mut [u8]) -> Got
-    ensures { IsPrefixLen result.length buf.new }
-{
-    match open(rt, path) {
-        Ok(mut file) => read_from(rt, json, &mut file, path, buf),
-        Err(why) => {
-            messages::failed(rt, json, path, why);
-            unread()
-        }
-    }
-}
-
 // Reads what is open, and says why where it cannot.
-fn read_from<R: System, F: Read>(
-    rt: &R,
-    json: bool,
+fn read_from<'a, R: System, F: Read>(
+    voice: &Voice<R>,
     from: &mut F,
-    name: &[u8],
-    buf: &mut [u8],
-) -> Got
-    ensures { IsPrefixLen result.length buf.new }
+    buf: &'a mut [u8],
+) -> Result<&'a [u8], Stop>
+    ensures bound { IfOk result (λ s. length s.now ≤ length buf.old) }
+    ensures fails { IfErr result (λ stop. stop ≡ Failed) }
 {
-    let (got, why) = fill(from, buf);
-    if let Some(why) = why {
-        messages::failed(rt, json, name, why);
+    match fill(from, buf) {
+        Ok(s) => Ok(s),
+        Err(why) => Err(voice.failed(why)),
     }
-    got
 }
 
-// Reads the file that argument i names, or standard input.
-pub fn read<R: System>(rt: &R, json: bool, i: usize, name: &[u8], buf: &mut [u8]) -> Got
-    ensures { IsPrefixLen result.length buf.new }
+// Reads the file of the name, and says why where it cannot.
+fn read_file<'a, R: System>(voice: &Voice<R>, buf: &'a mut [u8]) -> Result<&'a [u8], Stop>
+    ensures bound { IfOk result (λ s. length s.now ≤ length buf.old) }
+    ensures fails { IfErr result (λ stop. stop ≡ Failed) }
 {
-    if i == 0 {
-        let mut input = rt.reader();
-        return read_from(rt, json, &mut input, name, buf);
+    match open(voice.rt, voice.name) {
+        Ok(mut file) => read_from(voice, &mut file, buf),
+        Err(why) => Err(voice.failed(why)),
     }
-    read_file(rt, json, name, buf)
+}
+
+// Reads the input: the file of the name where an argument names one, or standard input.
+pub fn read<'a, R: System>(
+    voice: &Voice<R>,
+    input: Option<usize>,
+    buf: &'a mut [u8],
+) -> Result<&'a [u8], Stop>
+    ensures bound { IfOk result (λ s. length s.now ≤ length buf.old) }
+    ensures fails { IfErr result (λ stop. stop ≡ Failed) }
+{
+    match input {
+        None => read_from(voice, &mut voice.rt.reader(), buf),
+        Some(_) => read_file(voice, buf),
+    }
 }
 
 // ---- what an output would replace
 
-// Whether what was asked of a file is that it is a regular one.
-fn is_regular(there: io::Result<Known>) -> bool {
-    match there {
-        Ok(there) => known::is_regular(there.mode),
-        Err(_) => false,
-    }
-}
-
 // Reads what is open if it is a regular file.
-fn load_from(mut file: File, buf: &mut [u8]) -> Got
-    ensures { IsPrefixLen result.length buf.new }
+fn load_from<'a>(mut file: File, buf: &'a mut [u8]) -> Option<&'a [u8]>
+    ensures { IfSome result (λ s. length s.now ≤ length buf.old) }
 {
-    if !is_regular(known::open(&file)) {
-        return unread();
+    let known = Known::open(&file).ok()?;
+    if !known.is_regular() {
+        return None;
     }
-    let (got, _why) = fill(&mut file, buf);
-    got
+    fill(&mut file, buf).ok()
 }
 
 // Reads the file of a path if it is a regular file. Its kind is asked before it is opened, since to open a pipe may take for ever, and again after that.
-fn load_file<R: System>(rt: &R, path: &[u8], buf: &mut [u8]) -> Got
-    ensures { IsPrefixLen result.length buf.new }
+fn load_file<'a, R: System>(rt: &R, path: &[u8], buf: &'a mut [u8]) -> Option<&'a [u8]>
+    ensures { IfSome result (λ s. length s.now ≤ length buf.old) }
 {
-    let Ok(text) = paths::text(path) else {
-        return unread();
-    };
-    if !is_regular(known::at(rt, text)) {
-        return unread();
+    let text = paths::text(path).ok()?;
+    let known = Known::at(rt, text).ok()?;
+    if !known.is_regular() {
+        return None;
     }
-    match fs::open(rt, text) {
-        Ok(file) => load_from(file, buf),
-        Err(_) => unread(),
-    }
+    load_from(fs::open(rt, text).ok()?, buf)
 }
 
-// Reads what now stands in the file that argument i names from the octet `front` on, and says nothing where it cannot: there is no file, or it is
-// none that would be replaced (`-` is standard output).
-pub fn load<R: System>(rt: &R, i: usize, front: usize, buf: &mut [u8]) -> Got
-    ensures { IsPrefixLen result.length buf.new }
+// Reads what now stands in the file that would be written, and says nothing where it cannot: there is no file, or it is none that would be replaced
+// (`-` is standard output).
+pub fn load<'a, R: System>(rt: &R, file: Target, buf: &'a mut [u8]) -> Option<&'a [u8]>
+    ensures { IfSome result (λ s. length s.now ≤ length buf.old) }
 {
-    let mut name = [0u8; PATH_MAX];
-    let n = argument(rt, i, &mut name);
-    let from = octets::lesser(front, n);
-    if octets::same(&name[from..n], b"-") {
-        return unread();
+    let mut room = [0u8; PATH_MAX];
+    let name = target(rt, file, &mut room);
+    if name == b"-".as_slice() {
+        return None;
     }
-    load_file(rt, &name[from..n], buf)
+    load_file(rt, name, buf)
 }

@@ -6,10 +6,13 @@ mod closing;
 pub mod input;
 mod known;
 mod links;
-pub mod messages;
+mod messages;
 pub mod output;
 mod paths;
 mod place;
+mod status;
 mod system;
 
+pub use messages::Voice;
+pub use status::Stop;
 pub use system::System;

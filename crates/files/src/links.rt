@@ -1,5 +1,5 @@
 // The file that a path leads to when its last name is a symbolic link, so that a file is replaced where it is and the link stays.
-ghost use Rattle.std.specs.Prelude.{◌≡◌, ◌≤◌, length, IfOk};
+ghost use Rattle.std.specs.Prelude.{◌≡◌, ◌≤◌, length, IfOk, IfSome};
 ghost use Rattle.io.specs.Counts.{IsPrefixLen};
 ghost use Rattle.files.specs.Paths.{folder_of, place_of};
 
@@ -18,13 +18,10 @@ pub fn folder(path: &[u8]) -> usize
     ensures value { result ≡ folder_of path.now }
     ensures prefix_len { IsPrefixLen result path.now }
 {
-    let mut i = path.len();
-    while 0 < i {
-        let before = i - 1;
-        if path[before] == b'/' {
-            return i;
+    for i in (0..path.len()).rev() {
+        if path[i] == b'/' {
+            return i + 1;
         }
-        i = before;
     }
     0
 }
@@ -33,22 +30,17 @@ pub fn folder(path: &[u8]) -> usize
 fn place(path: &[u8], first: u8) -> usize
     ensures { result ≡ place_of path.now first }
 {
-    if first == b'/' {
-        return 0;
-    }
-    folder(path)
+    if first == b'/' { 0 } else { folder(path) }
 }
 
-// Puts what a link says in the place of its path of n octets, and returns how long that is; 0 where it says nothing.
-fn put_link(path: &mut [u8], n: usize, link: &[u8]) -> usize
+// Puts what a link says in the place of its path of n octets, and returns how long that is, or none where it says nothing.
+fn put_link(path: &mut [u8], n: usize, link: &[u8]) -> Option<usize>
     requires { n ≤ length path.old }
-    ensures { IsPrefixLen result path.new }
+    ensures { IfSome result (λ k. IsPrefixLen k path.new) }
 {
-    if link.len() == 0 {
-        return 0;
-    }
-    let at = place(&path[..n], link[0]);
-    put_all(path, at, link)
+    let first = *link.first()?;
+    let at = place(&path[..n], first);
+    Some(put_all(path, at, link))
 }
 
 // Why a link was not read, where the system does not say: it leads to a name that is no text, or there is no memory.
@@ -59,20 +51,20 @@ fn unread(why: Error) -> Error {
     why
 }
 
-// Puts in the place of a path of n octets where a link leads, and returns how long that is; 0 where the path is no link, or is longer than the
+// Puts in the place of a path of n octets where a link leads, and returns how long that is; none where the path is no link, or is longer than the
 // system takes: cut, it would be the path of another file.
-fn step<R: Files + Alloc>(rt: &R, path: &mut [u8], n: usize) -> io::Result<usize>
+fn step<R: Files + Alloc>(rt: &R, path: &mut [u8], n: usize) -> io::Result<Option<usize>>
     requires { n ≤ length path.old }
-    ensures { IfOk result (λ k. IsPrefixLen k path.new) }
+    ensures { IfOk result (λ found. IfSome found (λ k. IsPrefixLen k path.new)) }
 {
     if PATH_MAX <= n {
-        return Ok(0);
+        return Ok(None);
     }
     let text = paths::text(&path[..n])?;
     match fs::read_link(rt, text) {
         Ok(link) => Ok(put_link(path, n, link.as_str().as_bytes())),
         Err(why) => match why.raw_os_error() {
-            Some(_) => Ok(0),
+            Some(_) => Ok(None),
             None => Err(unread(why)),
         },
     }
@@ -84,14 +76,11 @@ pub fn follow<R: Files + Alloc>(rt: &R, path: &mut [u8], n: usize) -> io::Result
     ensures { IfOk result (λ k. IsPrefixLen k path.new) }
 {
     let mut m = n;
-    let mut turns: usize = 0;
-    while turns < MOST {
-        let next = step(rt, path, m)?;
-        if next == 0 {
+    for _ in 0..MOST {
+        let Some(next) = step(rt, path, m)? else {
             return Ok(m);
-        }
+        };
         m = next;
-        turns += 1;
     }
     Ok(m)
 }

@@ -1,35 +1,37 @@
 // What is written: to standard output, or to a file, which is either replaced whole or left as it was.
-ghost use Rattle.std.specs.Prelude.{◌≡◌, pos};
-ghost use Rattle.files.specs.Status as status;
-ghost use Rattle.files.specs.Status.{Delivered};
+ghost use Rattle.std.specs.Prelude.{◌≡◌};
+ghost use Rattle.files.specs.declared.status.Stop.TheVariants.{Failed};
+ghost use Rattle.files.specs.Status.{Delivered, status_of};
 
+use crate::known::Known;
 use crate::paths::PATH_MAX;
-use crate::{System, closing, input, known, messages, paths, place};
+use crate::{Stop, System, Voice, closing, input, paths, place};
+use arguments::Target;
 use lines::objects;
 use std::fs::{File, OpenOptions};
 use std::io;
 use std::io::{Error, ErrorKind, Write};
 
 // Prints octets.
-pub fn print<R: System>(rt: &R, json: bool, s: &[u8]) -> i32
-    ensures { Delivered result }
+pub fn print<R: System>(voice: &Voice<R>, s: &[u8]) -> Result<(), Stop>
+    ensures { Delivered (status_of result) }
 {
-    match rt.write_all(s) {
-        Ok(()) => 0,
-        Err(why) => messages::failed(rt, json, b"standard output", why),
+    match voice.rt.write_all(s) {
+        Ok(()) => Ok(()),
+        Err(why) => Err(voice.about(b"standard output").failed(why)),
     }
 }
 
 // Prints octets as hexadecimal text, or in JSON.
-pub fn print_hex<R: System>(rt: &R, json: bool, s: &[u8], text: &mut [u8]) -> i32
-    ensures { Delivered result }
+pub fn print_hex<R: System>(voice: &Voice<R>, s: &[u8], text: &mut [u8]) -> Result<(), Stop>
+    ensures { Delivered (status_of result) }
 {
-    if json {
+    if voice.json {
         let n = objects::put_octets(text, s);
-        return print(rt, json, &text[..n]);
+        return print(voice, &text[..n]);
     }
     let n = lines::put_hex(text, s);
-    print(rt, json, &text[..n])
+    print(voice, &text[..n])
 }
 
 // ---- files
@@ -41,27 +43,27 @@ fn write_to<R: System>(rt: &R, mut file: File, s: &[u8]) -> io::Result<()> {
 }
 
 // The same, and says why where it cannot be done.
-fn write_through<R: System>(rt: &R, json: bool, file: File, name: &[u8], s: &[u8]) -> i32
-    ensures { Delivered result }
+fn write_through<R: System>(voice: &Voice<R>, file: File, s: &[u8]) -> Result<(), Stop>
+    ensures { Delivered (status_of result) }
 {
-    match write_to(rt, file, s) {
-        Ok(()) => 0,
-        Err(why) => messages::failed(rt, json, name, why),
+    match write_to(voice.rt, file, s) {
+        Ok(()) => Ok(()),
+        Err(why) => Err(voice.failed(why)),
     }
 }
 
-// Writes octets to what a name has opened: a regular file is replaced, and anything else stays what it is.
-fn save_over<R: System>(rt: &R, json: bool, file: File, name: &[u8], s: &[u8]) -> i32
-    ensures { Delivered result }
+// Writes octets to what the name has opened: a regular file is replaced, and anything else stays what it is.
+fn save_over<R: System>(voice: &Voice<R>, file: File, s: &[u8]) -> Result<(), Stop>
+    ensures { Delivered (status_of result) }
 {
-    match known::open(&file) {
-        Err(why) => messages::failed(rt, json, name, why),
+    match Known::open(&file) {
+        Err(why) => Err(voice.failed(why)),
         Ok(old) => {
-            if known::is_regular(old.mode) {
+            if old.is_regular() {
                 drop(file);
-                return place::replace(rt, json, name, old, s);
+                return place::replace(voice, Some(old), s);
             }
-            write_through(rt, json, file, name, s)
+            write_through(voice, file, s)
         }
     }
 }
@@ -71,68 +73,61 @@ fn open<R: System>(rt: &R, name: &[u8]) -> io::Result<File> {
     OpenOptions::new().append(true).open(rt, paths::text(name)?)
 }
 
-// Saves octets under a name. It is opened first, so that a file that may not be written to is not replaced through its folder.
-fn save_as<R: System>(rt: &R, json: bool, name: &[u8], s: &[u8]) -> i32
-    ensures { Delivered result }
+// Saves octets under the name. It is opened first, so that a file that may not be written to is not replaced through its folder.
+fn save_as<R: System>(voice: &Voice<R>, s: &[u8]) -> Result<(), Stop>
+    ensures { Delivered (status_of result) }
 {
-    if octets::same(name, b"-") {
-        return print(rt, json, s);
+    if voice.name == b"-".as_slice() {
+        return print(voice, s);
     }
-    match open(rt, name) {
-        Ok(file) => save_over(rt, json, file, name, s),
-        Err(why) => save_new(rt, json, name, s, why),
+    match open(voice.rt, voice.name) {
+        Ok(file) => save_over(voice, file, s),
+        Err(why) => save_new(voice, s, why),
     }
 }
 
 // Saves octets under a name that could not be opened: as a new file, where there is none.
-fn save_new<R: System>(rt: &R, json: bool, name: &[u8], s: &[u8], why: Error) -> i32
-    ensures { Delivered result }
+fn save_new<R: System>(voice: &Voice<R>, s: &[u8], why: Error) -> Result<(), Stop>
+    ensures { Delivered (status_of result) }
 {
     if why.kind() == ErrorKind::NotFound {
-        return place::replace(rt, json, name, known::none(), s);
+        return place::replace(voice, None, s);
     }
-    messages::failed(rt, json, name, why)
+    Err(voice.failed(why))
 }
 
-// Saves octets under the name that is argument i from the octet `front` on.
-pub fn save<R: System>(rt: &R, json: bool, i: usize, front: usize, s: &[u8]) -> i32
-    ensures { Delivered result }
+// Saves octets in a file.
+pub fn save<R: System>(voice: &Voice<R>, file: Target, s: &[u8]) -> Result<(), Stop>
+    ensures { Delivered (status_of result) }
 {
-    let mut name = [0u8; PATH_MAX];
-    let n = input::argument(rt, i, &mut name);
-    let from = octets::lesser(front, n);
-    save_as(rt, json, &name[from..n], s)
+    let mut room = [0u8; PATH_MAX];
+    save_as(&voice.about(input::target(voice.rt, file, &mut room)), s)
 }
 
 // Prints how many octets were saved, where that is asked for.
-fn saved<R: System>(rt: &R, json: bool, n: usize) -> i32
-    ensures { Delivered result }
+fn saved<R: System>(voice: &Voice<R>, n: usize) -> Result<(), Stop>
+    ensures { Delivered (status_of result) }
 {
-    if json {
+    if voice.json {
         let mut text = [0u8; 64];
         let k = objects::put_saved(&mut text, n);
-        return print(rt, json, &text[..k]);
+        return print(voice, &text[..k]);
     }
-    0
+    Ok(())
 }
 
 // Saves octets that are the whole result.
-pub fn save_octets<R: System>(rt: &R, json: bool, i: usize, front: usize, s: &[u8]) -> i32
-    ensures { Delivered result }
+pub fn save_octets<R: System>(voice: &Voice<R>, file: Target, s: &[u8]) -> Result<(), Stop>
+    ensures { Delivered (status_of result) }
 {
-    let status = save(rt, json, i, front, s);
-    if status != 0 {
-        return status;
-    }
-    saved(rt, json, s.len())
+    save(voice, file, s)?;
+    saved(voice, s.len())
 }
 
-// Leaves as it is the file that argument i names from the octet `front` on, and says so.
-pub fn keep<R: System>(rt: &R, json: bool, i: usize, front: usize) -> i32
-    ensures { result ≡ pos status.failed }
+// Leaves a file as it is, and says so.
+pub fn keep<R: System>(voice: &Voice<R>, file: Target) -> Stop
+    ensures { result ≡ Failed }
 {
-    let mut name = [0u8; PATH_MAX];
-    let n = input::argument(rt, i, &mut name);
-    let from = octets::lesser(front, n);
-    messages::kept(rt, json, &name[from..n])
+    let mut room = [0u8; PATH_MAX];
+    voice.about(input::target(voice.rt, file, &mut room)).kept()
 }

@@ -1,13 +1,14 @@
 // A file that is made or replaced whole: its octets go to a new file in the same folder, which takes its name once they are on their device.
 // Of the file that was there its permissions stay, and its owner and group where the system lets them.
-ghost use Rattle.std.specs.Prelude.{true, [], ◌∷◌, ◌≡◌, IfOk};
+ghost use Rattle.std.specs.Prelude.{true, [], ◌∷◌, ◌≡◌, IfOk, IfSome};
 ghost use Rattle.io.specs.Counts.{IsPrefixLen};
 ghost use Rattle.files.specs.Modes.{permissions, narrowed};
-ghost use Rattle.files.specs.Status.{among, Delivered};
+ghost use Rattle.files.specs.declared.status.Stop.TheVariants.{Failed};
+ghost use Rattle.files.specs.Status.{among, Delivered, status_of};
 
 use crate::known::Known;
 use crate::paths::PATH_MAX;
-use crate::{System, closing, known, links, messages, paths};
+use crate::{Stop, System, Voice, closing, links, paths};
 use chars::put_all;
 use std::fs::{File, OpenOptions, Permissions};
 use std::io::{Error, ErrorKind, Write};
@@ -33,36 +34,32 @@ const TRIES: usize = 62 * 62 * 62;
 fn hand_over(file: &File, old: Known) -> u32
     ensures { among result (permissions old.mode ∷ narrowed old.mode ∷ []) ≡ true }
 {
-    if fchown(file, Some(old.owner), Some(old.group)).is_ok() {
-        return known::allowed(old.mode);
+    if fchown(file, Some(old.owner), Some(old.group)).is_ok()
+        || fchown(file, None, Some(old.group)).is_ok()
+    {
+        old.allowed()
+    } else {
+        old.allowed_less()
     }
-    if fchown(file, None, Some(old.group)).is_ok() {
-        return known::allowed(old.mode);
-    }
-    known::allowed_less(old.mode)
 }
 
 // Makes what is open as the old file was. Permissions come last: a change of owner drops some, and they say what the owner that it has may do.
-fn keep(file: &File, old: Known) -> io::Result<()> {
-    if old.mode == 0 {
-        return Ok(());
+fn keep(file: &File, old: Option<Known>) -> io::Result<()> {
+    match old {
+        None => Ok(()),
+        Some(old) => file.set_permissions(Permissions::from_mode(hand_over(file, old))),
     }
-    let mode = hand_over(file, old);
-    file.set_permissions(Permissions::from_mode(mode))
 }
 
 // ---- the new file
 
 // The letter of an octet: a digit, a capital or a small one.
 fn letter(x: u8) -> u8 {
-    let k = x % 62;
-    if k < 10 {
-        return b'0' + k;
+    match x % 62 {
+        k @ 0..=9 => b'0' + k,
+        k @ 10..=35 => b'A' + (k - 10),
+        k => b'a' + (k - 36),
     }
-    if k < 36 {
-        return b'A' + (k - 10);
-    }
-    b'a' + (k - 36)
 }
 
 // Letters that the system finds.
@@ -77,12 +74,12 @@ fn letters<R: System>(rt: &R) -> io::Result<[u8; LETTERS]> {
 
 // The permissions that a new file is asked for: what replaces a file is its owner's alone until it is as the old file was; what replaces none has
 // the permissions that new files of this process have.
-fn asked(old: Known) -> u32 {
-    if old.mode == 0 { 0o666 } else { 0o600 }
+fn asked(old: Option<Known>) -> u32 {
+    if old.is_none() { 0o666 } else { 0o600 }
 }
 
 // Makes a file, which is there for nobody else.
-fn create<R: System>(rt: &R, part: &[u8], old: Known) -> io::Result<File> {
+fn create<R: System>(rt: &R, part: &[u8], old: Option<Known>) -> io::Result<File> {
     OpenOptions::new()
         .write(true)
         .create_new(true)
@@ -95,17 +92,17 @@ fn try_letters<R: System>(
     rt: &R,
     part: &mut [u8],
     at: usize,
-    old: Known,
-) -> io::Result<(Option<File>, usize)>
-    ensures { IfOk result (λ r. IsPrefixLen r.1 part.new) }
+    old: Option<Known>,
+) -> io::Result<Option<(File, usize)>>
+    ensures { IfOk result (λ made. IfSome made (λ r. IsPrefixLen r.1 part.new)) }
 {
     let found = letters(rt)?;
     let n = put_all(part, at, &found);
     match create(rt, &part[..n], old) {
-        Ok(file) => Ok((Some(file), n)),
+        Ok(file) => Ok(Some((file, n))),
         Err(why) => {
             if why.kind() == ErrorKind::AlreadyExists {
-                return Ok((None, n));
+                return Ok(None);
             }
             Err(why)
         }
@@ -113,36 +110,41 @@ fn try_letters<R: System>(
 }
 
 // Makes a file whose name is the first `at` octets of `part` and letters that make it one of no other file. Returns how long the name is.
-fn make<R: System>(rt: &R, part: &mut [u8], at: usize, old: Known) -> io::Result<(File, usize)>
+fn make<R: System>(
+    rt: &R,
+    part: &mut [u8],
+    at: usize,
+    old: Option<Known>,
+) -> io::Result<(File, usize)>
     ensures { IfOk result (λ r. IsPrefixLen r.1 part.new) }
 {
     for _ in 0..TRIES {
-        let (made, n) = try_letters(rt, part, at, old)?;
-        if let Some(file) = made {
-            return Ok((file, n));
+        if let Some(made) = try_letters(rt, part, at, old)? {
+            return Ok(made);
         }
     }
     Err(Error::from_raw_os_error(EEXIST))
 }
 
 // Says why no file could be made. That it was to stand beside the target matters only where there is one, which itself can be written.
-fn say_unmade<R: System>(rt: &R, json: bool, name: &[u8], old: Known, why: Error) {
-    if old.mode == 0 {
-        messages::failed(rt, json, name, why);
-    } else {
-        messages::failed_beside(rt, json, name, why);
+fn say_unmade<R: System>(voice: &Voice<R>, old: Option<Known>, why: Error) -> Stop
+    ensures { result ≡ Failed }
+{
+    match old {
+        None => voice.failed(why),
+        Some(_) => voice.failed_beside(why),
     }
 }
 
 // Writes octets until they are on their device.
-fn write_whole(file: &mut File, old: Known, s: &[u8]) -> io::Result<()> {
+fn write_whole(file: &mut File, old: Option<Known>, s: &[u8]) -> io::Result<()> {
     keep(file, old)?;
     file.write_all(s)?;
     file.sync_all()
 }
 
 // The same, and closes the file.
-fn fill<R: System>(rt: &R, mut file: File, old: Known, s: &[u8]) -> io::Result<()> {
+fn fill<R: System>(rt: &R, mut file: File, old: Option<Known>, s: &[u8]) -> io::Result<()> {
     write_whole(&mut file, old, s)?;
     closing::close(rt, file)
 }
@@ -188,77 +190,61 @@ fn fill_and_name<R: System>(
     file: File,
     part: &[u8],
     path: &[u8],
-    old: Known,
+    old: Option<Known>,
     s: &[u8],
 ) -> io::Result<()> {
     fill(rt, file, old, s)?;
     rename(rt, part, path)
 }
 
-// Makes a new file `part` of octets, of which the first `at` octets are given, and gives it the name `path`.
-fn replace_by<R: System>(
-    rt: &R,
-    json: bool,
-    part: &mut [u8],
-    at: usize,
-    path: &[u8],
-    old: Known,
-    name: &[u8],
-    s: &[u8],
-) -> i32
-    ensures { Delivered result }
-{
-    match make(rt, part, at, old) {
-        Ok((file, n)) => replace_with(rt, json, file, &part[..n], path, old, name, s),
-        Err(why) => {
-            say_unmade(rt, json, name, old, why);
-            2
-        }
-    }
-}
-
 // Writes octets to the new file `part`, and gives it the name `path`; takes it away where one of them cannot be done.
 fn replace_with<R: System>(
-    rt: &R,
-    json: bool,
+    voice: &Voice<R>,
     file: File,
     part: &[u8],
     path: &[u8],
-    old: Known,
-    name: &[u8],
+    old: Option<Known>,
     s: &[u8],
-) -> i32
-    ensures { Delivered result }
+) -> Result<(), Stop>
+    ensures { Delivered (status_of result) }
 {
-    if let Err(why) = fill_and_name(rt, file, part, path, old, s) {
-        messages::failed(rt, json, name, why);
-        unlink(rt, part);
-        return 2;
+    if let Err(why) = fill_and_name(voice.rt, file, part, path, old, s) {
+        let stop = voice.failed(why);
+        unlink(voice.rt, part);
+        return Err(stop);
     }
-    sync_folder_of(rt, path);
-    0
+    sync_folder_of(voice.rt, path);
+    Ok(())
 }
 
 // Makes a file of octets at a path, or replaces it. The new file's name is short and has nothing of the target's: it fits wherever that one does.
 // It is hidden, so that whoever reads all files of a folder sees whole results alone.
-fn replace_at<R: System>(rt: &R, json: bool, path: &[u8], old: Known, name: &[u8], s: &[u8]) -> i32
-    ensures { Delivered result }
+fn replace_at<R: System>(
+    voice: &Voice<R>,
+    path: &[u8],
+    old: Option<Known>,
+    s: &[u8],
+) -> Result<(), Stop>
+    ensures { Delivered (status_of result) }
 {
     let mut part = [0u8; PART];
     let at = links::folder(path);
     let from = put_all(&mut part, 0, &path[..at]);
-    let n = put_all(&mut part, from, b".dnr.");
-    replace_by(rt, json, &mut part, n, path, old, name, s)
+    let next = put_all(&mut part, from, b".dnr.");
+    match make(voice.rt, &mut part, next, old) {
+        Ok((file, n)) => replace_with(voice, file, &part[..n], path, old, s),
+        Err(why) => Err(say_unmade(voice, old, why)),
+    }
 }
 
-// Makes a file of octets, or replaces the one that a name leads to.
-pub fn replace<R: System>(rt: &R, json: bool, name: &[u8], old: Known, s: &[u8]) -> i32
-    ensures { Delivered result }
+// Makes a file of octets, or replaces the one that the name leads to.
+pub fn replace<R: System>(voice: &Voice<R>, old: Option<Known>, s: &[u8]) -> Result<(), Stop>
+    ensures { Delivered (status_of result) }
 {
     let mut path = [0u8; PATH_MAX];
-    let n = put_all(&mut path, 0, name);
-    match links::follow(rt, &mut path, n) {
-        Ok(m) => replace_at(rt, json, &path[..m], old, name, s),
-        Err(why) => messages::failed(rt, json, name, why),
+    let n = put_all(&mut path, 0, voice.name);
+    match links::follow(voice.rt, &mut path, n) {
+        Ok(m) => replace_at(voice, &path[..m], old, s),
+        Err(why) => Err(voice.failed(why)),
     }
 }

@@ -17,7 +17,7 @@ use Rattle.blocks.specs.Block.{Fields, name_at}
 use Rattle.blocks.specs.Parse.{bad, fields, parse}
 use Rattle.blocks.specs.Holding.{Holds}
 use Rattle.judge.specs.declared.Side.TheVariants.{Reading}
-use Rattle.judge.specs.declared.Judged.{Judged}
+use Rattle.judge.specs.Place.{Judged}
 use Rattle.judge.specs.Place.{judged}
 use Rattle.judge.specs.Allowed.{NameAllowed}
 use Rattle.records.specs.Records.{faulty}

@@ -9,7 +9,7 @@ use Rattle.carriers.specs.declared.Carrier.TheVariants.{Dhcp4}
 use Rattle.blocks.specs.Block.{Fields, name_at}
 use Rattle.blocks.specs.Parse.{Parsed, bad, fields, parse}
 use Rattle.judge.specs.declared.Side.TheVariants.{Reading}
-use Rattle.judge.specs.declared.Judged.{Judged}
+use Rattle.judge.specs.Place.{Judged}
 use Rattle.judge.specs.Place.{judged}
 use Rattle.judge.specs.Judge.{fault_of}
 use Rattle.records.specs.Records.{Outcome, faulty, kept, further}
@@ -17,7 +17,7 @@ use Rattle.records.specs.Yielded.{on_parsed, yield_of, outcome_of}
 use Rattle.records.specs.RecordsLaws.{fault-some}
 use Rattle.reading.specs.Reading.{ahead, instances_from}
 use Rattle.reading.specs.Result.{Yield, discarded, yields}
-use Rattle.findings.specs.declared.Trouble.{Trouble}
+use Rattle.findings.specs.Troubles.{Trouble}
 use Rattle.findings.specs.Troubles.{plain, laid_place, judged_trouble, fields_trouble, trouble_of, or_else, instances_trouble}
 use Rattle.findings.specs.Told.{fault_in, block_fault}
 

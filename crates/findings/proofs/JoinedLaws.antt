@@ -14,7 +14,7 @@ use Rattle.numbers.specs.Fault as fault
 use Rattle.carriers.specs.declared.Carrier.TheVariants.{Dhcp4}
 use Rattle.frames.specs.Step.{part}
 use Rattle.frames.proofs.GatherLaws.{part_length}
-use Rattle.findings.specs.declared.Trouble.{Trouble}
+use Rattle.findings.specs.Troubles.{Trouble}
 use Rattle.findings.specs.Troubles.{trouble, plain, fine, trouble_of, or_else, instances_trouble, joined_trouble}
 use Rattle.findings.specs.WithinLaws.{at16-drop, trouble-within}
 
@@ -75,13 +75,13 @@ pub record Passing (joined : List ℕ) (at : ℕ) : Type 0 where
   pub within : at ≤ length joined
   pub troubles : joined_trouble joined ≡ instances_trouble 0 at (drop at joined)
 
-pub joined-none : (joined : List ℕ) {r : Trouble} → length joined ≡ 0 → r ≡ plain fault.field 0 → r ≡ joined_trouble joined
+pub joined-none : (joined : List ℕ) {r : Trouble} → true ≡ eqb (length joined) 0 → r ≡ plain fault.field 0 → r ≡ joined_trouble joined
 unfolding joined_trouble
-joined-none joined h e = simp (eq-eqb _ _ h) e
+joined-none joined h e = simp (← h) e
 
-pub passing-start : (joined : List ℕ) → (length joined ≡ 0 → ⊥) → Passing joined 0
+pub passing-start : (joined : List ℕ) → false ≡ eqb (length joined) 0 → Passing joined 0
 unfolding joined_trouble
-passing-start joined n = record { within = omega arith; troubles = simp (ne_eqb _ _ n) }
+passing-start joined n = record { within = omega arith; troubles = simp (← n) }
 
 module _ {joined : List ℕ} {at : ℕ} (p : Passing joined at) where
   abbrev rest : List ℕ

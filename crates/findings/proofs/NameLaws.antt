@@ -10,7 +10,7 @@ use Rattle.blocks.specs.Block.{Fields, name_at}
 use Rattle.blocks.specs.Parse.{Parsed, bad, fields, parse}
 use Rattle.blocks.specs.Faults.{parse-fault}
 use Rattle.judge.specs.declared.Side.TheVariants.{Reading}
-use Rattle.judge.specs.declared.Judged.{Judged}
+use Rattle.judge.specs.Place.{Judged}
 use Rattle.judge.specs.Place.{judged, from}
 use Rattle.judge.specs.Judge.{judged_by}
 use Rattle.judge.specs.Allowed.{NameAllowed}
@@ -22,7 +22,7 @@ use Rattle.records.specs.RecordsLaws.{yield-faulty, outcome-bad, outcome-fields,
 use Rattle.reading.specs.Reading.{ahead, instances_from, joined_yield}
 use Rattle.reading.specs.Result.{Yield, discarded, yields}
 use Rattle.reasons.specs.Params.{param_for}
-use Rattle.findings.specs.declared.Trouble.{Trouble}
+use Rattle.findings.specs.Troubles.{Trouble}
 use Rattle.findings.specs.Troubles.{plain, laid_place, judged_trouble, fields_trouble, trouble_of, or_else, instances_trouble, joined_trouble}
 use Rattle.findings.specs.PlacesLaws.{place-name}
 use Rattle.findings.specs.Told.{fault_in}

@@ -27,7 +27,7 @@ module _ (c : Carrier) (area : List ℕ) where
   spots-lie =
       by-steps c area (λ at. All (Lies area) (spots_at c area at))
       (λ at e. subst⁻¹ (All (Lies area)) (spots-end c area at e) tt)
-      (λ at w e. subst⁻¹ (All (Lies area)) (spots-fault c area at e) tt)
+      (λ at r w e. subst⁻¹ (All (Lies area)) (spots-fault c area at e) tt)
       (λ at to e h. subst⁻¹ (All (Lies area)) (spots-skipped c area at e) h)
       (λ at start to e h. let m = step_block c area at e in subst⁻¹ (All (Lies area)) (spots-block c area at e) ((m.1, m.2), h))
 
@@ -35,7 +35,7 @@ module _ (c : Carrier) (area : List ℕ) where
   spots-bodies {bs} =
       by-steps c area (λ at. (bs : List (List ℕ)) → frame c (drop at area) ≡ framed bs → map (body_at area) (spots_at c area at) ≡ bs)
       (λ at e bs q. ap (map (body_at area)) (spots-end c area at e) ∙ framed-same (sym (step_end c area at e) ∙ q))
-      (λ at w e bs q. absurd (fault-framed (sym (step-fault c area at e w) ∙ q)))
+      (λ at r w e bs q. absurd (fault-framed (sym (step-fault c area at e w) ∙ q)))
       (λ at to e h bs q. ap (map (body_at area)) (spots-skipped c area at e) ∙ h bs (sym (step-skipped c area at e).2 ∙ q))
       (λ at start to e h bs q.
       let more = framed-more (sym (step_block c area at e).3 ∙ q) in

@@ -1,5 +1,5 @@
 -- What the judge's answer says of the fields, and that the parameter at fault stands in its field: so a place is within its body. Assumes nothing.
-use Rattle.std.specs.Prelude.{◌≡◌, Bool, false, cond, not, ◌||◌, ◌⊎◌, List, [], ◌∷◌, ℕ, zero, suc, ◌+◌, ◌-◌, ◌*◌, ◌/◌, ◌%◌, ◌≤◌, ◌<◌, ltb, leb, eqb, take, drop}
+use Rattle.std.specs.Prelude.{◌≡◌, Bool, false, cond, not, ◌||◌, ◌⊎◌, List, [], ◌∷◌, ℕ, zero, suc, ◌+◌, ◌-◌, ◌*◌, ◌/◌, ◌%◌, ◌≤◌, ◌<◌, ltb, leb, eqb, take, drop, Ok, Err}
 use Rattle.std.proofs.Math.Path.{refl}
 use Rattle.std.proofs.Math.Bool.{true}
 use Rattle.std.proofs.Common.{inl, inr, arith, leb-false, ltb-true}
@@ -12,8 +12,6 @@ use Rattle.numbers.specs.Limit as limit
 use Rattle.carriers.specs.declared.Carrier.{Carrier}
 use Rattle.carriers.specs.Carriers.{address_width, as_text}
 use Rattle.carriers.proofs.CarriersLaws.{by_address}
-use Rattle.names.specs.declared.Name.{Name}
-use Rattle.names.specs.declared.Name.TheVariants.{Good, Bad}
 use Rattle.addresses.specs.Addresses.{list_of}
 use Rattle.svcparams.specs.Params.{size_of, params_fault}
 use Rattle.svcparams.specs.Entries.{keys_in}
@@ -21,15 +19,15 @@ use Rattle.svcparams.specs.Key as key
 use Rattle.svcparams.proofs.Exactly as params
 use Rattle.blocks.specs.Block.{Fields, name_at}
 use Rattle.judge.specs.declared.Side.TheVariants.{Reading}
-use Rattle.judge.specs.declared.Judged.{Judged}
+use Rattle.judge.specs.Place.{Judged}
 use Rattle.judge.specs.Place.{judged}
 use Rattle.judge.specs.Judge.{name_of, refused_of, tail_fault, name_only_fault, on_name, judged_of}
 use Rattle.judge.proofs.PlaceLaws.{bad-exactly}
-use Rattle.reasons.specs.declared.Param.{Param}
-use Rattle.reasons.specs.Params.{on, unordered_from, wrong_of, wrong_from, param_for}
+use Rattle.reasons.specs.Params.{Param, on, unordered_from, wrong_of, wrong_from, param_for}
 use Rattle.findings.specs.Troubles.{address_length_at, addresses_at, parameters_at, limit_at, field_place}
 use Rattle.findings.specs.Sizes.{Sized, Placed}
 use Rattle.findings.specs.SizesLaws.{length_before, addresses-before}
+use Rattle.names.specs.Automaton.{Checked}
 
 -- ---- the parameter at fault begins in its field
 
@@ -105,14 +103,14 @@ judged-placed c f = go (eqb f.priority 0) (name_of Reading c f.name) f.full refl
     tail : ℕ
     tail = tail_fault Reading (address_width c) f.addresses f.parameters
 
-    go : (zero : Bool) (n : Name) (full : Bool) → name_of Reading c f.name ≡ n → f.full ≡ full
+    go : (zero : Bool) (n : Checked) (full : Bool) → name_of Reading c f.name ≡ n → f.full ≡ full
         → Placed c f (cond zero (judged fault.priority 0)
         (on_name n (λ place. judged fault.name place) (judged (cond full tail (name_only_fault c)) 0)))
     go true n full m u = record { inside = omega arith; full_form = λ h _. absurd (omega arith); too_much = λ h. absurd (omega arith) }
-    go false (Bad place) full m u =
+    go false (Err place) full m u =
         record { inside = ((bad-exactly Reading c f.name place).0 m).within; full_form = λ h _. absurd (omega arith); too_much = λ h. absurd (omega arith) }
-    go false Good true m u = record { inside = omega arith; full_form = λ _ _. u; too_much = tail-limit c f.addresses f.parameters }
-    go false Good false m u =
+    go false (Ok tt) true m u = record { inside = omega arith; full_form = λ _ _. u; too_much = tail-limit c f.addresses f.parameters }
+    go false (Ok tt) false m u =
         by-test (as_text c) (λ t. Placed c f (judged (cond t fault.addresses 0) 0))
         (λ t. record { inside = omega arith; full_form = λ _ g. g t; too_much = λ h. absurd (omega arith) })
         (λ t. record { inside = omega arith; full_form = λ h _. absurd (omega arith); too_much = λ h. absurd (omega arith) })

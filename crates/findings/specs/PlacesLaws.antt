@@ -1,14 +1,20 @@
 -- Places by what stands in a body: one law for each way out of the code. Assumes nothing.
-use Rattle.std.specs.Prelude.{◌≡◌, Bool, true, false, ℕ, ◌+◌, ◌-◌, ◌*◌, ◌≤◌, ◌<◌, eqb, length, get_or, take}
-use Rattle.std.proofs.Common.{sym, ◌∙◌, add-one, arith, drop-cons}
+use Rattle.std.specs.Prelude.{◌≡◌, refl, Bool, true, false, not, ◌&&◌, ◌==◌, nat_lt, ◌∷◌, min, position, Some, None, ℕ, zero, suc, ◌+◌, ◌-◌, ◌*◌, ◌≤◌, ◌<◌, ◌⊎◌, leb, eqb, length, get_or, take}
+use Rattle.std.proofs.Common.{sym, ◌∙◌, inl, inr, arith, zero-add, take_all, leb-true, leb-false}
+use Rattle.std.proofs.Math.Nat.{min-eq_left, min-eq_right}
 use Rattle.std.proofs.Math.Bool.{cond, and-false}
 use mathlib.Core.List.{List, []}
-use borrow.Author.Tests.{lt-ltb, le-ltb, le-leb, lt-leb, eq-eqb, ne_eqb}
+use borrow.Author.Tests.{lt-ltb, le-ltb, le-leb, lt-leb, eq-eqb, ne_eqb, ltb-false}
 use Rattle.std.proofs.Math.ListN.{drop, drop_of_length-le}
+use Rattle.std.specs.Option.{unwrap_or}
+use Rattle.std.specs.List.{position_or_len}
+use Rattle.std.proofs.lemmas.List.Sums.{prefix_len-le-length}
 use Rattle.octets.specs.Cases.{by-test}
 use Rattle.octets.specs.Numbers.{at16}
 use Rattle.octets.specs.ListsLaws.{take_rest}
 use Rattle.numbers.specs.Fault as fault
+use Rattle.numbers.specs.declared.Fault.{Fault}
+use Rattle.numbers.specs.declared.Fault.TheVariants.{Field, Priority, Parameters, Hint, Value, Padding}
 use Rattle.numbers.specs.Limit as limit
 use Rattle.carriers.specs.declared.Carrier.{Carrier}
 use Rattle.carriers.specs.Carriers.{length_width, lifetime_in, lifetime_width, address_width, as_text}
@@ -37,22 +43,38 @@ module _ (b : List ℕ) {x : ℕ} (e : x ≡ near16 b 6) where
   unfolding padding_at
   padding-after-fields h i j = simp (← e, le-ltb _ _ h, ← i, ← j)
 
-module _ (l : List ℕ) (i : ℕ) where
-  pub past-other : i < length l → (get_or l i 0 ≡ 0 → ⊥) → past_padding i (drop i l) ≡ i
-  unfolding past_padding
-  past-other h n = rw (drop-cons l i 0, ne_eqb (get_or l i 0) 0 n)
+-- an octet that padding cannot have, by its value
+abbrev other : ℕ → Bool
+other x = not (x == 0)
 
-  pub past-many : i < length l → 7 ≤ i → past_padding i (drop i l) ≡ i
-  unfolding past_padding
-  past-many h k = simp (drop-cons l i 0 h, le-ltb i 7 k, and-false)
+-- the first of the next k octets, of which the last would be the seventh
+past-from : (k at : ℕ) (l : List ℕ) → at + k ≡ 7 → past_padding at l ≡ at + position_or_len other (take k l)
+unfolding past_padding
+past-from zero at [] e = omega arith
+past-from (suc k) at [] e = omega arith
+past-from zero at (x ∷ xs) e = simp (le-ltb at 7 (omega arith), and-false) (omega arith)
+past-from (suc k) at (x ∷ xs) e =
+    let more : past_padding (at + 1) xs ≡ at + 1 + position_or_len other (take k xs) = past-from k (at + 1) xs (omega arith) in
+    simp (lt-ltb at 7 (omega arith))
+    (by-test (eqb x 0) (λ t. cond (t && true) (past_padding (at + 1) xs) at ≡ at + cond (not (not t)) (1 + position_or_len other (take k xs)) 0)
+    (λ _. omega (arith, more)) (λ _. omega arith))
 
-  pub past-turn : i < length l → get_or l i 0 ≡ 0 → i < 7 → past_padding i (drop i l) ≡ past_padding (i + 1) (drop (i + 1) l)
-  unfolding past_padding
-  past-turn h e k = rw (drop-cons l i 0, e, lt-ltb i 7 k, add-one)
+-- where there is none, what would be the first is their number
+position-or : (l : List ℕ) → unwrap_or (position other l) (length l) ≡ position_or_len other l
+position-or l =
+    let n : ℕ = position_or_len other l in
+    by-test (nat_lt n (length l)) (λ t. unwrap_or (cond t (Some n) None) (length l) ≡ n)
+    (λ _. refl)
+    (λ t. omega (arith, prefix_len-le-length (λ x. not (other x)) l, ltb-false _ _ t))
 
-  pub past_end : length l ≤ i → past_padding i (drop i l) ≡ i
-  unfolding past_padding
-  past_end h = rw (drop_of_length-le l h)
+take-min : (l : List ℕ) → take (min (length l) 7) l ≡ take 7 l
+take-min l =
+    by-test (leb (length l) 7) (λ _. take (min (length l) 7) l ≡ take 7 l)
+    (λ t. let h : length l ≤ 7 = leb-true _ _ t in rw (min-eq_left h, take_all (length l) l (omega arith), take_all 7 l h))
+    (λ t. let h : 7 ≤ length l = omega (arith, leb-false _ _ t) in rw (min-eq_right h))
+
+pub past-first : (l : List ℕ) → let front : List ℕ = take (min (length l) 7) l in unwrap_or (position other front) (length front) ≡ past_padding 0 l
+past-first l = rw take-min (position-or (take 7 l) ∙ sym (past-from 7 0 l refl ∙ zero-add _))
 
 module _ (k : ℕ) (b : List ℕ) where
   pub laid-other : (k ≡ fault.padding → ⊥) → length b ≡ laid_place k b
@@ -159,31 +181,22 @@ module _ (c : Carrier) where
   pub limit-small : limit.addresses * address_width c ≤ 1008
   limit-small = let w = address-width c in omega arith
 
-module _ (c : Carrier) (k n m place within : ℕ) where
-  pub place_none : k ≤ fault.priority → 0 ≡ field_place c k n m place within
+pub place-name : (c : Carrier) (k n m place within : ℕ) → fault.priority < k → {i : ℕ} → i ≡ name_at c m → k ≡ fault.name
+    → i + place ≡ field_place c k n m place within
+unfolding field_place
+place-name c k n m place within a e h = simp (e, lt-leb _ _ a, eq-eqb _ _ h)
+
+-- by the fault, where more than one has its place there
+module _ (c : Carrier) (k : Fault) (n m place within : ℕ) where
+  pub place-first : (k ≡ Field) ⊎ (k ≡ Priority) → 0 ≡ field_place c (fault.number_of k) n m place within
   unfolding field_place
-  place_none h = simp (le-leb _ _ h)
+  place-first (inl e) = rw e
+  place-first (inr e) = rw e
 
-  module _ (a : fault.priority < k) where
-    pub place-name : {i : ℕ} → i ≡ name_at c m → k ≡ fault.name → i + place ≡ field_place c k n m place within
-    unfolding field_place
-    place-name e h = simp (e, lt-leb _ _ a, eq-eqb _ _ h)
-
-    module _ (b : k ≡ fault.name → ⊥) where
-      pub place-length : {i : ℕ} → i ≡ address_length_at c n → k ≡ fault.addresses → i ≡ field_place c k n m place within
-      unfolding field_place
-      place-length e h = simp (e, lt-leb _ _ a, ne_eqb _ _ b, eq-eqb _ _ h)
-
-      module _ (d : k ≡ fault.addresses → ⊥) where
-        pub place-limit : {i : ℕ} → i ≡ limit_at c n m → k ≡ fault.limit → i ≡ field_place c k n m place within
-        unfolding field_place
-        place-limit e h = simp (e, lt-leb _ _ a, ne_eqb _ _ b, ne_eqb _ _ d, eq-eqb _ _ h)
-
-        module _ (g : k ≡ fault.limit → ⊥) where
-          pub place-addresses : {i : ℕ} → i ≡ addresses_at c n → k ≡ fault.dropped → i ≡ field_place c k n m place within
-          unfolding field_place
-          place-addresses e h = simp (e, lt-leb _ _ a, ne_eqb _ _ b, ne_eqb _ _ d, ne_eqb _ _ g, eq-eqb _ _ h)
-
-          pub place-parameters : {i : ℕ} → i ≡ parameters_at c n m → (k ≡ fault.dropped → ⊥) → i + within ≡ field_place c k n m place within
-          unfolding field_place
-          place-parameters e h = simp (e, lt-leb _ _ a, ne_eqb _ _ b, ne_eqb _ _ d, ne_eqb _ _ g, ne_eqb _ _ h)
+  pub place-parameters : {i : ℕ} → (k ≡ Parameters) ⊎ ((k ≡ Hint) ⊎ ((k ≡ Value) ⊎ (k ≡ Padding))) → i ≡ parameters_at c n m
+      → i + within ≡ field_place c (fault.number_of k) n m place within
+  unfolding field_place
+  place-parameters (inl e) q = rw (e, q)
+  place-parameters (inr (inl e)) q = rw (e, q)
+  place-parameters (inr (inr (inl e))) q = rw (e, q)
+  place-parameters (inr (inr (inr e))) q = rw (e, q)

@@ -1,6 +1,7 @@
 -- The walk of `place` over the options of an area: it begins, goes on and ends. Assumes nothing.
-use Rattle.std.specs.Prelude.{◌≡◌, refl, List, [], ◌∷◌, ℕ, ◌+◌, ◌-◌, ◌≤◌, ◌<◌, length}
+use Rattle.std.specs.Prelude.{◌≡◌, refl, List, [], ◌∷◌, ℕ, ◌+◌, ◌-◌, ◌≤◌, ◌<◌, length, Ok, Err}
 use Rattle.std.proofs.Common.{sym, ap, ◌∙◌, arith, lt-ltb, le-ltb}
+use Rattle.numbers.specs.declared.Refusal.{Refusal}
 use Rattle.carriers.specs.declared.Carrier.TheVariants.{Dhcp4}
 use Rattle.frames.specs.declared.Step.{Step}
 use Rattle.frames.specs.Step.{step_at}
@@ -33,7 +34,7 @@ unfolding place_of
 placing-start area j = record { within = omega arith; behind = omega arith; fewer = omega arith; places = refl }
 
 module _ {area : List ℕ} {j at last left : ℕ} (p : Placing area j at last left) where
-  module _ {start end : ℕ} (e : step_at Dhcp4 area at ≡ Step.Block start end) where
+  module _ {start end : ℕ} (e : step_at Dhcp4 area at ≡ Ok (Step.Block start end)) where
     here : place_of area j ≡ place_in (spot start end ∷ spots_at Dhcp4 area end) last left
     here = p.places ∙ ap (λ (l : List Spot). place_in l last left) (spots-block Dhcp4 area at e)
 
@@ -50,7 +51,7 @@ module _ {area : List ℕ} {j at last left : ℕ} (p : Placing area j at last le
           places = here ∙ place_after (spot start end) (spots_at Dhcp4 area end) last left h;
         }
 
-  pub placing-skipped : {end : ℕ} → step_at Dhcp4 area at ≡ Step.Skipped end → Placing area j end last left
+  pub placing-skipped : {end : ℕ} → step_at Dhcp4 area at ≡ Ok (Step.Skipped end) → Placing area j end last left
   placing-skipped {end} e =
       let m = step-skipped Dhcp4 area at e in
       record {
@@ -60,8 +61,8 @@ module _ {area : List ℕ} {j at last left : ℕ} (p : Placing area j at last le
         places = p.places ∙ ap (λ (l : List Spot). place_in l last left) (spots-skipped Dhcp4 area at e);
       }
 
-  pub placing-end : step_at Dhcp4 area at ≡ Step.End → last + left ≡ place_of area j
+  pub placing-end : step_at Dhcp4 area at ≡ Ok Step.End → last + left ≡ place_of area j
   placing-end e = sym (p.places ∙ ap (λ (l : List Spot). place_in l last left) (spots-end Dhcp4 area at e) ∙ place_none last left)
 
-  pub placing-fault : step_at Dhcp4 area at ≡ Step.Fault → last + left ≡ place_of area j
+  pub placing-fault : {r : Refusal} → step_at Dhcp4 area at ≡ Err r → last + left ≡ place_of area j
   placing-fault e = sym (p.places ∙ ap (λ (l : List Spot). place_in l last left) (spots-fault Dhcp4 area at e) ∙ place_none last left)

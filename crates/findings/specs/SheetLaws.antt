@@ -8,16 +8,18 @@ use Rattle.std.proofs.lemmas.Bool.{lt-leb}
 use Rattle.std.proofs.Math.ListN.{length}
 use Rattle.carriers.specs.declared.Carrier.{Carrier}
 use Rattle.blocks.specs.Block.{Fields}
+use Rattle.blocks.specs.Parts.{fields_in}
 use Rattle.records.specs.Records.{head_size, record_of}
 use Rattle.records.specs.RecordsLaws.{length-record}
 use Rattle.sheets.specs.Sheets.{front_size}
 use Rattle.sheets.specs.Sheets as sheets
-use Rattle.taking.specs.declared.Spot.{Spot}
+use Rattle.taking.specs.declared.Record.{Record}
 use Rattle.taking.specs.Taking.{Taken, refuse, take_of}
 use Rattle.taking.specs.Spot.{spot_of}
-use Rattle.taking.specs.SpotLaws.{spot-name, spot-next, name-length}
+use Rattle.taking.specs.Shown.{Shown}
 use Rattle.taking.specs.Standing.{Step}
-use Rattle.taking.specs.StandingLaws.{stands-is, standing-none, standing-step, taken-standing}
+use Rattle.taking.specs.StandingLaws.{taken-standing}
+use Rattle.taking.specs.TurnsLaws.{standing-done, shown-name, shown-next, shown-step, shown-first, shown-standing}
 use Rattle.taking.specs.Exactly.{sheet-taken}
 use Rattle.vetting.specs.Weighing.{records_of, TakenAs}
 use Rattle.written.specs.Wrong.{WrongName}
@@ -41,58 +43,45 @@ pub seeking-start : (c : Carrier) (s : List ℕ) (place : ℕ) → TakenAs c s �
 seeking-start c s place e = record { rest = records_of s; standing = (taken-standing s e).0; same = refl }
 
 module _ {c : Carrier} {s : List ℕ} {place at : ℕ} (w : Seeking c s place at) where
-  -- at the sheet's end
-  pub seeking-end : length s ≤ at → 0 ≡ reason_from c front_size (records_of s) place
+  -- where none is left
+  pub seeking-end : (spot_of c s at).good ≡ false → 0 ≡ reason_from c front_size (records_of s) place
   unfolding reason_from
-  seeking-end h = sym (w.same ∙ ap (λ (rs : List Fields). reason_from c at rs place) (standing-none w.standing h))
+  seeking-end h = sym (w.same ∙ ap (λ (rs : List Fields). reason_from c at rs place) (standing-done w.standing h))
 
-  module _ {p : Spot} (e : p ≡ spot_of c s at) (h : at < length s) where
-    step : Step c s at w.rest p
-    step = standing-step e w.standing h
+  module _ {x : Record} (h : Shown s at (spot_of c s at) x) where
+    step : Step c s at w.rest (spot_of c s at)
+    step = shown-step c s at h w.standing
 
     first : Fields
-    first = step.first
-
-    pub seeking-name : p.name ≡ at + head_size
-    seeking-name = spot-name c s at e (omega arith) step.stands.good
-
-    pub seeking-further : at < p.next
-    seeking-further = omega (arith, step.stands.inside.further step.stands.good)
-
-    name-is : take p.nlen (drop p.name s) ≡ first.name
-    unfolding first
-    name-is = step.stands.name
-
-    name-size : length first.name ≡ p.nlen
-    name-size = ap length (sym name-is) ∙ name-length s p step.stands.inside
+    first = fields_in x.parts
 
     here : reason_from c front_size (records_of s) place ≡ reason_from c at (first ∷ step.rest) place
-    unfolding first
-    here = w.same ∙ ap (λ (rs : List Fields). reason_from c at rs place) step.are
+    unfolding first step
+    here =
+        w.same
+        ∙ ap (λ (rs : List Fields). reason_from c at rs place) (step.are ∙ ap (λ (r : Fields). r ∷ step.rest) (sym (shown-first c s at h w.standing)))
 
     -- the name ends at the place or after it
-    pub seeking-found : place ≤ p.name + p.nlen → {r n : ℕ} {name : List ℕ} → name ≡ take p.nlen (drop p.name s) → n ≡ place - p.name
-        → r ≡ name_reason false name n → r ≡ reason_from c front_size (records_of s) place
-    seeking-found k {r} {n} {name} q m i =
-        let at_name : place - p.name ≡ place - (at + head_size) = ap (λ (x : ℕ). place - x) seeking-name in
+    pub seeking-found : place ≤ x.name + length x.parts.name.now → {r n : ℕ} → n ≡ place - x.name → r ≡ name_reason false x.parts.name.now n
+        → r ≡ reason_from c front_size (records_of s) place
+    unfolding first
+    seeking-found k {r} {n} m i =
+        let at_name : place - x.name ≡ place - (at + head_size) = ap (λ (y : ℕ). place - y) (shown-name c s at h) in
         i
-        ∙ ap (λ (l : List ℕ). name_reason false l n) (q ∙ name-is)
-        ∙ ap (name_reason false first.name) (m ∙ at_name)
-        ∙ sym (here ∙ reason-there c at first step.rest place (omega (arith, seeking-name, name-size)))
+        ∙ ap (name_reason false x.parts.name.now) (m ∙ at_name)
+        ∙ sym (here ∙ reason-there c at first step.rest place (omega (arith, shown-name c s at h)))
 
     -- or before it
-    pub seeking-next : p.name + p.nlen < place → Seeking c s place p.next
-    unfolding first
+    pub seeking-next : x.name + length x.parts.name.now < place → Seeking c s place x.next
+    unfolding first step
     seeking-next k =
-        let next : p.next ≡ at + length (record_of c first) =
-        spot-next c s at e (omega arith) step.stands.good ∙ ap (λ (r : Fields). at + length (record_of c r)) (stands-is step.stands) in
         record {
           rest = step.rest;
-          standing = step.standing;
+          standing = shown-standing c s at h w.standing;
           same =
               here
-              ∙ reason-past c at first step.rest place (omega (arith, seeking-name, name-size))
-              ∙ ap (λ (n : ℕ). reason_from c n step.rest place) (sym next);
+              ∙ reason-past c at first step.rest place (omega (arith, shown-name c s at h))
+              ∙ ap (λ (n : ℕ). reason_from c n step.rest place) (sym (shown-next c s at h));
         }
 
 -- ---- a sheet

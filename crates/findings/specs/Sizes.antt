@@ -5,7 +5,7 @@ use Rattle.numbers.specs.Limit as limit
 use Rattle.carriers.specs.declared.Carrier.{Carrier}
 use Rattle.carriers.specs.Carriers.{address_width, as_text}
 use Rattle.blocks.specs.Block.{Fields, name_at}
-use Rattle.judge.specs.declared.Judged.{Judged}
+use Rattle.judge.specs.Place.{Judged}
 use Rattle.findings.specs.Troubles.{parameters_at}
 
 -- fields that end where their body does, or before

@@ -152,3 +152,8 @@ sized-parts {c} {b} {f} s = go f.full refl
     go : (full : Bool) → f.full ≡ full → length f.name + length f.addresses + length f.parameters ≤ length b
     go true u = omega (arith, s.whole u, parts-before c (length f.name) (length f.addresses))
     go false u = omega (arith, s.named, (s.bare u).0, (s.bare u).1)
+
+-- the addresses of the full form lie within the body
+pub addresses-inside : (c : Carrier) (b : List ℕ) (f : Fields) → Bytes b → parse c b ≡ fields f → f.full ≡ true
+    → addresses_at c (length f.name) + length f.addresses ≤ length b
+addresses-inside c b f h e u = omega (arith, (parse-sized c b f h e).whole u, addresses-before c (length f.name) (length f.addresses))

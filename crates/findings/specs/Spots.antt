@@ -1,11 +1,12 @@
 -- Where the carrier's own options have their bodies in an area, and where in the area an octet of the joined data of carrier 1 stands (RULES W4). Assumes
 -- nothing: these are definitions.
-use Rattle.std.specs.Prelude.{Bool, true, false, cond, List, [], ◌∷◌, ℕ, zero, suc, ◌+◌, ◌-◌, ltb, leb, length}
+use Rattle.std.specs.Prelude.{Bool, true, false, cond, List, [], ◌∷◌, ℕ, zero, suc, ◌+◌, ◌-◌, ltb, leb, length, Result, Ok, Err}
+use Rattle.numbers.specs.declared.Refusal.{Refusal}
 use Rattle.carriers.specs.declared.Carrier.{Carrier}
 use Rattle.carriers.specs.declared.Carrier.TheVariants.{Dhcp4}
 use Rattle.carriers.specs.Carriers.{header_of}
 use Rattle.frames.specs.declared.Head.{Head}
-use Rattle.frames.specs.declared.Head.TheVariants.{Bad, End, Option}
+use Rattle.frames.specs.declared.Head.TheVariants.{End, Option}
 use Rattle.frames.specs.Frame.{first_of}
 
 -- a body: the index of its first octet, and the index after its last
@@ -19,10 +20,10 @@ onto c at n true more = record { start = at + header_of c; end = at + n } ∷ mo
 onto c at n false more = more
 
 -- `left` octets begin at an index with this header; an option that says more runs past the end, and what follows it is no option
-abbrev pub after : Carrier → ℕ → ℕ → Head → (ℕ → List Spot) → List Spot
-after c at left Bad go = []
-after c at left End go = []
-after c at left (Option own size) go = cond (leb size.0 left) (onto c at size.0 own (go (size.0 - 1))) []
+abbrev pub after : Carrier → ℕ → ℕ → Result Head Refusal → (ℕ → List Spot) → List Spot
+after c at left (Err _) go = []
+after c at left (Ok End) go = []
+after c at left (Ok (Option own size)) go = cond (leb size.0 left) (onto c at size.0 own (go (size.0 - 1))) []
 
 -- the area from an index on, with its first k octets still to be skipped
 unfoldable pub spots_from : Carrier → ℕ → ℕ → List ℕ → List Spot

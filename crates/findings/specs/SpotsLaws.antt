@@ -1,7 +1,9 @@
 -- The spots of an area by the steps of the walk. Assumes nothing.
-use Rattle.std.specs.Prelude.{◌≡◌, refl, Bool, true, false, cond, List, [], ◌∷◌, ℕ, zero, suc, ◌+◌, ◌-◌, ◌≤◌, ◌<◌, ltb, leb, length, drop}
+use Rattle.std.specs.Prelude.{◌≡◌, refl, Bool, true, false, cond, List, [], ◌∷◌, ℕ, zero, suc, ◌+◌, ◌-◌, ◌≤◌, ◌<◌, ltb, leb, length, drop, Result, Ok, Err}
 use Rattle.std.proofs.Common.{sym, ap, ◌∙◌, subst, add-zero, arith, ltb-true, ltb-false, leb-true, length-drop, drop_of_length-le, drop-drop}
 use Rattle.std.proofs.Math.Path.{subst⁻¹}
+use Rattle.numbers.specs.declared.Refusal.{Refusal}
+use Rattle.numbers.specs.declared.Refusal.TheVariants.{Framing}
 use Rattle.carriers.specs.declared.Carrier.{Carrier}
 use Rattle.carriers.specs.Carriers.{header_of}
 use Rattle.frames.specs.declared.Head.{Head}
@@ -30,10 +32,10 @@ unfolding spots_from
 spots-none c at = refl
 
 -- what the header that stands first leaves to do
-abbrev Ahead : Carrier → ℕ → List ℕ → Head → List Spot
-Ahead c at l Head.Bad = []
-Ahead c at l Head.End = []
-Ahead c at l (Head.Option own size) = cond (leb size.0 (length l)) (spots.onto c at size.0 own (spots_from c 0 (at + size.0) (drop size.0 l))) []
+abbrev Ahead : Carrier → ℕ → List ℕ → Result Head Refusal → List Spot
+Ahead c at l (Err _) = []
+Ahead c at l (Ok Head.End) = []
+Ahead c at l (Ok (Head.Option own size)) = cond (leb size.0 (length l)) (spots.onto c at size.0 own (spots_from c 0 (at + size.0) (drop size.0 l))) []
 
 spots-first : (c : Carrier) (at : ℕ) (l : List ℕ) → 0 < length l → spots_from c 0 at l ≡ Ahead c at l (first_of c l)
 unfolding spots_from
@@ -54,10 +56,10 @@ spots-first c at (x ∷ xs) h = go (first_of c (x ∷ xs)) refl
     by_size own n true t p = ap (spots.onto c at n own) (fits own n p (leb-true _ _ t))
     by_size own n false t p = refl
 
-    go : (z : Head) → first_of c (x ∷ xs) ≡ z → after c at (length (x ∷ xs)) z (λ k. spots_from c k (at + 1) xs) ≡ Ahead c at (x ∷ xs) z
-    go Head.Bad e = refl
-    go Head.End e = refl
-    go (Head.Option own size) e = by_size own size.0 (leb size.0 (length (x ∷ xs))) refl (first_pos c (x ∷ xs) e)
+    go : (z : Result Head Refusal) → first_of c (x ∷ xs) ≡ z → after c at (length (x ∷ xs)) z (λ k. spots_from c k (at + 1) xs) ≡ Ahead c at (x ∷ xs) z
+    go (Err r) e = refl
+    go (Ok Head.End) e = refl
+    go (Ok (Head.Option own size)) e = by_size own size.0 (leb size.0 (length (x ∷ xs))) refl (first_pos c (x ∷ xs) e)
 
 -- ---- by the steps of the walk
 
@@ -66,29 +68,29 @@ module _ (c : Carrier) (area : List ℕ) where
   abbrev pub spots_at : ℕ → List Spot
   spots_at at = spots_from c 0 at (drop at area)
 
-  abbrev Spotted : ℕ → Step → Type 0
-  Spotted at (Step.Block start end) = spots_at at ≡ spot start end ∷ spots_at end
-  Spotted at (Step.Skipped end) = spots_at at ≡ spots_at end
-  Spotted at Step.End = spots_at at ≡ []
-  Spotted at Step.Fault = spots_at at ≡ []
+  abbrev Spotted : ℕ → Result Step Refusal → Type 0
+  Spotted at (Ok (Step.Block start end)) = spots_at at ≡ spot start end ∷ spots_at end
+  Spotted at (Ok (Step.Skipped end)) = spots_at at ≡ spots_at end
+  Spotted at (Ok Step.End) = spots_at at ≡ []
+  Spotted at (Err _) = spots_at at ≡ []
 
   past_end : (at : ℕ) → length area ≤ at → spots_at at ≡ []
   past_end at h = ap (spots_from c 0 at) (drop_of_length-le area {i = at} h) ∙ spots-none c at
 
   spotted-option : (at : ℕ) (own : Bool) (n : ℕ) → n ≤ length area - at
-      → spots_at at ≡ spots.onto c at n own (spots_from c 0 (at + n) (drop n (drop at area))) → Spotted at (option_at c at own n)
+      → spots_at at ≡ spots.onto c at n own (spots_from c 0 (at + n) (drop n (drop at area))) → Spotted at (Ok (option_at c at own n))
   spotted-option at true n h e = e ∙ ap (λ (l : List ℕ). spot (at + header_of c) (at + n) ∷ spots_from c 0 (at + n) l) (drop-drop n at area)
   spotted-option at false n h e = e ∙ ap (spots_from c 0 (at + n)) (drop-drop n at area)
 
   spotted-size : (at : ℕ) (own : Bool) (n : ℕ) (b : Bool) → leb n (length area - at) ≡ b
-      → spots_at at ≡ cond b (spots.onto c at n own (spots_from c 0 (at + n) (drop n (drop at area)))) [] → Spotted at (cond b (option_at c at own n) Step.Fault)
+      → spots_at at ≡ cond b (spots.onto c at n own (spots_from c 0 (at + n) (drop n (drop at area)))) [] → Spotted at (cond b (Ok (option_at c at own n)) (Err Framing))
   spotted-size at own n true t e = spotted-option at own n (leb-true _ _ t) e
   spotted-size at own n false t e = e
 
-  spotted-head : (at : ℕ) (z : Head) → spots_at at ≡ Ahead c at (drop at area) z → Spotted at (head_at c (length area - at) at z)
-  spotted-head at Head.Bad e = e
-  spotted-head at Head.End e = e
-  spotted-head at (Head.Option own size) e =
+  spotted-head : (at : ℕ) (z : Result Head Refusal) → spots_at at ≡ Ahead c at (drop at area) z → Spotted at (head_at c (length area - at) at z)
+  spotted-head at (Err r) e = e
+  spotted-head at (Ok Head.End) e = e
+  spotted-head at (Ok (Head.Option own size)) e =
       spotted-size at own size.0 (leb size.0 (length area - at)) refl
       (e ∙ ap (λ (n : ℕ). cond (leb size.0 n) (spots.onto c at size.0 own (spots_from c 0 (at + size.0) (drop size.0 (drop at area)))) [])
       (length-drop at area))
@@ -110,33 +112,33 @@ module _ (c : Carrier) (area : List ℕ) where
           subst⁻¹ (Spotted at) (step-at-end c area at (omega arith)) (past_end at ge)
 
   module _ (at : ℕ) where
-    pub spots-block : {start end : ℕ} → step_at c area at ≡ Step.Block start end → spots_at at ≡ spot start end ∷ spots_at end
+    pub spots-block : {start end : ℕ} → step_at c area at ≡ Ok (Step.Block start end) → spots_at at ≡ spot start end ∷ spots_at end
     spots-block e = subst (Spotted at) e (spotted at)
 
-    pub spots-skipped : {end : ℕ} → step_at c area at ≡ Step.Skipped end → spots_at at ≡ spots_at end
+    pub spots-skipped : {end : ℕ} → step_at c area at ≡ Ok (Step.Skipped end) → spots_at at ≡ spots_at end
     spots-skipped e = subst (Spotted at) e (spotted at)
 
-    pub spots-end : step_at c area at ≡ Step.End → spots_at at ≡ []
+    pub spots-end : step_at c area at ≡ Ok Step.End → spots_at at ≡ []
     spots-end e = subst (Spotted at) e (spotted at)
 
-    pub spots-fault : step_at c area at ≡ Step.Fault → spots_at at ≡ []
+    pub spots-fault : {r : Refusal} → step_at c area at ≡ Err r → spots_at at ≡ []
     spots-fault e = subst (Spotted at) e (spotted at)
 
   -- what holds of every index in the area, by what holds of the index after
   module _ (P : ℕ → Type 0)
-      (end : (at : ℕ) → step_at c area at ≡ Step.End → P at)
-      (broken : (at : ℕ) → at ≤ length area → step_at c area at ≡ Step.Fault → P at)
-      (skipped : (at to : ℕ) → step_at c area at ≡ Step.Skipped to → P to → P at)
-      (block : (at start to : ℕ) → step_at c area at ≡ Step.Block start to → P to → P at) where
+      (end : (at : ℕ) → step_at c area at ≡ Ok Step.End → P at)
+      (broken : (at : ℕ) (r : Refusal) → at ≤ length area → step_at c area at ≡ Err r → P at)
+      (skipped : (at to : ℕ) → step_at c area at ≡ Ok (Step.Skipped to) → P to → P at)
+      (block : (at start to : ℕ) → step_at c area at ≡ Ok (Step.Block start to) → P to → P at) where
     steps-within : (n at : ℕ) → length area - at < n → at ≤ length area → P at
     steps-within zero at h w = absurd (omega arith)
     steps-within (suc n) at h w = go (steps-within n) (step_at c area at) refl
       where
-        go : ((to : ℕ) → length area - to < n → to ≤ length area → P to) → (s : Step) → step_at c area at ≡ s → P at
-        go ih Step.End e = end at e
-        go ih Step.Fault e = broken at w e
-        go ih (Step.Skipped to) e = let m = step-skipped c area at e in skipped at to e (ih to (omega (arith, m.0, m.1)) m.1)
-        go ih (Step.Block start to) e = let m = step_block c area at e in block at start to e (ih to (omega (arith, m.0, m.2)) m.2)
+        go : ((to : ℕ) → length area - to < n → to ≤ length area → P to) → (s : Result Step Refusal) → step_at c area at ≡ s → P at
+        go ih (Ok Step.End) e = end at e
+        go ih (Err r) e = broken at r w e
+        go ih (Ok (Step.Skipped to)) e = let m = step-skipped c area at e in skipped at to e (ih to (omega (arith, m.0, m.1)) m.1)
+        go ih (Ok (Step.Block start to)) e = let m = step_block c area at e in block at start to e (ih to (omega (arith, m.0, m.2)) m.2)
 
     pub by-steps : P 0
     by-steps = steps-within (suc (length area)) 0 (omega arith) (omega arith)

@@ -1,6 +1,6 @@
 -- Where in a body its fault stands, and what is known of it beside its number (RULES R20 to R29). Places are counted from 0, in the body. Assumes nothing:
 -- these are definitions.
-use Rattle.std.specs.Prelude.{cond, ◌&&◌, List, [], ◌∷◌, ℕ, zero, suc, ◌+◌, ◌-◌, ◌*◌, ltb, leb, eqb, length, take, drop}
+use Rattle.std.specs.Prelude.{cond, ◌&&◌, List, [], ◌∷◌, ℕ, zero, suc, ◌+◌, ◌-◌, ◌*◌, ltb, leb, eqb, length, take, drop, Option, Some, None, unwrap_or, Result, Ok, Err}
 use Rattle.octets.specs.Numbers.{at16}
 use Rattle.numbers.specs.Fault as fault
 use Rattle.numbers.specs.Limit as limit
@@ -10,12 +10,21 @@ use Rattle.carriers.specs.Carriers.{length_width, lifetime_width, address_width,
 use Rattle.blocks.specs.Block.{Fields, name_at}
 use Rattle.blocks.specs.Parse.{parse}
 use Rattle.judge.specs.declared.Side.TheVariants.{Reading}
-use Rattle.judge.specs.declared.Judged.{Judged}
+use Rattle.judge.specs.Place.{Judged}
 use Rattle.judge.specs.Judge.{judged_of}
 use Rattle.records.specs.Yielded.{on_parsed}
+use Rattle.reasons.specs.declared.Reason.{Reason}
+use Rattle.reasons.specs.Reason as reason
 use Rattle.reasons.specs.Names.{name_reason}
 use Rattle.reasons.specs.Params.{none, param_for}
-use Rattle.findings.specs.declared.Trouble.{Trouble}
+use Rattle.findings.specs.declared.finding.Finding.{Finding}
+
+-- the number of a fault, or 0 for none; its place; the number of a reason, or 0; and the key of a parameter, or `none`
+pub record Trouble : Type 0 where
+  pub fault : ℕ
+  pub at : ℕ
+  pub reason : ℕ
+  pub key : ℕ
 
 abbrev pub trouble : ℕ → ℕ → ℕ → ℕ → Trouble
 trouble k at reason key = record { fault = k; at = at; reason = reason; key = key }
@@ -27,6 +36,23 @@ plain k at = trouble k at 0 none
 -- no fault
 abbrev pub fine : Trouble
 fine = plain 0 0
+
+-- the number of a reason, or 0 for none
+abbrev pub reason_in : Option Reason → ℕ
+reason_in None = 0
+reason_in (Some r) = reason.number_of r
+
+-- a finding as a trouble, and an answer; a finding's key, if it has one, is below `none`
+abbrev pub troubled : Finding → Trouble
+troubled f = trouble (fault.number_of f.fault) f.at (reason_in f.reason) (unwrap_or f.key none)
+
+abbrev pub trouble_in : {T : Type 0} → Result T Finding → Trouble
+trouble_in (Ok _) = fine
+trouble_in (Err f) = troubled f
+
+-- the same, its place counted from n octets further back
+abbrev pub further : ℕ → Trouble → Trouble
+further n t = trouble t.fault (n + t.at) t.reason t.key
 
 -- ---- 20 and 29
 

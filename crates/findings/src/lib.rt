@@ -3,55 +3,62 @@
 // told more closely, and `findings/Exactly` has that the number is theirs.
 #![tactic(auto)]
 
+mod finding;
 pub mod sheet;
 
-ghost use Rattle.std.specs.Prelude.{◌≡◌, ℕ, ◌+◌, ◌≤◌, ◌<◌, ◌^◌, length};
-ghost use Rattle.blocks.specs.Block.{head_with, fields_of, name_at};
+ghost use Rattle.std.specs.Prelude.{◌≡◌, ◌==◌, not, position, ◌+◌, ◌≤◌, ◌<◌, ◌^◌, length};
+ghost use Rattle.numbers.specs.Fault.{number_of};
+ghost use Rattle.blocks.specs.Parts.{fields_in};
 ghost use Rattle.findings.specs.Troubles as troubles;
 ghost use Rattle.findings.specs.Troubles.{padding_at, laid_place, address_length_at, addresses_at, parameters_at, limit_at, field_place};
-ghost use Rattle.findings.specs.Troubles.{reason_of, fields_trouble, trouble_of, joined_trouble};
+ghost use Rattle.findings.specs.Troubles.{reason_in, troubled, trouble_in, further, reason_of, fields_trouble, trouble_of, joined_trouble};
 ghost use Rattle.findings.specs.Spots.{place_of};
 
-use blocks::Places;
+use blocks::Parts;
 use carriers::Carrier;
+pub use finding::Finding;
 use frames::Step;
-use judge::Side;
+use judge::{Flaw, Side};
 use numbers::{Fault, Limit};
+use reasons::Reason;
 
-// A body's fault, or 0; its place, counted from 0; of fault 22 the reason (`reasons::Reason`), else 0; of faults 26 to 28 the key of the parameter,
-// where it has one, else `reasons::Param::NONE`.
-#[derive(Clone, Copy)]
-pub struct Trouble {
-    pub fault: usize,
-    pub at: usize,
-    pub reason: usize,
-    pub key: usize,
-}
-
-// Octets of a priority, with which every body begins; and of each length in carrier 3.
-const PRIORITY: usize = 2;
-
+// Octets of each length in carrier 3, and of an instance's in carrier 1.
 const LENGTH: usize = 2;
 
-// Carrier 3: where the ADN length stands, after the lifetime, and where the name does.
-const ROUTER_LENGTH: usize = PRIORITY + Carrier::LIFETIME;
+// Carrier 3: where the ADN length stands, after priority and lifetime, and where the name does.
+const ROUTER_LENGTH: usize = blocks::PRIORITY + Carrier::LIFETIME;
 
 const ROUTER_NAME: usize = ROUTER_LENGTH + LENGTH;
 
 // Carriers 4 and 5: where the number of addresses stands, and the addresses, after two numbers of one octet each.
-const ATTRIBUTE_COUNT: usize = PRIORITY;
+const ATTRIBUTE_COUNT: usize = blocks::PRIORITY;
 
 const ATTRIBUTE_ADDRESSES: usize = ATTRIBUTE_COUNT + 2;
 
-// A fault of which its place alone is known.
-fn plain(fault: usize, at: usize) -> Trouble
-    ensures { result ≡ troubles.plain fault at }
-{
-    Trouble {
-        fault,
-        at,
-        reason: 0,
-        key: reasons::Param::NONE,
+impl Finding {
+    // A fault of which its place alone is known.
+    fn plain(fault: Fault, at: usize) -> Finding
+        ensures { troubled result ≡ troubles.plain (number_of fault) at }
+    {
+        Finding {
+            fault,
+            at,
+            reason: None,
+            key: None,
+        }
+    }
+
+    // The same, its place counted from `n` octets further back.
+    fn back(self, n: usize) -> Finding
+        requires { n + self.at < 2 ^ 63 }
+        ensures { troubled result ≡ further n (troubled self) }
+    {
+        Finding {
+            fault: self.fault,
+            at: n + self.at,
+            reason: self.reason,
+            key: self.key,
+        }
     }
 }
 
@@ -84,29 +91,27 @@ fn padding_at(b: &[u8]) -> usize
     addresses_end + LENGTH + near16(b, addresses_end)
 }
 
+// The first octet that is not 0.
+fn first_other(s: &[u8]) -> Option<usize>
+    ensures { result ≡ position (λ x. not (x == 0)) s.now }
+{
+    s.iter().position(|x| *x != 0)
+}
+
 // The first octet that padding cannot have.
 fn past_padding(rest: &[u8]) -> usize
     ensures value { result ≡ troubles.past_padding 0 rest.now }
     ensures upper_bound { result < 8 }
 {
-    let mut i: usize = 0;
-    while i < rest.len() {
-        if rest[i] != 0 {
-            return i;
-        }
-        if Carrier::UNIT - 1 <= i {
-            return i;
-        }
-        i += 1;
-    }
-    i
+    let front = &rest[..rest.len().min(Carrier::UNIT - 1)];
+    first_other(front).unwrap_or(front.len())
 }
 
 // Of a body that is not laid out, by its fault.
-fn laid_place(fault: usize, body: &[u8]) -> usize
-    ensures { result ≡ laid_place fault body.now }
+fn laid_place(fault: Fault, body: &[u8]) -> usize
+    ensures { result ≡ laid_place (number_of fault) body.now }
 {
-    if fault != Fault::PADDING {
+    if fault != Fault::Padding {
         return body.len();
     }
     let from = padding_at(body);
@@ -118,205 +123,171 @@ fn laid_place(fault: usize, body: &[u8]) -> usize
 
 // ---- 21 to 28
 
-// Where the name stands, after m octets of addresses in carriers 4 and 5.
-fn name_at(c: Carrier, m: usize) -> usize
-    requires { m < 2 ^ 63 }
-    ensures { result ≡ name_at c m }
-{
-    if c.as_text() {
-        return ATTRIBUTE_ADDRESSES + m;
-    }
-    PRIORITY + c.lifetime_width() + c.length_width()
+// The octets of name and addresses of a body: by them its parts stand where they do.
+#[derive(Clone, Copy)]
+pub struct Lengths {
+    pub carrier: Carrier,
+    pub name: usize,
+    pub addresses: usize,
+    ghost room: { name + addresses < 2 ^ 63 },
 }
 
-// Where the address length stands, of a name of n octets; in carriers 4 and 5 the number of addresses.
-fn address_length_at(c: Carrier, n: usize) -> usize
-    requires { n < 2 ^ 63 }
-    ensures { result ≡ address_length_at c n }
-{
-    if c.as_text() {
-        return ATTRIBUTE_COUNT;
+impl Lengths {
+    // Those of the parts of a body.
+    pub fn of(c: Carrier, parts: Parts<'_>) -> Lengths
+        requires { length parts.name.now + length parts.addresses.now < 2 ^ 63 }
+        ensures { (result.carrier ≡ c) × (result.name ≡ length parts.entry.name.now) × (result.addresses ≡ length parts.entry.addresses.now) }
+    {
+        Lengths {
+            carrier: c,
+            name: parts.name.len(),
+            addresses: parts.addresses.len(),
+        }
     }
-    name_at(c, 0) + n
+
+    // Where the address length stands; in carriers 4 and 5 the number of addresses.
+    fn address_length_at(self) -> usize
+        ensures { result ≡ address_length_at self.carrier self.name }
+    {
+        if self.carrier.as_text() {
+            return ATTRIBUTE_COUNT;
+        }
+        blocks::name_at(self.carrier, 0) + self.name
+    }
+
+    // Where the addresses stand.
+    pub fn addresses_at(self) -> usize
+        ensures { result ≡ addresses_at self.carrier self.name }
+    {
+        if self.carrier.as_text() {
+            return ATTRIBUTE_ADDRESSES;
+        }
+        self.address_length_at() + self.carrier.length_width()
+    }
+
+    // Where the parameters stand.
+    fn parameters_at(self) -> usize
+        ensures { result ≡ parameters_at self.carrier self.name self.addresses }
+    {
+        let c = self.carrier;
+        if c.as_text() {
+            return ATTRIBUTE_ADDRESSES + self.addresses + self.name;
+        }
+        let end = self.addresses_at() + self.addresses;
+        if c.lifetime_width() == 0 {
+            return end;
+        }
+        end + LENGTH
+    }
+
+    // What is too much.
+    fn limit_at(self) -> usize
+        ensures { result ≡ limit_at self.carrier self.name self.addresses }
+    {
+        let most = Limit::ADDRESSES * self.carrier.address_width();
+        if most < self.addresses {
+            return self.addresses_at() + most;
+        }
+        self.parameters_at() + Limit::PARAMETERS
+    }
+
+    // Of a fault of fields: the name is bad at `place`, the parameter at fault stands at `within` in its field.
+    fn place(self, fault: Fault, place: usize, within: usize) -> usize
+        requires { (self.addresses + place < 2 ^ 63) × (self.name + self.addresses + within < 2 ^ 63) }
+        ensures { result ≡ field_place self.carrier (number_of fault) self.name self.addresses place within }
+    {
+        match fault {
+            Fault::Field | Fault::Priority => 0,
+            Fault::Name => blocks::name_at(self.carrier, self.addresses) + place,
+            Fault::Addresses => self.address_length_at(),
+            Fault::Limit => self.limit_at(),
+            Fault::Dropped => self.addresses_at(),
+            Fault::Parameters | Fault::Hint | Fault::Value | Fault::Padding => {
+                self.parameters_at() + within
+            }
+        }
+    }
 }
 
-// Where the addresses stand, of a name of n octets.
-fn addresses_at(c: Carrier, n: usize) -> usize
-    requires { n < 2 ^ 63 }
-    ensures { result ≡ addresses_at c n }
+// Why the name is bad, of fault 22.
+fn reason_of(c: Carrier, flaw: Flaw, name: &[u8]) -> Option<Reason>
+    ensures { reason_in result ≡ reason_of c (number_of flaw.fault) name.now flaw.place }
 {
-    if c.as_text() {
-        return ATTRIBUTE_ADDRESSES;
+    if flaw.fault == Fault::Name {
+        return Some(reasons::name_reason(c.as_text(), name, flaw.place));
     }
-    address_length_at(c, n) + c.length_width()
+    None
 }
 
-// Where the parameters stand, of a name of n octets and m octets of addresses.
-fn parameters_at(c: Carrier, n: usize, m: usize) -> usize
-    requires { n + m < 2 ^ 63 }
-    ensures { result ≡ parameters_at c n m }
+// The trouble with the parts of a body.
+fn examine_parts(c: Carrier, parts: Parts<'_>) -> Result<(), Finding>
+    requires { length parts.name.now + length parts.addresses.now + length parts.parameters.now < 2 ^ 63 }
+    ensures { trouble_in result ≡ fields_trouble c (fields_in parts.entry) }
 {
-    if c.as_text() {
-        return ATTRIBUTE_ADDRESSES + m + n;
-    }
-    if c.lifetime_width() == 0 {
-        return addresses_at(c, n) + m;
-    }
-    addresses_at(c, n) + m + LENGTH
-}
-
-// What is too much.
-fn limit_at(c: Carrier, n: usize, m: usize) -> usize
-    requires { n + m < 2 ^ 63 }
-    ensures { result ≡ limit_at c n m }
-{
-    let most = Limit::ADDRESSES * c.address_width();
-    if most < m {
-        return addresses_at(c, n) + most;
-    }
-    parameters_at(c, n, m) + Limit::PARAMETERS
-}
-
-// Of fields, by their fault: the name is bad at `place`, the parameter at fault stands at `within` in its field.
-fn field_place(c: Carrier, fault: usize, n: usize, m: usize, place: usize, within: usize) -> usize
-    requires { (m + place < 2 ^ 63) × (n + m + within < 2 ^ 63) }
-    ensures { result ≡ field_place c fault n m place within }
-{
-    if fault <= Fault::PRIORITY {
-        return 0;
-    }
-    if fault == Fault::NAME {
-        return name_at(c, m) + place;
-    }
-    if fault == Fault::ADDRESSES {
-        return address_length_at(c, n);
-    }
-    if fault == Fault::LIMIT {
-        return limit_at(c, n, m);
-    }
-    if fault == Fault::DROPPED {
-        return addresses_at(c, n);
-    }
-    parameters_at(c, n, m) + within
-}
-
-// Of fault 22, why the name is bad at a place.
-fn reason_of(c: Carrier, fault: usize, name: &[u8], place: usize) -> usize
-    ensures { result ≡ reason_of c fault name.now place }
-{
-    if fault == Fault::NAME {
-        return reasons::name_reason(c.as_text(), name, place);
-    }
-    0
-}
-
-// The trouble with fields, whatever their lifetime.
-fn examine_fields(
-    c: Carrier,
-    priority: usize,
-    name: &[u8],
-    full: bool,
-    addresses: &[u8],
-    parameters: &[u8],
-) -> Trouble
-    requires { length name.now + length addresses.now + length parameters.now < 2 ^ 63 }
-    ensures { (t : ℕ) → result ≡ fields_trouble c (fields_of (head_with priority t full) name.now addresses.now parameters.now) }
-{
+    let Parts {
+        head,
+        name,
+        addresses,
+        parameters,
+    } = parts;
     let judged = judge::judge_fields(
         Side::Reading,
         c,
-        priority,
+        head.priority,
         name,
-        full,
+        head.full,
         addresses,
         parameters,
     );
-    let fault = judged.fault;
-    let place = judged.place;
-    let param = reasons::param_for(fault, parameters);
-    let at = field_place(c, fault, name.len(), addresses.len(), place, param.at);
-    let reason = reason_of(c, fault, name, place);
-    Trouble {
-        fault,
-        at,
-        reason,
+    let Err(flaw) = judged else {
+        return Ok(());
+    };
+    let param = reasons::param_for(flaw.fault, parameters);
+    let lengths = Lengths::of(c, parts);
+    Err(Finding {
+        fault: flaw.fault,
+        at: lengths.place(flaw.fault, flaw.place, param.at),
+        reason: reason_of(c, flaw, name),
         key: param.key,
-    }
+    })
 }
 
 // The trouble with a body.
-pub fn examine(c: Carrier, body: &[u8]) -> Trouble
-    ensures { result ≡ trouble_of c body.now }
+pub fn examine(c: Carrier, body: &[u8]) -> Result<(), Finding>
+    ensures { trouble_in result ≡ trouble_of c body.now }
 {
     match blocks::split(c, &body[..]) {
-        Places::Bad { fault } => plain(fault, laid_place(fault, body)),
-        Places::NameOnly {
-            priority,
-            lifetime: _,
-            name,
-            nlen,
-        } => {
-            let end = name + nlen;
-            let none = &body[..0];
-            examine_fields(c, priority, &body[name..end], false, none, none)
-        }
-        Places::Full {
-            priority,
-            lifetime: _,
-            name,
-            nlen,
-            addresses,
-            alen,
-            parameters,
-            plen,
-        } => {
-            let name_end = name + nlen;
-            let addresses_end = addresses + alen;
-            let parameters_end = parameters + plen;
-            examine_fields(
-                c,
-                priority,
-                &body[name..name_end],
-                true,
-                &body[addresses..addresses_end],
-                &body[parameters..parameters_end],
-            )
-        }
+        Ok(parts) => examine_parts(c, parts),
+        Err(fault) => Err(Finding::plain(fault, laid_place(fault, body))),
     }
 }
 
 // ---- joined data
 
 // The trouble with the joined data of carrier 1.
-pub fn examine_joined(joined: &[u8]) -> Trouble
-    ensures { result ≡ joined_trouble joined.now }
+pub fn examine_joined(joined: &[u8]) -> Result<(), Finding>
+    ensures { trouble_in result ≡ joined_trouble joined.now }
 {
-    if joined.len() == 0 {
-        return plain(Fault::FIELD, 0);
+    if joined.is_empty() {
+        return Err(Finding::plain(Fault::Field, 0));
     }
     let mut at: usize = 0;
     while at < joined.len() {
         if joined.len() - at < LENGTH {
-            return plain(Fault::FIELD, joined.len());
+            return Err(Finding::plain(Fault::Field, joined.len()));
         }
         let long = octets::get16(&joined[..], at);
         let start = at + LENGTH;
         if joined.len() - start < long {
-            return plain(Fault::FIELD, joined.len());
+            return Err(Finding::plain(Fault::Field, joined.len()));
         }
         let end = start + long;
-        let t = examine(Carrier::Dhcp4, &joined[start..end]);
-        if t.fault != 0 {
-            return Trouble {
-                fault: t.fault,
-                at: start + t.at,
-                reason: t.reason,
-                key: t.key,
-            };
+        if let Err(t) = examine(Carrier::Dhcp4, &joined[start..end]) {
+            return Err(t.back(start));
         }
         at = end;
     }
-    plain(0, 0)
+    Ok(())
 }
 
 // Where in an area of carrier 1 octet j of the joined data stands.
@@ -329,7 +300,7 @@ pub fn place(area: &[u8], j: usize) -> usize
     let mut left = j;
     loop {
         match frames::next_block(Carrier::Dhcp4, area, at) {
-            Step::Block { start, end } => {
+            Ok(Step::Block { start, end }) => {
                 let n = end - start;
                 if left < n {
                     return start + left;
@@ -338,13 +309,13 @@ pub fn place(area: &[u8], j: usize) -> usize
                 last = end;
                 at = end;
             }
-            Step::Skipped { end } => {
+            Ok(Step::Skipped { end }) => {
                 at = end;
             }
-            Step::End => {
+            Ok(Step::End) => {
                 return last + left;
             }
-            Step::Fault => {
+            Err(_) => {
                 return last + left;
             }
         }

@@ -2,36 +2,32 @@
 ghost use Rattle.std.specs.Prelude.{◌≡◌};
 ghost use Rattle.sheets.specs.Sheets.{front_size};
 ghost use Rattle.vetting.specs.Weighing.{records_of, TakenAs};
-ghost use Rattle.findings.specs.Sheet.{reason_from, sheet_reason};
+ghost use Rattle.findings.specs.Sheet.{number_in, reason_from, sheet_reason};
 
 use carriers::Carrier;
-use octets::lesser;
-use taking::Took;
+use reasons::{Reason, name_reason};
+use taking::Records;
 
 // Of the records of a taken sheet: the reason of the first whose name ends at the place or after it.
-fn seek(c: Carrier, s: &[u8], place: usize) -> usize
+fn seek(c: Carrier, s: &[u8], place: usize) -> Option<Reason>
     requires { TakenAs c s.now }
-    ensures { result ≡ reason_from c front_size (records_of s.now) place }
+    ensures { number_in result ≡ reason_from c front_size (records_of s.now) place }
 {
-    let mut at = sheets::FRONT;
-    while at < s.len() {
-        let p = taking::record_at(c, s, at);
-        let name = p.name;
-        let end = name + p.nlen;
-        if place <= end {
-            return reasons::name_reason(false, &s[name..end], place - lesser(place, name));
+    for record in Records::of(c, s) {
+        let name = record.parts.name;
+        if place <= record.name + name.len() {
+            return Some(name_reason(false, name, place.saturating_sub(record.name)));
         }
-        at = p.next;
     }
-    0
+    None
 }
 
-// Why the name at a place of a sheet is bad (`reasons::Reason`), and 0 where the octets are no sheet or no name ends at the place or after it.
-pub fn reason(s: &[u8], place: usize) -> usize
-    ensures { result ≡ sheet_reason s.now place }
+// Why the name at a place of a sheet is bad; none where the octets are no sheet or no name ends at the place or after it.
+pub fn reason(s: &[u8], place: usize) -> Option<Reason>
+    ensures { number_in result ≡ sheet_reason s.now place }
 {
-    match taking::take(s) {
-        Took::Refused(_) => 0,
-        Took::Sheet { carrier, .. } => seek(carrier, s, place),
-    }
+    let Ok(sheet) = taking::take(s) else {
+        return None;
+    };
+    seek(sheet.carrier, s, place)
 }

@@ -1,12 +1,14 @@
 -- What a C array is read as (docs/FORMS.md, "Lists"): the list between its braces, and what may follow them. Assumes nothing: these are definitions.
-use Rattle.std.specs.Prelude.{◌≡◌, Bool, true, false, cond, List, [], ◌∷◌, ◌++◌, ℕ, ◌+◌, ◌-◌, ◌*◌, ltb, leb, eqb, length, take, drop}
+use Rattle.std.specs.Prelude.{◌≡◌, Bool, true, false, cond, List, [], ◌∷◌, ◌++◌, ℕ, ◌+◌, ◌-◌, ◌*◌, ltb, leb, eqb, length, take, drop, Result, Ok, Err}
 use Rattle.octets.specs.Numbers.{range}
+use Rattle.inputs.specs.declared.Why.{Why}
 use Rattle.inputs.specs.Why as why
-use Rattle.inputs.specs.declared.Read.{Read}
-use Rattle.inputs.specs.declared.Read.TheVariants.{Octets, Bad, Long}
+use Rattle.inputs.specs.Read.{Read, Octets, Bad, Long}
 use Rattle.groups.specs.declared.Kind.{Kind}
 use Rattle.groups.specs.Groups as groups
-use Rattle.forms.specs.declared.array.After.{After}
+use Rattle.forms.specs.declared.array.Phase.{Phase}
+use Rattle.forms.specs.declared.array.Phase.TheVariants as phases
+use Rattle.forms.specs.declared.array.After as held
 use Rattle.forms.specs.Places.{blank, place_of}
 
 -- the lists of arrays: 0x before each octet, blanks and commas between them
@@ -29,6 +31,12 @@ word x = cond (decimal x) true (cond (letter x) true (cond (eqb x 91) true (cond
 
 -- the tail stands before: the array's semicolon, or the end 0; the declaration of a length, or the end 1; its = 2; the length 3; the rest of it 4; its
 -- semicolon 5; the end 6
+pub record After : Type 0 where
+  pub phase : ℕ
+  pub length : ℕ
+  -- why it is no length, or 0
+  pub why : ℕ
+
 abbrev pub tail : ℕ → ℕ → ℕ → After
 tail p n w = record { phase = p; length = n; why = w }
 
@@ -46,8 +54,11 @@ abbrev pub awaited : Bool → ℕ → After → After
 awaited b p s = cond b (to p s) (but why.form s)
 
 -- a digit of the length; no input has 65,536 octets
-unfoldable pub digit_on : ℕ → After → After
-digit_on x s = cond (ltb 65535 s.length) (but why.count s) (tail 4 (10 * s.length + (x - 48)) s.why)
+abbrev pub digit_of : ℕ → After → After
+digit_of v s = cond (ltb 65535 s.length) (but why.count s) (tail 4 (10 * s.length + v) s.why)
+
+abbrev pub digit_on : ℕ → After → After
+digit_on x s = digit_of (x - 48) s
 
 -- the rest of the length, which is the number n of octets
 unfoldable pub digits : ℕ → ℕ → After → After
@@ -115,3 +126,22 @@ left_of brace t out = (listed (brace + 1) t out).out
 pub record Arrayed (brace : ℕ) (t out : List ℕ) (r : Read) (out' : List ℕ) : Type 0 where
   pub answered : r ≡ read_of brace t out
   pub leaves : out' ≡ left_of brace t out
+
+-- ---- the same in src/
+
+abbrev pub phase_in : Phase → ℕ
+phase_in phases.Semicolon = 0
+phase_in phases.Declaration = 1
+phase_in phases.Equals = 2
+phase_in phases.Length = 3
+phase_in phases.Digits = 4
+phase_in phases.Close = 5
+phase_in phases.End = 6
+
+abbrev pub after_in : held.After → After
+after_in s = tail (phase_in s.phase) s.length 0
+
+-- a character moves the tail to s, which has a reason only where it is refused
+abbrev pub Stepped : Result held.After Why → After → Type 0
+Stepped (Ok t) s = after_in t ≡ s
+Stepped (Err w) s = why.number_of w ≡ s.why

@@ -7,9 +7,8 @@ use mathlib.Core.List.{List, [], ◌∷◌, ◌++◌}
 use Rattle.std.proofs.Math.Dec.{eqb}
 use Rattle.std.proofs.lemmas.List.{drop-append-le}
 use Rattle.inputs.specs.Why as why
-use Rattle.inputs.specs.declared.Read.{Read}
-use Rattle.inputs.specs.declared.Read.TheVariants.{Octets, Bad, Long}
-use Rattle.forms.specs.declared.array.After.{After}
+use Rattle.inputs.specs.Read.{Read, Octets, Bad, Long}
+use Rattle.forms.specs.Arrays.{After}
 use Rattle.forms.specs.Places.{blank}
 use Rattle.forms.specs.Arrays.{decimal, word, tail, begun, but, awaited, digit_on, digits, early, late, after, ended_of, tail_from, tail_of, closed_of}
 use Rattle.forms.specs.Arrays.{answer_of, closing, listed, read_of}
@@ -43,7 +42,7 @@ module _ (n size m : ℕ) where
       go more false p r = refused r
 
   closes : (t : List ℕ) (l i : ℕ) → ReadOn (tail 5 l 0) i t → Spaced Closed t
-  unfolding tail_from after late blank ended_of
+  unfolding tail_from after late ended_of
   closes [] l i e = refused e
   closes (x ∷ t) l i e = go (closes t l (i + 1)) (blank x) refl (eqb x 59) refl e
     where
@@ -54,7 +53,7 @@ module _ (n size m : ℕ) where
       go more false p false q r = refused r
 
   counts : (t : List ℕ) (l i : ℕ) → ReadOn (tail 4 l 0) i t → Digits n l t
-  unfolding tail_from after digits digit_on blank decimal ended_of
+  unfolding tail_from after digits decimal ended_of
   counts [] l i e = go (eqb l n) e
     where
       go : (k : Bool) → Arrived i [] (cond k (tail 5 l 0) (but why.count (tail 4 l 0))) → Digits n l []
@@ -76,7 +75,7 @@ module _ (n size m : ℕ) where
       go more false p o false q b u c v r = refused r
 
   numbers : (t : List ℕ) (i : ℕ) → ReadOn (tail 3 0 0) i t → Spaced (Counted n) t
-  unfolding tail_from after late digit_on blank ended_of
+  unfolding tail_from after late ended_of
   numbers [] i e = refused e
   numbers (x ∷ t) i e = go (numbers t (i + 1)) (blank x) refl (decimal x) refl e
     where
@@ -87,7 +86,7 @@ module _ (n size m : ℕ) where
       go more false p false q r = refused r
 
   words : (t : List ℕ) (i : ℕ) → ReadOn (tail 2 0 0) i t → Words n t
-  unfolding tail_from after early blank ended_of
+  unfolding tail_from after early ended_of
   words [] i e = refused e
   words (x ∷ t) i e = go (words t (i + 1)) (blank x) refl (word x) refl (eqb x 61) refl e
     where

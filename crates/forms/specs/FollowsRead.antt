@@ -5,8 +5,8 @@ use Rattle.std.proofs.Common.{sym, ap, ◌∙◌, arith}
 use Rattle.std.proofs.Math.Bool.{false≢true}
 use borrow.Author.Tests.{eqb-true, eq-eqb, le-ltb, lt-leb}
 use Rattle.std.proofs.lemmas.List.{drop-append-le}
-use Rattle.inputs.specs.declared.Read.TheVariants.{Octets}
-use Rattle.forms.specs.declared.array.After.{After}
+use Rattle.inputs.specs.Read.{Octets}
+use Rattle.forms.specs.Arrays.{After}
 use Rattle.forms.specs.Places.{blank}
 use Rattle.forms.specs.Arrays.{decimal, letter, word, tail, begun, digit_on, digits, early, late, after, ended_of, tail_from, tail_of, closed_of}
 use Rattle.forms.specs.Arrays.{closing, listed, read_of}
@@ -15,7 +15,7 @@ use Rattle.forms.specs.Follows.{Spaced, here, blanks, Ended, Closed, Digits, Cou
 
 -- a blank is no digit, and stands in no word
 blank-other : (x : ℕ) → blank x ≡ true → (decimal x ≡ false) × (word x ≡ false)
-unfolding blank decimal word letter
+unfolding decimal word letter
 blank-other x = go (eqb x 32) refl (eqb x 9) refl (eqb x 13) refl (eqb x 10) refl
   where
     go : (a : Bool) → eqb x 32 ≡ a → (b : Bool) → eqb x 9 ≡ b → (c : Bool) → eqb x 13 ≡ c → (d : Bool) → eqb x 10 ≡ d
@@ -66,12 +66,12 @@ module _ (n size : ℕ) (few : n ≤ 65535) where
   stays p l x e b = rw (e, b)
 
   ends : {t : List ℕ} → Spaced Ended t → (l i : ℕ) → ReadOn (tail 6 l 0) i t
-  unfolding tail_from after blank ended_of
+  unfolding tail_from after ended_of
   ends (here follows.end) l i = refl
   ends (blanks {x} {t} p s) l i = step 6 l i (tail 6 l 0) x t (stays 6 l x refl p) (ends s l (i + 1))
 
   close-step : (x l : ℕ) → x ≡ 59 → after x n (tail 5 l 0) ≡ tail 6 l 0
-  unfolding after late blank
+  unfolding after late
   close-step x l e = rw e
 
   closes : {t : List ℕ} → Spaced Closed t → (l i : ℕ) → ReadOn (tail 5 l 0) i t
@@ -79,7 +79,7 @@ module _ (n size : ℕ) (few : n ≤ 65535) where
   closes (blanks {x} {t} p s) l i = step 5 l i (tail 5 l 0) x t (stays 5 l x refl p) (closes s l (i + 1))
 
   count-close : (x l : ℕ) → l ≡ n → x ≡ 59 → after x n (tail 4 l 0) ≡ tail 6 l 0
-  unfolding after digits blank decimal
+  unfolding after digits decimal
   count-close x l e f = rw (f, eq-eqb l n e)
 
   count-blank : (x l : ℕ) → l ≡ n → blank x ≡ true → after x n (tail 4 l 0) ≡ tail 5 l 0
@@ -87,7 +87,7 @@ module _ (n size : ℕ) (few : n ≤ 65535) where
   count-blank x l e p = rw ((blank-other x p).0, eq-eqb l n e, p)
 
   count-digit : (x l : ℕ) → l ≤ 65535 → decimal x ≡ true → after x n (tail 4 l 0) ≡ tail 4 (10 * l + (x - 48)) 0
-  unfolding after digits digit_on
+  unfolding after digits
   count-digit x l h p = rw (p, le-ltb 65535 l h)
 
   over : {t : List ℕ} (l : ℕ) → l ≡ n → Spaced Closed t → (i : ℕ) → ReadOn (tail 4 l 0) i t
@@ -101,7 +101,7 @@ module _ (n size : ℕ) (few : n ≤ 65535) where
       step 4 (10 * l + (x - 48)) i (tail 4 l 0) x t (count-digit x l (omega (arith, few)) p) (counts d (i + 1))
 
   number-digit : (x : ℕ) → decimal x ≡ true → after x n (tail 3 0 0) ≡ tail 4 (10 * 0 + (x - 48)) 0
-  unfolding after late digit_on
+  unfolding after late
   number-digit x p = rw (digit-blank x p, p)
 
   first : (x : ℕ) (t : List ℕ) → decimal x ≡ true → Digits n 0 (x ∷ t) → (i : ℕ) → ReadOn (tail 3 0 0) i (x ∷ t)
@@ -117,7 +117,7 @@ module _ (n size : ℕ) (few : n ≤ 65535) where
   word-step x p = rw (word_blank x p, p)
 
   equals-step : (x : ℕ) → x ≡ 61 → after x n (tail 2 0 0) ≡ tail 3 0 0
-  unfolding after early blank word decimal letter
+  unfolding after early word decimal letter
   equals-step x e = rw e
 
   words : {t : List ℕ} → Words n t → (i : ℕ) → ReadOn (tail 2 0 0) i t
@@ -130,17 +130,17 @@ module _ (n size : ℕ) (few : n ≤ 65535) where
   word_first x p = rw (word_blank x p, p)
 
   declares : {t : List ℕ} → Spaced (Declared n) t → (i : ℕ) → ReadOn (tail 1 0 0) i t
-  unfolding tail_from after blank ended_of
+  unfolding tail_from after ended_of
   declares (here follows.none) i = refl
   declares (here (follows.declaration {x} {t} p w)) i = step 2 0 i (tail 1 0 0) x t (word_first x p) (words w (i + 1))
   declares (blanks {x} {t} p s) i = step 1 0 i (tail 1 0 0) x t (stays 1 0 x refl p) (declares s (i + 1))
 
   semicolon-step : (x : ℕ) → x ≡ 59 → after x n begun ≡ tail 1 0 0
-  unfolding after early blank
+  unfolding after early
   semicolon-step x e = rw e
 
   reads : {t : List ℕ} → Follows n t → (i : ℕ) → ReadOn begun i t
-  unfolding tail_from after blank ended_of
+  unfolding tail_from after ended_of
   reads (here follows.nothing) i = refl
   reads (here (follows.semicolon {x} {t} e s)) i = step 1 0 i begun x t (semicolon-step x e) (declares s (i + 1))
   reads (blanks {x} {t} p s) i = step 0 0 i begun x t (stays 0 0 x refl p) (reads s (i + 1))

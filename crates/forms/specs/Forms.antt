@@ -1,9 +1,8 @@
 -- What a text is read as (docs/COMMAND.md, "Input"): in the form that its front shows; or, where that is a list and the text leaves it on its first line, as
 -- a dump after a packet's head, or as an array. Assumes nothing: these are definitions.
-use Rattle.std.specs.Prelude.{◌≡◌, Bool, true, false, cond, List, ℕ, ◌+◌, ltb, leb, eqb, length, drop}
+use Rattle.std.specs.Prelude.{◌≡◌, Bool, true, false, cond, List, ℕ, ◌+◌, ltb, leb, eqb, length, drop, Option, Some, None}
 use Rattle.inputs.specs.Why as why
-use Rattle.inputs.specs.declared.Read.{Read}
-use Rattle.inputs.specs.declared.Read.TheVariants.{Octets, Bad, Long}
+use Rattle.inputs.specs.Read.{Read, Octets, Bad, Long}
 use Rattle.groups.specs.declared.Kind.{Kind}
 use Rattle.groups.specs.Groups as groups
 use Rattle.groups.specs.Escapes as escapes
@@ -16,19 +15,19 @@ use Rattle.forms.specs.Arrays as arrays
 -- ---- the forms as data
 
 -- dumps whose offsets stand before a blank, whose text column may be fenced, and that may end in an offset alone
-abbrev pub bare : ℕ → ℕ → ℕ → Bool → Bool → Style
+abbrev pub bare : ℕ → Option ℕ → Option ℕ → Bool → Bool → Style
 bare d a b k e = record { digits = d; prefix = false; colon = false; pairs = false; opening = a; closing = b; column = k; ends = e }
 
 -- dumps whose offsets stand before a colon
 abbrev pub colon : ℕ → Bool → Style
-colon d p = record { digits = d; prefix = p; colon = true; pairs = true; opening = 0; closing = 0; column = false; ends = false }
+colon d p = record { digits = d; prefix = p; colon = true; pairs = true; opening = None; closing = None; column = false; ends = false }
 
 -- Wireshark and tshark -x; od -Ax -tx1, with z > and <; hexdump -C, with |; xxd; tcpdump -x
 unfoldable pub style_of : ℕ → Style
 style_of f =
-    cond (eqb f 7) (bare 4 0 0 false false)
-    (cond (eqb f 8) (bare 6 62 60 false true)
-    (cond (eqb f 9) (bare 8 124 124 true true)
+    cond (eqb f 7) (bare 4 None None false false)
+    (cond (eqb f 8) (bare 6 (Some 62) (Some 60) false true)
+    (cond (eqb f 9) (bare 8 (Some 124) (Some 124) true true)
     (cond (eqb f 10) (colon 8 false) (colon 4 true))))
 
 abbrev pub marked : ℕ → Bool → Kind

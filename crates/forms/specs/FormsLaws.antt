@@ -1,12 +1,14 @@
 -- The laws of reading a text in its form: an outcome for each way. Assumes nothing.
-use Rattle.std.specs.Prelude.{◌≡◌, refl, List, ℕ, ◌+◌, ◌-◌, ◌≤◌, ◌<◌, length, take, drop}
+use Rattle.std.specs.Prelude.{◌≡◌, refl, Bool, true, false, leb, List, ℕ, ◌+◌, ◌-◌, ◌≤◌, ◌<◌, length, take, drop}
 use Rattle.std.proofs.Math.Path.{sym, ap}
 use Rattle.std.proofs.Common.{◌∙◌, arith, length-drop}
-use borrow.Author.Tests.{lt-ltb, le-ltb, le-leb, lt-leb, eq-eqb, ne_eqb}
+use borrow.Author.Tests.{lt-ltb, le-ltb, le-leb, lt-leb, leb-false, eq-eqb, ne_eqb}
+use Rattle.std.proofs.Common.{leb-true}
 use Rattle.octets.specs.ListsLaws.{take_rest}
 use Rattle.inputs.specs.Why as why
-use Rattle.inputs.specs.declared.Read.{Read}
-use Rattle.inputs.specs.declared.Read.TheVariants.{Octets, Bad, Long}
+use Rattle.inputs.specs.declared.Unread.{Unread}
+use Rattle.inputs.specs.declared.Unread.TheVariants as unread
+use Rattle.inputs.specs.Read.{Read, Octets, Bad, Long, unread_in, place_in, back}
 use Rattle.groups.specs.declared.Kind.{Kind}
 use Rattle.groups.specs.Groups as groups
 use Rattle.groups.specs.Groups.{Grouped}
@@ -42,10 +44,12 @@ module _ (f : ℕ) (t out : List ℕ) {r : Read} {out' : List ℕ} where
   unfolding as_of
   as-escapes h g = rw h (record { answered = g.answered; leaves = g.leaves })
 
-  pub as-dumps : {s : Style} → 6 ≤ f → (f ≡ 6 → ⊥) → s ≡ style_of f → Dumped s t out r out' → Answered (as_of f t out) r out'
+  pub as-dumps : {s : Style} → 6 < f → s ≡ style_of f → Dumped s t out r out' → Answered (as_of f t out) r out'
   unfolding as_of
-  as-dumps {s} h n e g =
-      let q : of_dumps (dumps.read_of s t out) ≡ as_of f t out = rw (le-ltb f 6 h, ne_eqb f 6 n, e) in
+  as-dumps {s} h e g =
+      let l : 6 ≤ f = omega arith in
+      let n : f ≡ 6 → ⊥ = λ z. absurd (omega arith) in
+      let q : of_dumps (dumps.read_of s t out) ≡ as_of f t out = rw (le-ltb f 6 l, ne_eqb f 6 n, e) in
       answered-as q (record { answered = g.answered; leaves = g.leaves })
 
 -- ---- a list
@@ -114,19 +118,27 @@ module _ (at w : ℕ) (t out : List ℕ) (end : ℕ) (e : end ≡ line_end t) wh
         pub headed-octets : {n : ℕ} → r ≡ Octets n → Answered (headed_of at w t out) (Octets n) out'
         headed-octets i = headed-dump i
 
-        pub headed-bad : {i v : ℕ} → r ≡ Bad i v → Answered (headed_of at w t out) (Bad (k + i) v) out'
-        headed-bad i = headed-dump i
+        pub headed-stopped : (u v : Unread) → r ≡ unread_in u → unread_in v ≡ back k (unread_in u) → Answered (headed_of at w t out) (unread_in v) out'
+        headed-stopped (unread.Bad i w) v e b = rw b (headed-dump e)
+        headed-stopped unread.Long v e b = rw b (headed-dump e)
 
-        pub headed-long : r ≡ Long → Answered (headed_of at w t out) Long out'
-        headed-long i = headed-dump i
+  -- no line begins with an offset
+  pub headed-missing : length t ≡ packet_of t → at ≤ end → {r : Read} {out' : List ℕ} → Answered (braced_of at w t out) r out'
+      → Answered (headed_of at w t out) r out'
+  headed-missing p l {r} {out'} g = go (leb (length t) end) refl
+    where
+      go : (b : Bool) → leb (length t) end ≡ b → Answered (headed_of at w t out) r out'
+      go true q = headed-first (length t) l p (leb-true (length t) end q) g
+      go false q = headed-none (length t) l p (leb-false (length t) end q) refl g
 
 -- the dump is left within the text
-pub dump-within : (k : ℕ) (t : List ℕ) {s : Style} {out out' : List ℕ} {r : Read} {at w : ℕ} → k ≤ length t
-    → Dumped s (take (length t - k) (drop k t)) out r out' → r ≡ Bad at w → k + at ≤ length t
-dump-within k t {s} {out} {out'} {r} {at} h d e =
+pub dump-within : (k : ℕ) (t : List ℕ) {s : Style} {out out' : List ℕ} {r : Read} (u : Unread) → k ≤ length t
+    → Dumped s (take (length t - k) (drop k t)) out r out' → r ≡ unread_in u → k + place_in (unread_in u) ≤ length t
+dump-within k t {s} {out} (unread.Bad at w) h d e =
     let size : length (take (length t - k) (drop k t)) ≡ length t - k = rw (take_rest k t) (length-drop k t) in
     let q : at ≤ length (take (length t - k) (drop k t)) = bad-within s (take (length t - k) (drop k t)) out (sym d.answered ∙ e) in
     omega arith
+dump-within k t unread.Long h d e = omega arith
 
 -- ---- a text
 
@@ -144,10 +156,14 @@ module _ (f : ℕ) (t out : List ℕ) (e : f ≡ form_of t) {r : Read} {out' : L
   pub read-octets : {n : ℕ} → r ≡ Octets n → Answered (read_of t out) (Octets n) out'
   read-octets h = answered-at (read_by h)
 
-  pub read-dump : {at w : ℕ} → 6 < f → r ≡ Bad at w → Answered (read_of t out) (Bad at w) out'
-  read-dump {at} {w} l h =
-      let q : answer (Bad at w) out' ≡ or_headed f (Bad at w) t out' = rw (lt-ltb 6 f l) in
-      answered-at (q ∙ read_by h)
+  -- of a dump nothing else is tried
+  pub read-dump : 6 < f → Answered (read_of t out) r out'
+  read-dump l = answered-at (dump r ∙ read_as)
+    where
+      dump : (r : Read) → answer r out' ≡ or_headed f r t out'
+      dump (Octets n) = refl
+      dump (Bad at w) = rw (lt-ltb 6 f l)
+      dump Long = refl
 
   pub read-other : {at w : ℕ} {q : Read} {out'' : List ℕ} → f ≤ 6 → r ≡ Bad at w → Answered (headed_of at w t out') q out'' → Answered (read_of t out) q out''
   read-other {at} {w} l h u =

@@ -1,8 +1,12 @@
 -- Which form the front of a text shows (docs/COMMAND.md, "Input"), in the code's order of tests. The forms: lists with blanks 1, colons 2, commas 3, dashes 4,
 -- 0x before each group 5, \\x before each octet 6; dumps of Wireshark 7, od 8, hexdump 9, xxd 10, tcpdump 11. Assumes nothing: these are definitions.
-use Rattle.std.specs.Prelude.{Bool, true, false, cond, List, [], ◌∷◌, ◌++◌, ℕ, ◌+◌, ltb, eqb}
+use Rattle.std.specs.Prelude.{Bool, true, false, cond, List, [], ◌∷◌, ◌++◌, ℕ, ◌+◌, ltb, eqb, Option, Some, None}
 use Rattle.hexes.specs.Hexes.{digit}
-use Rattle.forms.specs.declared.front.Front.{Front}
+use Rattle.forms.specs.declared.front.Form.{Form}
+use Rattle.forms.specs.declared.front.Form.TheVariants as form
+use Rattle.forms.specs.declared.front.Phase.{Phase}
+use Rattle.forms.specs.declared.front.Phase.TheVariants as phase
+use Rattle.forms.specs.declared.front.Front as held
 
 -- a blank within a line
 unfoldable pub gap : ℕ → Bool
@@ -20,6 +24,14 @@ dumped d = cond (eqb d 4) 7 (cond (eqb d 6) 8 (cond (eqb d 8) 9 1))
 
 -- the front stands before: the first group 0, the rest of it 1, the rest of one that begins with 0x 2, what follows its colon 3, the second group 4, the rest
 -- of it 5, any character of a list 6
+pub record Front : Type 0 where
+  pub phase : ℕ
+  pub digits : ℕ
+  pub zero : Bool
+  pub second : ℕ
+  -- the form, or 0 while it is not known
+  pub form : ℕ
+
 abbrev front : ℕ → ℕ → Bool → ℕ → ℕ → Front
 front p d z n f = record { phase = p; digits = d; zero = z; second = n; form = f }
 
@@ -103,3 +115,37 @@ form_from s (x ∷ xs) = told (after x s) (form_from (after x s) xs)
 
 unfoldable pub form_of : List ℕ → ℕ
 form_of t = form_from begun (t ++ (10 ∷ []))
+
+-- ---- the same in src/
+
+-- the number of a form
+abbrev pub number_of : Form → ℕ
+number_of form.Blanks = 1
+number_of form.Colons = 2
+number_of form.Commas = 3
+number_of form.Dashes = 4
+number_of form.Prefixes = 5
+number_of form.Escapes = 6
+number_of form.Wireshark = 7
+number_of form.Od = 8
+number_of form.Hexdump = 9
+number_of form.Xxd = 10
+number_of form.Tcpdump = 11
+
+-- that of a form that may not be known yet
+abbrev pub number_in : Option Form → ℕ
+number_in None = 0
+number_in (Some f) = number_of f
+
+-- the number of a phase
+abbrev pub place_of : Phase → ℕ
+place_of phase.Lead = 0
+place_of phase.First = 1
+place_of phase.Prefix = 2
+place_of phase.Colon = 3
+place_of phase.Gap = 4
+place_of phase.Second = 5
+place_of phase.List = 6
+
+abbrev pub front_in : held.Front → Front
+front_in s = front (place_of s.phase) s.digits s.zero s.second (number_in s.form)

@@ -1,11 +1,14 @@
 -- Places in a text: what is looked for stands at an index, or nowhere, which is the text's length. Assumes nothing: these are definitions.
 use Rattle.std.specs.Prelude.{Bool, true, false, cond, List, [], ◌∷◌, ℕ, ◌+◌, ltb, eqb, length, get_or}
 use Rattle.hexes.specs.Hexes.{digit}
+use Rattle.inputs.specs.Text as text
+use Rattle.forms.specs.declared.places.Begins.{Begins}
+use Rattle.forms.specs.declared.places.Begins.TheVariants as begins
 
 -- ---- characters
 
-unfoldable pub blank : ℕ → Bool
-blank x = cond (eqb x 32) true (cond (eqb x 9) true (cond (eqb x 13) true (eqb x 10)))
+abbrev pub blank : ℕ → Bool
+blank x = text.blank x
 
 -- x stands in no text; a terminal's colours (escape) and page breaks (form feed) do
 unfoldable pub control : ℕ → Bool
@@ -62,6 +65,13 @@ line_of at t = line_from at 1 0 0 t
 -- ---- a packet's head
 
 -- what a line begins with after blanks: nothing yet 0, a 0 1, 0x and digits 2, these and a colon 3, anything else 4
+abbrev pub begins_in : Begins → ℕ
+begins_in begins.Nothing = 0
+begins_in begins.Zero = 1
+begins_in begins.Digits = 2
+begins_in begins.Offset = 3
+begins_in begins.Other = 4
+
 unfoldable pub begins_offset : ℕ → ℕ
 begins_offset x = cond (eqb x 58) 3 (cond (digit x) 2 4)
 

@@ -1,48 +1,34 @@
 -- The laws of places in a text: what is found from the i-th character on, by what stands there. Assumes nothing.
-use Rattle.std.specs.Prelude.{◌≡◌, refl, true, false, List, ◌⊎◌, ℕ, ◌+◌, ◌≤◌, ◌<◌, eqb, length, get_or, drop}
+use Rattle.std.specs.Prelude.{◌≡◌, refl, Bool, true, false, not, ◌||◌, cond, List, [], ◌∷◌, ◌⊎◌}
+use Rattle.std.specs.Prelude.{ℕ, ◌+◌, ◌≤◌, ◌<◌, eqb, length, get_or, drop, Option, Some, None, unwrap_or}
+use Rattle.std.specs.Bool.{then_some}
+use Rattle.std.specs.List.{list_any, position, position_from}
+use Rattle.std.proofs.lemmas.Iterator.Adapters.{position_from-zero}
 use Rattle.std.proofs.Math.Path.{sym}
 use Rattle.std.proofs.Common.{◌∙◌, inl, inr, arith, drop_of_length-le}
 use Rattle.std.proofs.Math.Numerals.{add-one}
 use borrow.Author.Tests.{lt-ltb, le-ltb, eq-eqb, ne_eqb}
 use Rattle.std.proofs.Math.Seq.{drop-cons}
-use Rattle.forms.specs.Places.{blank, control, wide_text, uncontrolled, textual_of, place_of, begin_of}
-use Rattle.forms.specs.Places.{brace_from, line_from, line_of, begins_with, packet_from}
+use Rattle.forms.specs.Places.{blank, control, uncontrolled, place_of, begin_of}
+use Rattle.forms.specs.declared.places.Begins.{Begins}
+use Rattle.forms.specs.declared.places.Begins.TheVariants as begins
+use Rattle.forms.specs.Places.{brace_from, line_from, line_of, begins_in, begins_with, packet_from}
 
 -- ---- characters
 
-pub blank-break : (x : ℕ) → (x ≡ 32 → ⊥) → (x ≡ 9 → ⊥) → (x ≡ 13 → ⊥) → eqb x 10 ≡ blank x
-unfolding blank
-blank-break x a b c = rw (ne_eqb x 32 a, ne_eqb x 9 b, ne_eqb x 13 c)
-
-pub break-blank : (x : ℕ) → x ≡ 10 → blank x ≡ true
-unfolding blank
-break-blank x e = rw e
-
-pub wide-second : (t : List ℕ) → 2 ≤ length t → (get_or t 0 0 ≡ 255 → ⊥) → get_or t 0 0 ≡ 254 → eqb (get_or t 1 0) 255 ≡ wide_text t
-unfolding wide_text
-wide-second t h n e = rw (le-ltb (length t) 2 h, ne_eqb (get_or t 0 0) 255 n, eq-eqb (get_or t 0 0) 254 e)
+break-blank : (x : ℕ) → x ≡ 10 → blank x ≡ true
+break-blank x e = rw e refl
 
 -- ---- control characters
 
-module _ (t : List ℕ) where
-  pub text-wide : wide_text t ≡ true → true ≡ textual_of t
-  text-wide e = rw e
-
-  pub text-narrow : wide_text t ≡ false → uncontrolled t ≡ textual_of t
-  text-narrow e = rw e
-
-module _ (t : List ℕ) (i : ℕ) where
-  pub controlled-here : i < length t → control (get_or t i 0) ≡ true → uncontrolled (drop i t) ≡ false
-  unfolding uncontrolled
-  controlled-here h e = rw (drop-cons t i 0 h, e)
-
-  pub controlled-later : i < length t → control (get_or t i 0) ≡ false → uncontrolled (drop (i + 1) t) ≡ uncontrolled (drop i t)
-  unfolding uncontrolled
-  controlled-later h e = rw (add-one i, drop-cons t i 0 h, e)
-
-  pub controlled-none : length t ≤ i → uncontrolled (drop i t) ≡ true
-  unfolding uncontrolled
-  controlled-none h = rw (drop_of_length-le t {i = i} h)
+pub uncontrolled-none : (t : List ℕ) → not (list_any control t) ≡ uncontrolled t
+unfolding uncontrolled
+uncontrolled-none [] = refl
+uncontrolled-none (x ∷ xs) = go (control x) (uncontrolled-none xs)
+  where
+    go : (b : Bool) → not (list_any control xs) ≡ uncontrolled xs → not (b || list_any control xs) ≡ cond b false (uncontrolled xs)
+    go true h = refl
+    go false h = h
 
 -- ---- the first of a kind
 
@@ -59,27 +45,30 @@ module _ (x : ℕ) (t : List ℕ) (i : ℕ) where
   unfolding place_of
   place_none h = rw (drop_of_length-le t {i = i} h)
 
-module _ (t : List ℕ) (i : ℕ) where
-  pub begin-here : i < length t → blank (get_or t i 0) ≡ false → begin_of i (drop i t) ≡ i
-  unfolding begin_of
-  begin-here h e = rw (drop-cons t i 0 h, e)
+begin-from : (i j : ℕ) (t : List ℕ) → j ≡ i + length t
+    → (unwrap_or (position_from (λ y. not (blank y)) i t) j ≡ begin_of i t) × (begin_of i t ≤ j)
+unfolding begin_of
+begin-from i j [] e = (omega arith, omega arith)
+begin-from i j (y ∷ ys) e = go (blank y) (begin-from (i + 1) j ys (omega arith))
+  where
+    go : (b : Bool) → (unwrap_or (position_from (λ y. not (blank y)) (i + 1) ys) j ≡ begin_of (i + 1) ys) × (begin_of (i + 1) ys ≤ j)
+        → (unwrap_or (cond (not b) (Some i) (position_from (λ y. not (blank y)) (i + 1) ys)) j ≡ cond b (begin_of (i + 1) ys) i)
+        × (cond b (begin_of (i + 1) ys) i ≤ j)
+    go true h = h
+    go false h = (refl, omega arith)
 
-  pub begin-later : i < length t → blank (get_or t i 0) ≡ true → begin_of (i + 1) (drop (i + 1) t) ≡ begin_of i (drop i t)
-  unfolding begin_of
-  begin-later h e = rw (drop-cons t i 0 h, e, add-one i)
-
-  pub begin-none : length t ≤ i → begin_of i (drop i t) ≡ i
-  unfolding begin_of
-  begin-none h = rw (drop_of_length-le t {i = i} h)
+pub begin-is : (t : List ℕ) → (unwrap_or (position (λ y. not (blank y)) t) (length t) ≡ begin_of 0 t) × (begin_of 0 t ≤ length t)
+begin-is t = rw (position_from-zero (λ y. not (blank y)) t) (begin-from 0 (length t) t (omega arith))
 
 module _ (t : List ℕ) (last i : ℕ) where
-  pub brace-array : i < length t → get_or t i 0 ≡ 123 → last ≡ 61 → brace_from (length t) last i (drop i t) ≡ i
+  pub brace-here : (o : Option ℕ) → i < length t → get_or t i 0 ≡ 123 → o ≡ then_some (eqb last 61) i
+      → unwrap_or o (length t) ≡ brace_from (length t) last i (drop i t)
   unfolding brace_from
-  brace-array h e l = rw (drop-cons t i 0 h, eq-eqb (get_or t i 0) 123 e, eq-eqb last 61 l)
-
-  pub brace-other : i < length t → get_or t i 0 ≡ 123 → (last ≡ 61 → ⊥) → brace_from (length t) last i (drop i t) ≡ length t
-  unfolding brace_from
-  brace-other h e l = rw (drop-cons t i 0 h, eq-eqb (get_or t i 0) 123 e, ne_eqb last 61 l)
+  brace-here o h e p = rw (p, drop-cons t i 0 h, eq-eqb (get_or t i 0) 123 e) (go (eqb last 61))
+    where
+      go : (b : Bool) → unwrap_or (then_some b i) (length t) ≡ cond b i (length t)
+      go true = refl
+      go false = refl
 
   pub brace-later : (next : ℕ) → i < length t → (get_or t i 0 ≡ 123 → ⊥)
       → ((blank (get_or t i 0) ≡ false) × (next ≡ get_or t i 0)) ⊎ ((blank (get_or t i 0) ≡ true) × (next ≡ last))
@@ -123,7 +112,7 @@ module _ {at : ℕ} {t : List ℕ} {line breaks i : ℕ} (l : Lined at t line br
   unfolding line_from
   lined-blank h p n b =
       let q : line_from at line breaks (i + 1) (drop (i + 1) t) ≡ line_from at line breaks i (drop i t) =
-      rw (drop-cons t i 0 h, le-ltb at i p, ne_eqb (get_or t i 0) 10 n, b, add-one i) in
+      rw (drop-cons t i 0 h, le-ltb at i p, b, ne_eqb (get_or t i 0) 10 n, add-one i) in
       q ∙ l.left
 
   lined-other : i < length t → i ≤ at → (get_or t i 0 ≡ 10 → ⊥) → blank (get_or t i 0) ≡ false
@@ -131,7 +120,7 @@ module _ {at : ℕ} {t : List ℕ} {line breaks i : ℕ} (l : Lined at t line br
   unfolding line_from
   lined-other h p n b =
       let q : line_from at (line + breaks) 0 (i + 1) (drop (i + 1) t) ≡ line_from at line breaks i (drop i t) =
-      rw (drop-cons t i 0 h, le-ltb at i p, ne_eqb (get_or t i 0) 10 n, b, add-one i) in
+      rw (drop-cons t i 0 h, le-ltb at i p, b, ne_eqb (get_or t i 0) 10 n, add-one i) in
       q ∙ l.left
 
   -- one character more: a break is counted, and counts where a character follows that is no blank
@@ -147,6 +136,14 @@ module _ {at : ℕ} {t : List ℕ} {line breaks i : ℕ} (l : Lined at t line br
   lined-more b l' b' h p (inr (e, q)) (inr (n, u, v)) = record { few = omega (arith, l.few); left = rw (u, v, q) (lined-blank h p e n) }
 
 -- ---- a packet's head
+
+-- the line may still begin with an offset, or does not
+pub begins-on : (b : Begins) → (b ≡ begins.Offset → ⊥) → (b ≡ begins.Nothing → ⊥) → (begins_in b ≡ 3 → ⊥) × (begins_in b ≡ 0 → ⊥)
+begins-on begins.Nothing f g = absurd (g refl)
+begins-on begins.Zero f g = (λ e. absurd (omega arith), λ e. absurd (omega arith))
+begins-on begins.Digits f g = (λ e. absurd (omega arith), λ e. absurd (omega arith))
+begins-on begins.Offset f g = absurd (f refl)
+begins-on begins.Other f g = (λ e. absurd (omega arith), λ e. absurd (omega arith))
 
 module _ (t : List ℕ) (k line i : ℕ) where
   pub packet-here : (k' : ℕ) → i < length t → k' ≡ begins_with k (get_or t i 0) → k' ≡ 3 → packet_from k line i (drop i t) ≡ line

@@ -1,235 +1,147 @@
 // A C array: what stands before its brace is passed over; after its closing brace nothing follows but a semicolon and the number of its octets, as xxd -i
 // writes it.
-ghost use Rattle.std.specs.Prelude.{◌≡◌, true, ◌<◌, length};
+ghost use Rattle.std.specs.Prelude.{◌≡◌, ◌<◌, length};
+ghost use Rattle.inputs.specs.Read.{read_in};
 ghost use Rattle.forms.specs.Arrays as arrays;
+ghost use Rattle.forms.specs.Arrays.{phase_in, after_in, Stepped};
 
 use crate::places;
 use groups::Kind;
-use inputs::{Read, Why, character};
-use octets::{wide, within};
+use inputs::{Unread, Why, character, is_blank};
 
 // Before what the tail of an array stands.
-#[derive(Drop)]
-struct Phase();
-
-impl Phase {
+#[derive(Clone, Copy)]
+pub enum Phase {
     // The array's semicolon, or the end.
-    const SEMICOLON: usize = 0;
-
+    Semicolon,
     // The declaration of a length, or the end.
-    const DECLARATION: usize = 1;
-
+    Declaration,
     // Its =.
-    const EQUALS: usize = 2;
-
+    Equals,
     // The length.
-    const LENGTH: usize = 3;
-
+    Length,
     // The rest of it.
-    const DIGITS: usize = 4;
-
+    Digits,
     // Its semicolon.
-    const CLOSE: usize = 5;
-
+    Close,
     // The end.
-    const END: usize = 6;
+    End,
 }
 
-// How far the tail of an array has been read: the length so far, and why it is none, or 0.
+// How far the tail of an array has been read, and the length so far.
 #[derive(Clone, Copy)]
 pub struct After {
-    pub phase: usize,
+    pub phase: Phase,
     pub length: usize,
-    pub why: usize,
-}
-
-fn is_decimal(x: u8) -> bool
-    ensures { result ≡ arrays.decimal x }
-{
-    if x < b'0' {
-        return false;
-    }
-    x <= b'9'
-}
-
-fn is_letter(x: u8) -> bool
-    ensures { result ≡ arrays.letter x }
-{
-    if within(x, b'A', b'Z') {
-        return true;
-    }
-    within(x, b'a', b'z')
 }
 
 // Whether x may stand in the declaration of a length, before its =; blanks may too.
+#[tactic(auto, unfolding(crate::specs::Arrays::word, crate::specs::Arrays::decimal, crate::specs::Arrays::letter))]
 fn is_word(x: u8) -> bool
     ensures { result ≡ arrays.word x }
 {
-    if is_decimal(x) {
-        return true;
-    }
-    if is_letter(x) {
-        return true;
-    }
-    if x == b'[' {
-        return true;
-    }
-    if x == b']' {
-        return true;
-    }
-    x == b'_'
+    matches!(x, b'0'..=b'9' | b'A'..=b'Z' | b'a'..=b'z' | b'[' | b']' | b'_')
 }
 
 impl After {
     fn begun() -> Self
-        ensures { result ≡ arrays.begun }
+        ensures { after_in result ≡ arrays.begun }
     {
         Self {
-            phase: Phase::SEMICOLON,
+            phase: Phase::Semicolon,
             length: 0,
-            why: 0,
         }
     }
 
-    fn to(mut self, phase: usize) -> Self
-        ensures { result ≡ arrays.to phase self }
+    fn to(self, phase: Phase) -> Self
+        ensures { after_in result ≡ arrays.to (phase_in phase) (after_in self) }
     {
-        self.phase = phase;
-        self
+        Self { phase, ..self }
     }
 
-    fn but(mut self, why: usize) -> Self
-        ensures { result ≡ arrays.but why self }
-    {
-        self.why = why;
-        self
-    }
-
-    // A digit of the length; no input has 65,536 octets.
-    fn digit(mut self, x: u8) -> Self
-        requires { arrays.decimal x ≡ true }
-        ensures { result ≡ arrays.digit_on x self }
+    // A digit of the length, of the value v; no input has 65,536 octets.
+    fn digit(self, v: u8) -> Result<Self, Why>
+        ensures { Stepped result (arrays.digit_of v (after_in self)) }
     {
         if 65535 < self.length {
-            return self.but(Why::COUNT);
+            return Err(Why::Count);
         }
-        self.length = 10 * self.length + wide(x - b'0');
-        self.to(Phase::DIGITS)
-    }
-
-    // To a phase, where the character is one that may stand here.
-    fn awaited(self, fits: bool, phase: usize) -> Self
-        ensures { result ≡ arrays.awaited fits phase self }
-    {
-        if fits {
-            return self.to(phase);
-        }
-        self.but(Why::FORM)
+        Ok(Self {
+            phase: Phase::Digits,
+            length: 10 * self.length + usize::from(v),
+        })
     }
 
     // The rest of the length, which is the number n of octets.
-    fn digits(self, x: u8, n: usize) -> Self
-        ensures { result ≡ arrays.digits x n self }
+    #[tactic(auto, unfolding(crate::specs::Arrays::digits, crate::specs::Arrays::decimal))]
+    fn digits(self, x: u8, n: usize) -> Result<Self, Why>
+        ensures { Stepped result (arrays.digits x n (after_in self)) }
     {
-        if is_decimal(x) {
-            return self.digit(x);
+        match x {
+            b'0'..=b'9' => self.digit(x - b'0'),
+            _ if self.length != n => Err(Why::Count),
+            _ if is_blank(x) => Ok(self.to(Phase::Close)),
+            b';' => Ok(self.to(Phase::End)),
+            _ => Err(Why::Form),
         }
-        if self.length != n {
-            return self.but(Why::COUNT);
-        }
-        if places::is_blank(x) {
-            return self.to(Phase::CLOSE);
-        }
-        self.awaited(x == b';', Phase::END)
-    }
-
-    // Before the length, at a character that is no blank.
-    fn early(self, x: u8) -> Self
-        ensures { result ≡ arrays.early x self }
-    {
-        if self.phase == Phase::SEMICOLON {
-            return self.awaited(x == b';', Phase::DECLARATION);
-        }
-        if self.phase == Phase::DECLARATION {
-            return self.awaited(is_word(x), Phase::EQUALS);
-        }
-        if is_word(x) {
-            return self;
-        }
-        self.awaited(x == b'=', Phase::LENGTH)
-    }
-
-    // At the length and after it, at a character that is no blank.
-    fn late(self, x: u8) -> Self
-        ensures { result ≡ arrays.late x self }
-    {
-        if self.phase == Phase::LENGTH {
-            if is_decimal(x) {
-                return self.digit(x);
-            }
-            return self.but(Why::FORM);
-        }
-        if self.phase == Phase::CLOSE {
-            return self.awaited(x == b';', Phase::END);
-        }
-        self.but(Why::FORM)
     }
 
     // After a character.
-    fn after(self, x: u8, n: usize) -> Self
-        ensures { result ≡ arrays.after x n self }
+    #[tactic(auto, unfolding(crate::specs::Arrays::after, crate::specs::Arrays::early, crate::specs::Arrays::late, crate::specs::Arrays::decimal))]
+    fn after(self, x: u8, n: usize) -> Result<Self, Why>
+        ensures { Stepped result (arrays.after x n (after_in self)) }
     {
-        if self.phase == Phase::DIGITS {
-            return self.digits(x, n);
+        match (self.phase, x) {
+            (Phase::Digits, _) => self.digits(x, n),
+            _ if is_blank(x) => Ok(self),
+            (Phase::Semicolon, b';') => Ok(self.to(Phase::Declaration)),
+            (Phase::Declaration, _) if is_word(x) => Ok(self.to(Phase::Equals)),
+            (Phase::Equals, _) if is_word(x) => Ok(self),
+            (Phase::Equals, b'=') => Ok(self.to(Phase::Length)),
+            (Phase::Length, b'0'..=b'9') => self.digit(x - b'0'),
+            (Phase::Close, b';') => Ok(self.to(Phase::End)),
+            _ => Err(Why::Form),
         }
-        if places::is_blank(x) {
-            return self;
-        }
-        if self.phase < Phase::LENGTH {
-            return self.early(x);
-        }
-        self.late(x)
     }
 
     // At the end of the text: after the array, or after its length.
-    fn ended(self, at: usize, n: usize) -> Read
-        ensures { result ≡ arrays.ended_of at n self }
+    #[tactic(auto, unfolding(crate::specs::Arrays::ended_of))]
+    fn ended(self, at: usize, n: usize) -> Result<usize, Unread>
+        ensures { read_in result ≡ arrays.ended_of at n (after_in self) }
     {
-        if self.phase < Phase::EQUALS {
-            return Read::Octets(n);
+        match self.phase {
+            Phase::Semicolon | Phase::Declaration | Phase::End => Ok(n),
+            _ => Err(Unread::Bad { at, why: Why::Form }),
         }
-        if self.phase == Phase::END {
-            return Read::Octets(n);
-        }
-        Read::Bad { at, why: Why::FORM }
     }
 }
 
 // What follows the closing brace of an array of n octets, from `from` on.
-fn tail(text: &[u8], from: usize, n: usize) -> Read
-    ensures { result ≡ arrays.tail_of from n text.now }
+fn tail(text: &[u8], from: usize, n: usize) -> Result<usize, Unread>
+    ensures { read_in result ≡ arrays.tail_of from n text.now }
 {
     let mut s = After::begun();
-    let mut i = from;
-    while i <= text.len() {
-        s = s.after(character(text, i), n);
-        if s.why != 0 {
-            return Read::Bad { at: i, why: s.why };
+    for i in from..=text.len() {
+        match s.after(character(text, i), n) {
+            Ok(t) => s = t,
+            Err(why) => {
+                return Err(Unread::Bad { at: i, why });
+            }
         }
-        i += 1;
     }
     s.ended(text.len(), n)
 }
 
 // After an array's octets: its closing brace stands at `close`, or is missing.
-fn closed(text: &[u8], close: usize, n: usize) -> Read
-    ensures { result ≡ arrays.closed_of close n text.now }
+#[tactic(auto, unfolding(crate::specs::Arrays::closed_of))]
+fn closed(text: &[u8], close: usize, n: usize) -> Result<usize, Unread>
+    ensures { read_in result ≡ arrays.closed_of close n text.now }
 {
     if text.len() <= close {
-        return Read::Bad {
+        return Err(Unread::Bad {
             at: text.len(),
-            why: Why::FORM,
-        };
+            why: Why::Form,
+        });
     }
     tail(text, close + 1, n)
 }
@@ -249,15 +161,14 @@ fn elements() -> Kind
 }
 
 // Reads an array whose opening brace stands at `brace`.
-pub fn read(text: &[u8], brace: usize, out: &mut [u8]) -> Read
+pub fn read(text: &[u8], brace: usize, out: &mut [u8]) -> Result<usize, Unread>
     requires { brace < length text.now }
-    ensures { arrays.Arrayed brace text.now out.old result out.new }
+    ensures { arrays.Arrayed brace text.now out.old (read_in result) out.new }
 {
     let body = brace + 1;
     let close = places::place(text, body, b'}');
     match groups::read(elements(), &text[body..close], out) {
-        Read::Octets(n) => closed(text, close, n),
-        Read::Bad { at, why } => Read::Bad { at: body + at, why },
-        Read::Long => Read::Long,
+        Ok(n) => closed(text, close, n),
+        Err(unread) => Err(unread.back(body)),
     }
 }

@@ -1,270 +1,235 @@
 // Which form the front of a text shows. A dump begins with an offset, before octets of two digits or before a colon. A list whose first two groups stand on
 // one line with only blanks between them has blanks. Of any other the first character that is neither a digit nor a blank tells what stands between its groups.
-ghost use Rattle.std.specs.Prelude.{◌≡◌};
+ghost use Rattle.std.specs.Prelude.{◌≡◌, ltb};
 ghost use Rattle.forms.specs.Fronts as fronts;
 
 use hexes::is_digit;
 use inputs::character;
 
 // The forms.
-#[derive(Drop)]
-pub struct Form();
+#[derive(Clone, Copy)]
+pub enum Form {
+    // Lists of groups: with blanks between them, and with colons, commas or dashes; with 0x before each.
+    Blanks,
+    Colons,
+    Commas,
+    Dashes,
+    Prefixes,
+    // \x and two digits each.
+    Escapes,
+    // Dumps.
+    Wireshark,
+    Od,
+    Hexdump,
+    Xxd,
+    Tcpdump,
+}
 
 impl Form {
-    // Lists of groups: with blanks between them, and with colons, commas or dashes; with 0x before each.
-    pub const BLANKS: usize = 1;
-
-    pub const COLONS: usize = 2;
-
-    pub const COMMAS: usize = 3;
-
-    pub const DASHES: usize = 4;
-
-    pub const PREFIXES: usize = 5;
-
-    // \x and two digits each.
-    pub const ESCAPES: usize = 6;
-
-    // Dumps.
-    pub const WIRESHARK: usize = 7;
-
-    pub const OD: usize = 8;
-
-    pub const HEXDUMP: usize = 9;
-
-    pub const XXD: usize = 10;
-
-    pub const TCPDUMP: usize = 11;
+    // Whether it is a dump.
+    pub fn is_dump(self) -> bool
+        ensures { result ≡ ltb 6 (fronts.number_of self) }
+    {
+        matches!(
+            self,
+            Form::Wireshark | Form::Od | Form::Hexdump | Form::Xxd | Form::Tcpdump
+        )
+    }
 }
 
 // Before which character the front stands.
-#[derive(Drop)]
-struct Phase();
-
-impl Phase {
+#[derive(Clone, Copy)]
+pub enum Phase {
     // The first group.
-    const LEAD: usize = 0;
-
+    Lead,
     // The rest of the first group.
-    const FIRST: usize = 1;
-
+    First,
     // The rest of a first group that begins with 0x.
-    const PREFIX: usize = 2;
-
+    Prefix,
     // What follows the colon after the first group.
-    const COLON: usize = 3;
-
+    Colon,
     // The second group.
-    const GAP: usize = 4;
-
+    Gap,
     // The rest of the second group.
-    const SECOND: usize = 5;
-
+    Second,
     // Any character of a list.
-    const LIST: usize = 6;
+    List,
 }
 
 // What has been seen of a text.
 #[derive(Clone, Copy)]
 pub struct Front {
-    pub phase: usize,
+    pub phase: Phase,
     // Digits of the first group, up to 9, and whether it began with 0.
     pub digits: usize,
     pub zero: bool,
     // Digits of the second.
     pub second: usize,
-    // The form, or 0 while it is not known.
-    pub form: usize,
+    // The form, once it is known.
+    pub form: Option<Form>,
 }
 
+#[tactic(auto, unfolding(crate::specs::Fronts::gap))]
 fn is_gap(x: u8) -> bool
     ensures { result ≡ fronts.gap x }
 {
-    if x == b' ' {
-        return true;
-    }
-    if x == b'\t' {
-        return true;
-    }
-    x == b'\r'
+    matches!(x, b' ' | b'\t' | b'\r')
 }
 
 // The form of a list by a character that is neither a digit nor a blank.
-fn marked(x: u8) -> usize
-    ensures { result ≡ fronts.marked x }
+#[tactic(auto, unfolding(crate::specs::Fronts::marked))]
+fn marked(x: u8) -> Form
+    ensures { fronts.number_of result ≡ fronts.marked x }
 {
-    if x == b':' {
-        return Form::COLONS;
+    match x {
+        b':' => Form::Colons,
+        b',' => Form::Commas,
+        b'-' => Form::Dashes,
+        _ => Form::Blanks,
     }
-    if x == b',' {
-        return Form::COMMAS;
-    }
-    if x == b'-' {
-        return Form::DASHES;
-    }
-    Form::BLANKS
 }
 
 // The form of a dump by the digits of its offset; with others it is a list with blanks.
-fn dumped(digits: usize) -> usize
-    ensures { result ≡ fronts.dumped digits }
+#[tactic(auto, unfolding(crate::specs::Fronts::dumped))]
+fn dumped(digits: usize) -> Form
+    ensures { fronts.number_of result ≡ fronts.dumped digits }
 {
-    if digits == 4 {
-        return Form::WIRESHARK;
+    match digits {
+        4 => Form::Wireshark,
+        6 => Form::Od,
+        8 => Form::Hexdump,
+        _ => Form::Blanks,
     }
-    if digits == 6 {
-        return Form::OD;
-    }
-    if digits == 8 {
-        return Form::HEXDUMP;
-    }
-    Form::BLANKS
 }
 
 impl Front {
     fn begun() -> Self
-        ensures { result ≡ fronts.begun }
+        ensures { fronts.front_in result ≡ fronts.begun }
     {
         Self {
-            phase: Phase::LEAD,
+            phase: Phase::Lead,
             digits: 0,
             zero: false,
             second: 0,
-            form: 0,
+            form: None,
         }
     }
 
-    fn to(mut self, phase: usize) -> Self
-        ensures { result ≡ fronts.to phase self }
+    fn to(mut self, phase: Phase) -> Self
+        ensures { fronts.front_in result ≡ fronts.to (fronts.place_of phase) (fronts.front_in self) }
     {
         self.phase = phase;
         self
     }
 
-    fn is(mut self, form: usize) -> Self
-        ensures { result ≡ fronts.is form self }
+    fn is(mut self, form: Form) -> Self
+        ensures { fronts.front_in result ≡ fronts.is (fronts.number_of form) (fronts.front_in self) }
     {
-        self.form = form;
+        self.form = Some(form);
         self
     }
 
     // A character of a list.
+    #[tactic(auto, unfolding(crate::specs::Fronts::list))]
     fn list(self, x: u8) -> Self
-        ensures { result ≡ fronts.list x self }
+        ensures { fronts.front_in result ≡ fronts.list x (fronts.front_in self) }
     {
-        if is_digit(x) {
-            return self.to(Phase::LIST);
-        }
-        if is_gap(x) {
-            return self.to(Phase::LIST);
-        }
-        if x == b'\n' {
-            return self.to(Phase::LIST);
+        if is_digit(x) || is_gap(x) || x == b'\n' {
+            return self.to(Phase::List);
         }
         self.is(marked(x))
     }
 
     // Before the first group.
+    #[tactic(auto, unfolding(crate::specs::Fronts::lead))]
     fn lead(mut self, x: u8) -> Self
-        ensures { result ≡ fronts.lead x self }
+        ensures { fronts.front_in result ≡ fronts.lead x (fronts.front_in self) }
     {
         if is_digit(x) {
             self.digits = 1;
             self.zero = x == b'0';
-            return self.to(Phase::FIRST);
+            return self.to(Phase::First);
         }
-        if is_gap(x) {
+        if is_gap(x) || x == b'\n' {
             return self;
         }
-        if x == b'\n' {
-            return self;
+        match x {
+            b'\\' | b'"' => self.is(Form::Escapes),
+            _ => self.is(Form::Blanks),
         }
-        if x == b'\\' {
-            return self.is(Form::ESCAPES);
-        }
-        if x == b'"' {
-            return self.is(Form::ESCAPES);
-        }
-        self.is(Form::BLANKS)
     }
 
     // An x after the first group: its 0 was that of 0x.
+    #[tactic(auto, unfolding(crate::specs::Fronts::ex))]
     fn ex(self) -> Self
-        ensures { result ≡ fronts.ex self }
+        ensures { fronts.front_in result ≡ fronts.ex (fronts.front_in self) }
     {
-        if self.zero {
-            if self.digits == 1 {
-                return self.to(Phase::PREFIX);
-            }
+        if self.zero && self.digits == 1 {
+            return self.to(Phase::Prefix);
         }
-        self.is(Form::BLANKS)
+        self.is(Form::Blanks)
     }
 
     // One digit more of the first group.
+    #[tactic(auto, unfolding(crate::specs::Fronts::digit_on))]
     fn digit(mut self) -> Self
-        ensures { result ≡ fronts.digit_on self }
+        ensures { fronts.front_in result ≡ fronts.digit_on (fronts.front_in self) }
     {
         if self.digits < 9 {
-            self.digits = self.digits + 1;
+            self.digits += 1;
         }
         self
     }
 
     // After a digit of the first group.
+    #[tactic(auto, unfolding(crate::specs::Fronts::first))]
     fn first(self, x: u8) -> Self
-        ensures { result ≡ fronts.first x self }
+        ensures { fronts.front_in result ≡ fronts.first x (fronts.front_in self) }
     {
         if is_digit(x) {
             return self.digit();
         }
-        if x == b'x' {
-            return self.ex();
+        match x {
+            b'x' | b'X' => self.ex(),
+            b':' => self.to(Phase::Colon),
+            _ if is_gap(x) => self.to(Phase::Gap),
+            _ => self.list(x),
         }
-        if x == b'X' {
-            return self.ex();
-        }
-        if x == b':' {
-            return self.to(Phase::COLON);
-        }
-        if is_gap(x) {
-            return self.to(Phase::GAP);
-        }
-        self.list(x)
     }
 
     // After 0x.
+    #[tactic(auto, unfolding(crate::specs::Fronts::prefix))]
     fn prefix(self, x: u8) -> Self
-        ensures { result ≡ fronts.prefix x self }
+        ensures { fronts.front_in result ≡ fronts.prefix x (fronts.front_in self) }
     {
         if is_digit(x) {
             return self;
         }
         if x == b':' {
-            return self.is(Form::TCPDUMP);
+            return self.is(Form::Tcpdump);
         }
-        self.is(Form::PREFIXES)
+        self.is(Form::Prefixes)
     }
 
     // After the colon: a blank where the first group was an offset.
+    #[tactic(auto, unfolding(crate::specs::Fronts::colon))]
     fn colon(self, x: u8) -> Self
-        ensures { result ≡ fronts.colon x self }
+        ensures { fronts.front_in result ≡ fronts.colon x (fronts.front_in self) }
     {
-        if self.digits != 8 {
-            return self.is(Form::COLONS);
+        if self.digits != 8 || is_digit(x) {
+            return self.is(Form::Colons);
         }
-        if is_digit(x) {
-            return self.is(Form::COLONS);
-        }
-        self.is(Form::XXD)
+        self.is(Form::Xxd)
     }
 
     // After the first group and a blank.
+    #[tactic(auto, unfolding(crate::specs::Fronts::gap_on))]
     fn gap(mut self, x: u8) -> Self
-        ensures { result ≡ fronts.gap_on x self }
+        ensures { fronts.front_in result ≡ fronts.gap_on x (fronts.front_in self) }
     {
         if is_digit(x) {
             self.second = 1;
-            return self.to(Phase::SECOND);
+            return self.to(Phase::Second);
         }
         if is_gap(x) {
             return self;
@@ -273,74 +238,48 @@ impl Front {
     }
 
     // After a digit of the second group: octets follow an offset two digits each; any other group is that of a list with blanks.
+    #[tactic(auto, unfolding(crate::specs::Fronts::second_on))]
     fn second(mut self, x: u8) -> Self
-        ensures { result ≡ fronts.second_on x self }
+        ensures { fronts.front_in result ≡ fronts.second_on x (fronts.front_in self) }
     {
-        if is_digit(x) {
-            if self.second == 1 {
+        let one = self.second == 1;
+        match (is_digit(x), one) {
+            (true, true) => {
                 self.second = 2;
-                return self;
+                self
             }
-            return self.is(Form::BLANKS);
+            (false, false) => self.is(dumped(self.digits)),
+            _ => self.is(Form::Blanks),
         }
-        if self.second == 1 {
-            return self.is(Form::BLANKS);
-        }
-        self.is(dumped(self.digits))
-    }
-
-    // In the first group and after it.
-    fn early(self, x: u8) -> Self
-        ensures { result ≡ fronts.early x self }
-    {
-        if self.phase == Phase::LEAD {
-            return self.lead(x);
-        }
-        if self.phase == Phase::FIRST {
-            return self.first(x);
-        }
-        self.prefix(x)
-    }
-
-    // After the first group.
-    fn late(self, x: u8) -> Self
-        ensures { result ≡ fronts.late x self }
-    {
-        if self.phase == Phase::COLON {
-            return self.colon(x);
-        }
-        if self.phase == Phase::GAP {
-            return self.gap(x);
-        }
-        if self.phase == Phase::SECOND {
-            return self.second(x);
-        }
-        self.list(x)
     }
 
     // After a character.
+    #[tactic(auto, unfolding(crate::specs::Fronts::after, crate::specs::Fronts::early, crate::specs::Fronts::late))]
     fn after(self, x: u8) -> Self
-        ensures { result ≡ fronts.after x self }
+        ensures { fronts.front_in result ≡ fronts.after x (fronts.front_in self) }
     {
-        if self.phase < Phase::COLON {
-            return self.early(x);
+        match self.phase {
+            Phase::Lead => self.lead(x),
+            Phase::First => self.first(x),
+            Phase::Prefix => self.prefix(x),
+            Phase::Colon => self.colon(x),
+            Phase::Gap => self.gap(x),
+            Phase::Second => self.second(x),
+            Phase::List => self.list(x),
         }
-        self.late(x)
     }
 }
 
 // The form that the front of a text shows.
-pub fn form_of(text: &[u8]) -> usize
-    ensures { result ≡ fronts.form_of text.now }
+pub fn form_of(text: &[u8]) -> Form
+    ensures { fronts.number_of result ≡ fronts.form_of text.now }
 {
     let mut s = Front::begun();
-    let mut i = 0;
-    while i <= text.len() {
+    for i in 0..=text.len() {
         s = s.after(character(text, i));
-        if s.form != 0 {
-            return s.form;
+        if let Some(form) = s.form {
+            return form;
         }
-        i += 1;
     }
-    Form::BLANKS
+    Form::Blanks
 }

@@ -2,7 +2,10 @@
 // of its form. Text that is in none of them is refused at the character at which it leaves the form that its front shows.
 #![tactic(auto)]
 
-ghost use Rattle.std.specs.Prelude.{◌≡◌, ◌<◌, length};
+ghost use Rattle.std.specs.Prelude.{◌≡◌};
+ghost use Rattle.inputs.specs.Read.{read_in};
+ghost use Rattle.inputs.specs.Why as whys;
+ghost use Rattle.forms.specs.Fronts.{number_of};
 ghost use Rattle.forms.specs.Forms as forms;
 ghost use Rattle.forms.specs.Forms.{as_of, list_of, braced_of, headed_of, read_of, Answered};
 
@@ -13,12 +16,12 @@ pub mod places;
 use dumps::Style;
 use front::Form;
 use groups::Kind;
-use inputs::{Read, Why};
+use inputs::{Unread, Why};
 
 // ---- the forms as data
 
 // A dump whose offsets stand before a blank, whose text column may be fenced, and that may end in an offset alone.
-fn bare(digits: usize, opening: u8, closing: u8, column: bool, ends: bool) -> Style
+fn bare(digits: usize, opening: Option<u8>, closing: Option<u8>, column: bool, ends: bool) -> Style
     ensures { result ≡ forms.bare digits opening closing column ends }
 {
     Style {
@@ -42,30 +45,25 @@ fn colon(digits: usize, prefix: bool) -> Style
         prefix,
         colon: true,
         pairs: true,
-        opening: 0,
-        closing: 0,
+        opening: None,
+        closing: None,
         column: false,
         ends: false,
     }
 }
 
 // The dump of a form.
-fn style(form: usize) -> Style
-    ensures { result ≡ forms.style_of form }
+#[tactic(auto, unfolding(crate::specs::Forms::style_of))]
+fn style(form: Form) -> Style
+    ensures { result ≡ forms.style_of (number_of form) }
 {
-    if form == Form::WIRESHARK {
-        return bare(4, 0, 0, false, false);
+    match form {
+        Form::Wireshark => bare(4, None, None, false, false),
+        Form::Od => bare(6, Some(b'>'), Some(b'<'), false, true),
+        Form::Hexdump => bare(8, Some(b'|'), Some(b'|'), true, true),
+        Form::Xxd => colon(8, false),
+        _ => colon(4, true),
     }
-    if form == Form::OD {
-        return bare(6, b'>', b'<', false, true);
-    }
-    if form == Form::HEXDUMP {
-        return bare(8, b'|', b'|', true, true);
-    }
-    if form == Form::XXD {
-        return colon(8, false);
-    }
-    colon(4, true)
 }
 
 // A list with a mark between two groups of a line.
@@ -83,122 +81,106 @@ fn marked(mark: u8, single: bool) -> Kind
 }
 
 // The list of a form. dhclient writes octets below 16 with one digit, between colons.
-fn kind(form: usize) -> Kind
-    ensures { result ≡ forms.kind_of form }
+#[tactic(auto, unfolding(crate::specs::Forms::kind_of))]
+fn kind(form: Form) -> Kind
+    ensures { result ≡ forms.kind_of (number_of form) }
 {
-    if form == Form::COLONS {
-        return marked(b':', true);
-    }
-    if form == Form::COMMAS {
-        return marked(b',', false);
-    }
-    if form == Form::DASHES {
-        return marked(b'-', false);
-    }
-    if form == Form::PREFIXES {
-        return Kind {
+    match form {
+        Form::Colons => marked(b':', true),
+        Form::Commas => marked(b',', false),
+        Form::Dashes => marked(b'-', false),
+        Form::Prefixes => Kind {
             prefix: true,
             mark: b',',
             marked: false,
             single: true,
             lines: false,
             whole: true,
-        };
-    }
-    Kind {
-        prefix: false,
-        mark: 0,
-        marked: false,
-        single: false,
-        lines: true,
-        whole: false,
+        },
+        _ => Kind {
+            prefix: false,
+            mark: 0,
+            marked: false,
+            single: false,
+            lines: true,
+            whole: false,
+        },
     }
 }
 
 // ---- reading
 
 // Reads a text in a form.
-fn read_as(form: usize, text: &[u8], out: &mut [u8]) -> Read
-    requires { length out.old < 65536 }
-    ensures { Answered (as_of form text.now out.old) result out.new }
+fn read_as(form: Form, text: &[u8], out: &mut [u8]) -> Result<usize, Unread>
+    ensures { Answered (as_of (number_of form) text.now out.old) (read_in result) out.new }
 {
-    if form < Form::ESCAPES {
-        return groups::read(kind(form), text, out);
+    if form.is_dump() {
+        return dumps::read(style(form), text, out);
     }
-    if form == Form::ESCAPES {
-        return groups::escapes::read(text, out);
+    match form {
+        Form::Escapes => groups::escapes::read(text, out),
+        _ => groups::read(kind(form), text, out),
     }
-    dumps::read(style(form), text, out)
 }
 
 // Reads a list, and no dump: one option's value.
-pub fn read_list(text: &[u8], out: &mut [u8]) -> Read
-    requires { length out.old < 65536 }
-    ensures { Answered (list_of text.now out.old) result out.new }
+pub fn read_list(text: &[u8], out: &mut [u8]) -> Result<usize, Unread>
+    ensures { Answered (list_of text.now out.old) (read_in result) out.new }
 {
     let form = front::form_of(text);
-    if Form::ESCAPES < form {
-        return Read::Bad {
+    if form.is_dump() {
+        return Err(Unread::Bad {
             at: 0,
-            why: Why::FORM,
-        };
+            why: Why::Form,
+        });
     }
     read_as(form, text, out)
 }
 
 // A text whose front shows a list, and that leaves it at `at`: on the first line it is no list, but may be a packet's head before a dump, or what stands
 // before an array.
-fn read_headed(text: &[u8], at: usize, why: usize, out: &mut [u8]) -> Read
-    requires { length out.old < 65536 }
-    ensures { Answered (headed_of at why text.now out.old) result out.new }
+fn read_headed(text: &[u8], at: usize, why: Why, out: &mut [u8]) -> Result<usize, Unread>
+    ensures { Answered (headed_of at (whys.number_of why) text.now out.old) (read_in result) out.new }
 {
     let first = places::begin(text);
     let end = places::place(text, first, b'\n');
     if end < at {
-        return Read::Bad { at, why };
+        return Err(Unread::Bad { at, why });
     }
-    let packet = places::packet(text);
-    if packet <= end {
-        return read_braced(text, at, why, out);
-    }
-    if packet == text.len() {
-        return read_braced(text, at, why, out);
-    }
-    match dumps::read(style(Form::TCPDUMP), &text[packet..], out) {
-        Read::Octets(n) => Read::Octets(n),
-        Read::Bad { at, why } => Read::Bad {
-            at: packet + at,
-            why,
+    match places::packet(text) {
+        Some(packet) if end < packet => match dumps::read(
+            style(Form::Tcpdump),
+            &text[packet..],
+            out,
+        ) {
+            Ok(n) => Ok(n),
+            Err(unread) => Err(unread.back(packet)),
         },
-        Read::Long => Read::Long,
+        _ => read_braced(text, at, why, out),
     }
 }
 
 // A text that may be an array, and is no other form by what is wrong at `at`.
-fn read_braced(text: &[u8], at: usize, why: usize, out: &mut [u8]) -> Read
-    ensures { Answered (braced_of at why text.now out.old) result out.new }
+fn read_braced(text: &[u8], at: usize, why: Why, out: &mut [u8]) -> Result<usize, Unread>
+    ensures { Answered (braced_of at (whys.number_of why) text.now out.old) (read_in result) out.new }
 {
-    let brace = places::brace(text);
-    if brace < text.len() {
-        return array::read(text, brace, out);
+    match places::brace(text) {
+        Some(brace) => array::read(text, brace, out),
+        None => Err(Unread::Bad { at, why }),
     }
-    Read::Bad { at, why }
 }
 
 // Reads a text in the form that it has. One whose front shows a dump is tried as nothing else: a text column may show an array's brace.
-pub fn read(text: &[u8], out: &mut [u8]) -> Read
-    requires { length out.old < 65536 }
-    ensures { Answered (read_of text.now out.old) result out.new }
+pub fn read(text: &[u8], out: &mut [u8]) -> Result<usize, Unread>
+    ensures { Answered (read_of text.now out.old) (read_in result) out.new }
 {
     let form = front::form_of(text);
+    if form.is_dump() {
+        return read_as(form, text, out);
+    }
     match read_as(form, text, out) {
-        Read::Octets(n) => Read::Octets(n),
-        Read::Bad { at, why } => {
-            if Form::ESCAPES < form {
-                return Read::Bad { at, why };
-            }
-            read_headed(text, at, why, out)
-        }
-        Read::Long => Read::Long,
+        Ok(n) => Ok(n),
+        Err(Unread::Bad { at, why }) => read_headed(text, at, why, out),
+        Err(Unread::Long) => Err(Unread::Long),
     }
 }

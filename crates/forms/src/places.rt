@@ -1,105 +1,71 @@
 // Places in a text: what is looked for stands at an index, or nowhere, which is the text's length.
-ghost use Rattle.std.specs.Prelude.{◌≡◌, ◌≤◌, length, drop};
+ghost use Rattle.std.specs.Prelude.{◌≡◌, ◌≤◌, ◌<◌, length, drop, unwrap_or, IfSome, not};
+ghost use Rattle.std.specs.List.{list_any, position};
 ghost use Rattle.forms.specs.Places.{blank, control, wide_text, textual_of, place_of, begin_of, line_of, brace_of};
-ghost use Rattle.forms.specs.Places.{begins_offset, begins_line, begins_with, packet_of};
+ghost use Rattle.forms.specs.Places.{begins_in, begins_with, packet_of};
 
 use hexes::is_digit;
-
-// Whether x is a space, a tab or the end of a line.
-pub fn is_blank(x: u8) -> bool
-    ensures { result ≡ blank x }
-{
-    if x == b' ' {
-        return true;
-    }
-    if x == b'\t' {
-        return true;
-    }
-    if x == b'\r' {
-        return true;
-    }
-    x == b'\n'
-}
+use inputs::is_blank;
 
 // Whether x stands in no text. A terminal's colours (escape) and page breaks (form feed) do.
+#[tactic(auto, unfolding(crate::specs::Places::control))]
 fn is_control(x: u8) -> bool
     ensures { result ≡ control x }
 {
-    if is_blank(x) {
-        return false;
+    match x {
+        27 | 12 => false,
+        127 => true,
+        _ => x < b' ' && !is_blank(x),
     }
-    if x == 27 {
-        return false;
-    }
-    if x == 12 {
-        return false;
-    }
-    if x == 127 {
-        return true;
-    }
-    x < b' '
 }
 
 // Whether a text in 16-bit characters begins here: with a byte order mark.
+#[tactic(auto, unfolding(crate::specs::Places::wide_text))]
 fn is_wide(text: &[u8]) -> bool
     ensures { result ≡ wide_text text.now }
 {
-    if text.len() < 2 {
-        return false;
-    }
-    if text[0] == 255 {
-        return text[1] == 254;
-    }
-    if text[0] == 254 {
-        return text[1] == 255;
-    }
-    false
+    matches!(text, [255, 254, ..] | [254, 255, ..])
+}
+
+// Whether a control character is among octets.
+fn has_control(text: &[u8]) -> bool
+    ensures { result ≡ list_any control text.now }
+{
+    text.iter().any(|x| is_control(*x))
+}
+
+// Where the first character that is no blank stands.
+fn unblank(text: &[u8]) -> Option<usize>
+    ensures { result ≡ position (λ x. not (blank x)) text.now }
+{
+    text.iter().position(|x| !is_blank(*x))
 }
 
 // Whether octets look like text: none of them is a control character; or they begin as text in 16-bit characters does.
 pub fn is_text(text: &[u8]) -> bool
     ensures { result ≡ textual_of text.now }
 {
-    if is_wide(text) {
-        return true;
-    }
-    let mut i = 0;
-    while i < text.len() {
-        if is_control(text[i]) {
-            return false;
-        }
-        i += 1;
-    }
-    true
+    is_wide(text) || !has_control(text)
 }
 
-// Where the first x stands at `from` or after it.
+// Where the first x stands at `from` or after it. Of `place` and `begin` nowhere is the text's length, at which callers cut it then: no Option.
 pub fn place(text: &[u8], from: usize, x: u8) -> usize
     requires { from ≤ length text.now }
     ensures { (result ≡ place_of x from (drop from text.now)) × (from ≤ result) × (result ≤ length text.now) }
 {
-    let mut i = from;
-    while i < text.len() {
+    for i in from..text.len() {
         if text[i] == x {
             return i;
         }
-        i += 1;
     }
-    i
+    text.len()
 }
 
 // Where the first character that is no blank stands.
 pub fn begin(text: &[u8]) -> usize
     ensures { (result ≡ begin_of 0 text.now) × (result ≤ length text.now) }
 {
-    let mut i = 0;
-    while i < text.len() {
-        if !is_blank(text[i]) {
-            return i;
-        }
-        i += 1;
-    }
-    i
+    unblank(text).unwrap_or(text.len())
 }
 
 // In which line the character at `at` stands, counted from 1; a blank, and the end of the text, belong to the line of what stands before them.
@@ -108,123 +74,85 @@ pub fn line(text: &[u8], at: usize) -> usize
 {
     let mut line = 1;
     let mut breaks = 0;
-    let mut i = 0;
-    while i < text.len() {
+    for (i, x) in text.iter().enumerate() {
         if at < i {
             return line;
         }
-        if text[i] == b'\n' {
+        if *x == b'\n' {
             breaks += 1;
         }
-        if !is_blank(text[i]) {
+        if !is_blank(*x) {
             line += breaks;
             breaks = 0;
         }
-        i += 1;
     }
     line
 }
 
-// What a line begins with after blanks: nothing yet, 0, 0x and digits, 0x and digits and a colon; or anything else.
-#[derive(Drop)]
-struct Begins();
+// What a line begins with after blanks.
+#[derive(Clone, Copy)]
+pub enum Begins {
+    // Nothing yet.
+    Nothing,
+    // 0.
+    Zero,
+    // 0x and digits.
+    Digits,
+    // 0x and digits and a colon.
+    Offset,
+    // Anything else.
+    Other,
+}
 
 impl Begins {
-    const NOTHING: usize = 0;
-
-    const ZERO: usize = 1;
-
-    const DIGITS: usize = 2;
-
-    const OFFSET: usize = 3;
-
-    const OTHER: usize = 4;
-}
-
-// After 0x and digits.
-fn begins_offset(x: u8) -> usize
-    ensures { result ≡ begins_offset x }
-{
-    if x == b':' {
-        return Begins::OFFSET;
-    }
-    if is_digit(x) {
-        return Begins::DIGITS;
-    }
-    Begins::OTHER
-}
-
-// At the front of a line.
-fn begins_line(x: u8) -> usize
-    ensures { result ≡ begins_line x }
-{
-    if x == b'0' {
-        return Begins::ZERO;
-    }
-    if is_blank(x) {
-        return Begins::NOTHING;
-    }
-    Begins::OTHER
-}
-
-// With one character more.
-fn begins_with(so_far: usize, x: u8) -> usize
-    ensures { result ≡ begins_with so_far x }
-{
-    if x == b'\n' {
-        return Begins::NOTHING;
-    }
-    if so_far == Begins::NOTHING {
-        return begins_line(x);
-    }
-    if so_far == Begins::DIGITS {
-        return begins_offset(x);
-    }
-    if so_far == Begins::ZERO {
-        if x == b'x' {
-            return Begins::DIGITS;
+    // With one character more.
+    #[tactic(auto, unfolding(crate::specs::Places::begins_with, crate::specs::Places::begins_line, crate::specs::Places::begins_offset))]
+    fn with(self, x: u8) -> Self
+        ensures { begins_in result ≡ begins_with (begins_in self) x }
+    {
+        match (self, x) {
+            (_, b'\n') => Begins::Nothing,
+            (Begins::Nothing, b'0') => Begins::Zero,
+            (Begins::Nothing, _) if is_blank(x) => Begins::Nothing,
+            (Begins::Zero, b'x') => Begins::Digits,
+            (Begins::Digits, b':') => Begins::Offset,
+            (Begins::Digits, _) if is_digit(x) => Begins::Digits,
+            _ => Begins::Other,
         }
     }
-    Begins::OTHER
 }
 
 // Where the first line begins that begins with 0x, digits and a colon: the lines before it are the head of a packet.
-pub fn packet(text: &[u8]) -> usize
-    ensures { (result ≡ packet_of text.now) × (result ≤ length text.now) }
+pub fn packet(text: &[u8]) -> Option<usize>
+    ensures at { unwrap_or result (length text.now) ≡ packet_of text.now }
+    ensures inside { IfSome result (λ i. i < length text.now) }
 {
     let mut line = 0;
-    let mut so_far = Begins::NOTHING;
-    let mut i = 0;
-    while i < text.len() {
-        so_far = begins_with(so_far, text[i]);
-        if so_far == Begins::OFFSET {
-            return line;
-        }
-        i += 1;
-        if so_far == Begins::NOTHING {
-            line = i;
+    let mut so_far = Begins::Nothing;
+    for (i, x) in text.iter().enumerate() {
+        so_far = so_far.with(*x);
+        match so_far {
+            Begins::Offset => return Some(line),
+            Begins::Nothing => line = i + 1,
+            _ => {}
         }
     }
-    i
+    None
 }
 
 // Where the first brace stands, if nothing but blanks stands before it, or an = and blanks: an array's.
-pub fn brace(text: &[u8]) -> usize
-    ensures { (result ≡ brace_of text.now) × (result ≤ length text.now) }
+pub fn brace(text: &[u8]) -> Option<usize>
+    ensures at { unwrap_or result (length text.now) ≡ brace_of text.now }
+    ensures inside { IfSome result (λ i. i < length text.now) }
 {
     let mut last = b'=';
-    let mut i = 0;
-    while i < text.len() {
-        if text[i] == b'{' {
-            if last == b'=' {
-                return i;
-            }
-            return text.len();
+    for (i, x) in text.iter().enumerate() {
+        if *x == b'{' {
+            return (last == b'=').then_some(i);
         }
-        if !is_blank(text[i]) {
-            last = text[i];
+        if !is_blank(*x) {
+            last = *x;
         }
-        i += 1;
     }
-    i
+    None
 }

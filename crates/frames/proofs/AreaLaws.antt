@@ -1,12 +1,13 @@
 -- An area is framed to bodies exactly if it is a run of options with these bodies (RULES W1 to W8), and is a fault exactly if it is none
 -- (RULES R3); once over the carrier. Assumes nothing.
-use Rattle.std.specs.Prelude.{◌≡◌, refl, Bool, true, false, ◌↔◌, List, [], ◌∷◌, ◌++◌, ℕ, zero, suc, ◌+◌, ◌^◌, ◌≤◌, ◌<◌, length, get_or, take, drop, ltb, eqb}
+use Rattle.std.specs.Prelude.{◌≡◌, refl, Bool, true, false, ◌↔◌, List, [], ◌∷◌, ◌++◌, ℕ, zero, suc, ◌+◌, ◌^◌, ◌≤◌, ◌<◌, length, get_or, take, drop, ltb, eqb, Result, Ok, Err}
 use Rattle.std.proofs.Common.{sym, ap, ap₂, ◌∙◌, subst, true≢false, arith, length-append, length-drop, take-append-drop, get_or-take, length-take-le, take_at, drop_at, drop-drop, eq-eqb, ne_eqb, eqb-true, ltb-true, ltb-false}
 use Rattle.std.proofs.Math.Path.{subst⁻¹}
 use Rattle.std.proofs.lemmas.Bool.{false≢true, eqb-false}
 use Rattle.octets.specs.Numbers.{be, number_at, Octet, Bytes}
 use Rattle.octets.specs.NumbersLaws.{length-be, be-val, val-small, number-laid, number-local}
 use Rattle.octets.specs.ListsLaws.{all_take, all_drop}
+use Rattle.numbers.specs.declared.Refusal.{Refusal}
 use Rattle.carriers.specs.declared.Carrier.{Carrier}
 use Rattle.carriers.specs.Carriers.{code_of, head_width, header_of, has_reserved, bare_code, in_eights, is_joined, octets}
 use Rattle.carriers.proofs.CarriersLaws.{by-joined}
@@ -74,7 +75,7 @@ module _ (c : Carrier) (option : List ℕ) (code : ℕ) (body : List ℕ) (i : I
   octet-there j = (narrow-header (head_width c) option (omega (arith, whole_length)) (marks-narrow c j)).0 ∙ stands-there
 
   -- it stands first: whether it is the carrier's own, and all of its octets
-  pub first-there : first_of c option ≡ Head.Option (eqb code (code_of c)) (octets (length option))
+  pub first-there : first_of c option ≡ Ok (Head.Option (eqb code (code_of c)) (octets (length option)))
   first-there =
       let pos = header-pos c in
       let len = whole_length in
@@ -82,7 +83,7 @@ module _ (c : Carrier) (option : List ℕ) (code : ℕ) (body : List ℕ) (i : I
       mark-other (get_or option 0 0) (head_in c option) (is_joined c)
       (λ j. subst Unmarked (sym (octet-there j)) (i.unmarked j))
       ∙ head-option c option (omega arith) (λ z. omega arith)
-      ∙ ap₂ (λ (x n : ℕ). Head.Option (eqb x (code_of c)) (octets n)) code-there size
+      ∙ ap₂ (λ (x n : ℕ). Ok (Head.Option (eqb x (code_of c)) (octets n))) code-there size
 
   -- an option, and then the rest
   pub option-framed : (rest : List ℕ) → frame c (option ++ rest) ≡ onto (eqb code (code_of c)) body (frame c rest)
@@ -201,14 +202,14 @@ module _ (c : Carrier) (s : List ℕ) (bodies : List (List ℕ)) (some : 0 < len
       plain : first_of c s ≡ head_in c s
       plain = mark-other (get_or s 0 0) (head_in c s) (is_joined c) other
 
-      fits : {b : Bool} {n : ℕ} → head_in c s ≡ Head.Option b (octets n) → (t : Bool) → ltb (length s) n ≡ t → Area c s bodies
+      fits : {b : Bool} {n : ℕ} → head_in c s ≡ Ok (Head.Option b (octets n)) → (t : Bool) → ltb (length s) n ≡ t → Area c s bodies
       fits h true t = absurd (fault-framed (sym (frame-over c s some (plain ∙ h) (ltb-true _ _ t)) ∙ e))
       fits h false t = first-option other (head-inv c s h) (ltb-false _ _ t)
 
-      go : (z : Head) → head_in c s ≡ z → Area c s bodies
-      go Head.Bad h = absurd (fault-framed (sym (frame-bad c s some (plain ∙ h)) ∙ e))
-      go Head.End h = absurd (head-end c s h)
-      go (Head.Option b size) h = fits h (ltb (length s) size.0) refl
+      go : (z : Result Head Refusal) → head_in c s ≡ z → Area c s bodies
+      go (Err r) h = absurd (fault-framed (sym (frame-bad c s some (plain ∙ h)) ∙ e))
+      go (Ok Head.End) h = absurd (head-end c s h)
+      go (Ok (Head.Option b size)) h = fits h (ltb (length s) size.0) refl
 
 framed-first : (c : Carrier) (s : List ℕ) (bodies : List (List ℕ)) → Bytes s → frame c s ≡ framed bodies
     → ((r : List ℕ) (bs : List (List ℕ)) → length r < length s → Bytes r → frame c r ≡ framed bs → Area c r bs) → Area c s bodies

@@ -1,9 +1,10 @@
 -- Areas put together and cut: the frame of a framed area and what follows it, and the frames of the leading parts of an area made of
 -- own options. Assumes nothing.
-use Rattle.std.specs.Prelude.{◌≡◌, refl, Bool, true, false, List, [], ◌∷◌, ◌++◌, ℕ, zero, suc, ◌+◌, ◌-◌, ◌≤◌, ◌<◌, length, get_or, take, drop, ltb}
+use Rattle.std.specs.Prelude.{◌≡◌, refl, Bool, true, false, List, [], ◌∷◌, ◌++◌, ℕ, zero, suc, ◌+◌, ◌-◌, ◌≤◌, ◌<◌, length, get_or, take, drop, ltb, Result, Ok, Err}
 use Rattle.std.proofs.Common.{sym, ap, ap₂, ◌∙◌, arith, length-append, take-append-drop, take_at, length-take-le, ltb-true, ltb-false}
 use Rattle.std.proofs.lemmas.List.{take-append-le}
 use Rattle.std.proofs.Math.Seq.{take-append-add}
+use Rattle.numbers.specs.declared.Refusal.{Refusal}
 use Rattle.carriers.specs.declared.Carrier.{Carrier}
 use Rattle.carriers.specs.Carriers.{header_of, is_joined, octets, Plain}
 use Rattle.frames.specs.declared.Head.{Head}
@@ -19,7 +20,7 @@ use Rattle.frames.proofs.EmitLaws.{option-first, frame-own, frame-options}
 
 -- ---- putting areas together
 
-first_plain : (c : Carrier) (s : List ℕ) → Plain c → first_of c s ≡ Head.End → ⊥
+first_plain : (c : Carrier) (s : List ℕ) → Plain c → first_of c s ≡ Ok Head.End → ⊥
 first_plain c s p e = head-end c s (sym (mark-apart (get_or s 0 0) (head_in c s) (is_joined c) p) ∙ e)
 
 onto-prepend : (own : Bool) (b : List ℕ) (cs bs : List (List ℕ)) (f : Framed) → onto own b (framed cs) ≡ framed bs → onto own b (prepend cs f) ≡ prepend bs f
@@ -47,12 +48,12 @@ module _ (c : Carrier) (plain : Plain c) (x : ℕ) (xs b : List ℕ)
       ap₂ (λ (l : List ℕ) (f : Framed). onto own (drop (header_of c) l) f) (take-append-le n (x ∷ xs) b there') (ih (n - 1) cs q)
       ∙ onto-prepend own (drop (header_of c) (take n (x ∷ xs))) cs bs (frame c b) o
 
-  append-first : (z : Head) (bs : List (List ℕ)) → first_of c (x ∷ xs) ≡ z → after c (x ∷ xs) z (λ k. frame_from c k xs) ≡ framed bs
+  append-first : (z : Result Head Refusal) (bs : List (List ℕ)) → first_of c (x ∷ xs) ≡ z → after c (x ∷ xs) z (λ k. frame_from c k xs) ≡ framed bs
       → after c (x ∷ xs ++ b) (first_of c (x ∷ xs ++ b)) (λ k. frame_from c k (xs ++ b)) ≡ prepend bs (frame c b)
-  append-first Head.Bad bs e o = absurd (fault-framed o)
-  append-first Head.End bs e o = absurd (first_plain c (x ∷ xs) plain e)
-  append-first (Head.Option own size) bs e o =
-      ap (λ (z : Head). after c (x ∷ xs ++ b) z (λ k. frame_from c k (xs ++ b))) (first-append c (x ∷ xs) b (omega arith) e)
+  append-first (Err r) bs e o = absurd (fault-framed o)
+  append-first (Ok Head.End) bs e o = absurd (first_plain c (x ∷ xs) plain e)
+  append-first (Ok (Head.Option own size)) bs e o =
+      ap (λ (z : Result Head Refusal). after c (x ∷ xs ++ b) z (λ k. frame_from c k (xs ++ b))) (first-append c (x ∷ xs) b (omega arith) e)
       ∙ append-rest own size.0 bs (frame_from c (size.0 - 1) xs) refl o
 
 append-from : (c : Carrier) → Plain c → (k : ℕ) (a b : List ℕ) (bs : List (List ℕ)) → frame_from c k a ≡ framed bs
@@ -93,7 +94,7 @@ cut_inside c b k f p h = go (ltb k (header_of c)) refl
     go false t =
         let ge : header_of c ≤ k = ltb-false _ _ t in
         let there : header_of c ≤ length (take k (option_of c b)) = omega (arith, len) in
-        let same : first_of c (take k (option_of c b)) ≡ Head.Option true (octets (length (option_of c b))) =
+        let same : first_of c (take k (option_of c b)) ≡ Ok (Head.Option true (octets (length (option_of c b)))) =
         sym (first-local c (take k (option_of c b)) (drop k (option_of c b)) there) ∙ ap (first_of c) (take-append-drop k (option_of c b)) ∙ option-first c b f in
         frame-over c (take k (option_of c b)) some same (omega (arith, len))
 

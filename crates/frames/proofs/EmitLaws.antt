@@ -1,5 +1,5 @@
 -- Own options that were written are framed to their bodies, in every carrier. Assumes nothing.
-use Rattle.std.specs.Prelude.{◌≡◌, refl, Bool, true, false, List, [], ◌∷◌, ◌++◌, ℕ, ◌+◌, ◌^◌, ◌≤◌, ◌<◌, length, drop, eqb}
+use Rattle.std.specs.Prelude.{◌≡◌, refl, Bool, true, false, List, [], ◌∷◌, ◌++◌, ℕ, ◌+◌, ◌^◌, ◌≤◌, ◌<◌, length, drop, eqb, Ok}
 use Rattle.std.proofs.Common.{sym, ap, ◌∙◌, subst, true≢false, append_assoc, arith, length-append, drop_at, eq-eqb}
 use Rattle.std.proofs.Math.Path.{subst⁻¹}
 use Rattle.std.proofs.Math.Nat.{pow-le-pow_right}
@@ -89,9 +89,9 @@ own_code : (c : Carrier) → eqb (code_of c) (code_of c) ≡ true
 own_code c = eq-eqb (code_of c) (code_of c) refl
 
 -- it is a whole own option
-pub option-first : (c : Carrier) (b : List ℕ) → Fits c b → first_of c (option_of c b) ≡ Head.Option true (octets (length (option_of c b)))
+pub option-first : (c : Carrier) (b : List ℕ) → Fits c b → first_of c (option_of c b) ≡ Ok (Head.Option true (octets (length (option_of c b))))
 option-first c b f =
-    first-there c (option_of c b) (code_of c) b (option_is c b f) ∙ ap (λ (own : Bool). Head.Option own (octets (length (option_of c b)))) (own_code c)
+    first-there c (option_of c b) (code_of c) b (option_is c b f) ∙ ap (λ (own : Bool). Ok (Head.Option own (octets (length (option_of c b))))) (own_code c)
 
 -- an own option, and then the rest
 pub frame-own : (c : Carrier) (b rest : List ℕ) → Fits c b → frame c (option_of c b ++ rest) ≡ onto true b (frame c rest)

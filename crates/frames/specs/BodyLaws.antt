@@ -1,11 +1,12 @@
 -- What holds of every body of a framed area: its length, its units in carrier 3, and that it is octets; and what the blocks are.
 -- Assumes nothing.
-use Rattle.std.specs.Prelude.{◌≡◌, Bool, true, false, length, take, drop, ltb}
+use Rattle.std.specs.Prelude.{◌≡◌, Bool, true, false, length, take, drop, ltb, Result, Ok, Err}
 use Rattle.std.proofs.Math.Path.{refl}
 use Rattle.std.proofs.Common.{ap, ◌∙◌, subst, arith, length-drop, length-take-le, ltb-true, ltb-false}
 use mathlib.Core.List.{List, [], ◌∷◌}
 use Prim.Native.Nat.{ℕ, zero, suc, ◌+◌, ◌-◌, ◌%◌, ◌≤◌}
 use Rattle.octets.specs.Numbers.{Octet, Bytes}
+use Rattle.numbers.specs.declared.Refusal.{Refusal}
 use Rattle.carriers.specs.declared.Carrier.{Carrier}
 use Rattle.carriers.specs.declared.Carrier.TheVariants.{Router}
 use Rattle.carriers.specs.Carriers.{header_of, is_joined, octets, Plain}
@@ -31,21 +32,21 @@ each-onto P false b (framed bs) p h = h
 -- S holds of an area and of what is left of it as the walk goes on, and gives P of the body that stands first
 module _ (c : Carrier) (S P : List ℕ → Type 0)
     (rest : (x : ℕ) (xs : List ℕ) → S (x ∷ xs) → S xs)
-    (body : (s : List ℕ) (n : ℕ) → S s → first_of c s ≡ Head.Option true (octets n) → n ≤ length s → P (drop (header_of c) (take n s))) where
+    (body : (s : List ℕ) (n : ℕ) → S s → first_of c s ≡ Ok (Head.Option true (octets n)) → n ≤ length s → P (drop (header_of c) (take n s))) where
   each-option : (x : ℕ) (xs : List ℕ) (own : Bool) (n : ℕ) (b : Bool) → ltb (length xs) (n - 1) ≡ b → S (x ∷ xs)
-      → first_of c (x ∷ xs) ≡ Head.Option own (octets n) → EachIn P (frame_from c (n - 1) xs)
+      → first_of c (x ∷ xs) ≡ Ok (Head.Option own (octets n)) → EachIn P (frame_from c (n - 1) xs)
       → EachIn P (onto own (drop (header_of c) (take n (x ∷ xs))) (frame_from c (n - 1) xs))
   each-option x xs own n true t h e ih = rw (past c (n - 1) xs (ltb-true _ _ t)) tt
   each-option x xs own n false t h e ih =
       let le : n - 1 ≤ length xs = ltb-false _ _ t in
       each-onto P own (drop (header_of c) (take n (x ∷ xs))) (frame_from c (n - 1) xs)
-      (λ q. body (x ∷ xs) n h (e ∙ ap (λ (own : Bool). Head.Option own (octets n)) q) (omega arith)) ih
+      (λ q. body (x ∷ xs) n h (e ∙ ap (λ (own : Bool). Ok (Head.Option own (octets n))) q) (omega arith)) ih
 
-  each-head : (x : ℕ) (xs : List ℕ) (z : Head) → S (x ∷ xs) → first_of c (x ∷ xs) ≡ z → ((k : ℕ) → EachIn P (frame_from c k xs))
+  each-head : (x : ℕ) (xs : List ℕ) (z : Result Head Refusal) → S (x ∷ xs) → first_of c (x ∷ xs) ≡ z → ((k : ℕ) → EachIn P (frame_from c k xs))
       → EachIn P (after c (x ∷ xs) z (λ k. frame_from c k xs))
-  each-head x xs Head.Bad h e ih = tt
-  each-head x xs Head.End h e ih = tt
-  each-head x xs (Head.Option own size) h e ih =
+  each-head x xs (Err r) h e ih = tt
+  each-head x xs (Ok Head.End) h e ih = tt
+  each-head x xs (Ok (Head.Option own size)) h e ih =
       each-option x xs own size.0 (ltb (length xs) (size.0 - 1)) refl h e (ih (size.0 - 1))
 
   each_from : (k : ℕ) (s : List ℕ) → S s → EachIn P (frame_from c k s)

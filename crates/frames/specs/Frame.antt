@@ -1,11 +1,13 @@
 -- How an area is framed (RULES W1 to W8), once over the carrier. Assumes nothing: these are definitions.
-use Rattle.std.specs.Prelude.{ℕ, zero, suc, ◌+◌, ◌-◌, ◌*◌, Bool, true, false, cond, List, [], ◌∷◌, length, get_or, take, drop, ltb, eqb}
+use Rattle.std.specs.Prelude.{ℕ, zero, suc, ◌+◌, ◌-◌, ◌*◌, Bool, true, false, cond, List, [], ◌∷◌, length, get_or, take, drop, ltb, eqb, Result, Ok, Err}
 use Rattle.octets.specs.Numbers.{number_at}
 use Rattle.numbers.specs.Refusal as refusal
+use Rattle.numbers.specs.declared.Refusal.{Refusal}
+use Rattle.numbers.specs.declared.Refusal.TheVariants.{Framing}
 use Rattle.carriers.specs.declared.Carrier.{Carrier}
 use Rattle.carriers.specs.Carriers.{code_of, head_width, header_of, has_reserved, bare_code, in_eights, is_joined, octets}
 use Rattle.frames.specs.declared.Head.{Head}
-use Rattle.frames.specs.declared.Head.TheVariants.{Bad, End, Option}
+use Rattle.frames.specs.declared.Head.TheVariants.{End, Option}
 
 -- ---- one header
 
@@ -21,17 +23,17 @@ abbrev pub size_in : Carrier → List ℕ → ℕ
 size_in c s = whole_size (in_eights c) (header_of c) (number_at (head_width c) (head_width c) s)
 
 -- a header that runs past the end is no header, and neither is one that says a size of 0, which only carrier 3 can say (RFC 4861 §4.6)
-abbrev pub head_in : Carrier → List ℕ → Head
+abbrev pub head_in : Carrier → List ℕ → Result Head Refusal
 head_in c s =
-    cond (ltb (length s) (header_of c)) Bad
-    (cond (eqb (size_in c s) 0) Bad
-    (Option (eqb (code_in c s) (code_of c)) (octets (size_in c s))))
+    cond (ltb (length s) (header_of c)) (Err Framing)
+    (cond (eqb (size_in c s) 0) (Err Framing)
+    (Ok (Option (eqb (code_in c s) (code_of c)) (octets (size_in c s)))))
 
 -- in carrier 1, code 0 is one octet of padding, and code 255 ends the area (RFC 2132 §3.1, §3.2)
-abbrev pub or_mark : Bool → ℕ → Head → Head
-or_mark joined x z = cond joined (cond (eqb x 0) (Option false (octets 1)) (cond (eqb x 255) End z)) z
+abbrev pub or_mark : Bool → ℕ → Result Head Refusal → Result Head Refusal
+or_mark joined x z = cond joined (cond (eqb x 0) (Ok (Option false (octets 1))) (cond (eqb x 255) (Ok End) z)) z
 
-abbrev pub first_of : Carrier → List ℕ → Head
+abbrev pub first_of : Carrier → List ℕ → Result Head Refusal
 first_of c s = or_mark (is_joined c) (get_or s 0 0) (head_in c s)
 
 -- ---- an area
@@ -57,10 +59,10 @@ onto true b (framed bs) = framed (b ∷ bs)
 onto false b (framed bs) = framed bs
 
 -- `s` begins with the header; `go k` frames what follows the first octet of `s` and k more. What follows an end is ignored
-abbrev pub after : Carrier → List ℕ → Head → (ℕ → Framed) → Framed
-after c s Bad go = fault
-after c s End go = framed []
-after c s (Option own size) go = onto own (drop (header_of c) (take size.0 s)) (go (size.0 - 1))
+abbrev pub after : Carrier → List ℕ → Result Head Refusal → (ℕ → Framed) → Framed
+after c s (Err _) go = fault
+after c s (Ok End) go = framed []
+after c s (Ok (Option own size)) go = onto own (drop (header_of c) (take size.0 s)) (go (size.0 - 1))
 
 -- the area with its first k octets still to be skipped; a body that runs past the end is a fault
 unfoldable pub frame_from : Carrier → ℕ → List ℕ → Framed

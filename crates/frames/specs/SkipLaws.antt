@@ -1,5 +1,5 @@
 -- How foreign options are passed over: none at first, then one whole option after another. Assumes nothing.
-use Rattle.std.specs.Prelude.{◌≡◌, refl, Bool, false, List, ℕ, ◌+◌, ◌-◌, ◌≤◌, length, get_or, take, drop}
+use Rattle.std.specs.Prelude.{◌≡◌, refl, Bool, false, List, ℕ, ◌+◌, ◌-◌, ◌≤◌, length, get_or, take, drop, Ok}
 use Rattle.std.proofs.Common.{sym, ap, ap₂, ◌∙◌, arith, length-drop, ne_eqb}
 use Rattle.octets.specs.Numbers.{number_at}
 use Rattle.octets.specs.ListsLaws.{take_rest}
@@ -27,21 +27,21 @@ module _ {code : ℕ} {reserved : Bool} {area : List ℕ} {at n : ℕ} (f : Fore
   size-at : size_in c (drop at area) ≡ 4 + n
   size-at = rw (w.width, w.octets) (ap (λ (k : ℕ). 4 + k) (ap (number_at 2 2) (sym (take_rest at area)) ∙ sym f.says))
 
-  head_at_lem : first_of c (drop at area) ≡ Head.Option false (octets (4 + n))
+  head_at_lem : first_of c (drop at area) ≡ Ok (Head.Option false (octets (4 + n)))
   head_at_lem =
       let room : header_of c ≤ length (drop at area) = omega (arith, w.width, f.header, length-drop at area) in
       let size = size-at in
       ap (λ (j : Bool). or_mark j (get_or (drop at area) 0 0) (head_in c (drop at area))) w.apart
       ∙ head-option c (drop at area) room (λ z. omega arith)
-      ∙ ap₂ (λ (b : Bool) (k : ℕ). Head.Option b (octets k)) (ne_eqb _ _ other_at) size
+      ∙ ap₂ (λ (b : Bool) (k : ℕ). Ok (Head.Option b (octets k))) (ne_eqb _ _ other_at) size
 
-  foreign-step : step_at c area at ≡ Step.Skipped (at + 4 + n)
+  foreign-step : step_at c area at ≡ Ok (Step.Skipped (at + 4 + n))
   foreign-step =
       let end : at + (4 + n) ≡ at + 4 + n = omega arith in
       step-first c area at (omega (arith, f.header))
       ∙ ap (head_at c (length area - at) at) head_at_lem
       ∙ option-fits c (length area - at) at false (4 + n) (omega (arith, f.header, f.whole))
-      ∙ ap Step.Skipped end
+      ∙ ap (λ (k : ℕ). Ok (Step.Skipped k)) end
 
 -- ---- a run of options
 
@@ -64,7 +64,7 @@ module _ {c : Carrier} {area : List ℕ} {from : ℕ} where
   skips-then s (more t e) = more (skips-then s t) e
 
 -- a step over an option that is not the carrier's own
-pub skips-step : (c : Carrier) (area : List ℕ) (at : ℕ) {end : ℕ} → step_at c area at ≡ Step.Skipped end → Skips c area at end
+pub skips-step : (c : Carrier) (area : List ℕ) (at : ℕ) {end : ℕ} → step_at c area at ≡ Ok (Step.Skipped end) → Skips c area at end
 skips-step c area at e = let m = step-skipped c area at e in more (none (omega (arith, m.0, m.1))) e
 
 module _ {code : ℕ} {reserved : Bool} {area : List ℕ} {from : ℕ} where

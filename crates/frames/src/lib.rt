@@ -1,7 +1,6 @@
 // The framing of an area (RULES W1 to W8): where each option begins and ends, and which are the carrier's own. One walk for all five
 // carriers, in which lengths in octets and in units of eight are never mixed (RULES B3). An area where a header or a body runs past the
 // end cannot be framed (RULES R3). In carrier 1 the bodies are joined here (RULES W4; RFC 3396). Nothing here looks inside a body.
-// The number of every answer, 3 or 0, is that of specs/Told.
 #![tactic(auto)]
 
 ghost use Rattle.std.specs.Prelude.{◌≡◌, ◌↔◌, ◌+◌, ◌*◌, ◌≤◌, ◌<◌, length};
@@ -14,10 +13,11 @@ ghost use Rattle.frames.specs.Frame.{whole_size, head_in, first_of, frame};
 ghost use Rattle.frames.specs.Step.{step_at};
 ghost use Rattle.frames.specs.Skip.{Skips, Passes};
 ghost use Rattle.frames.specs.Emit.{length_said, head_of, CanSay};
-ghost use Rattle.frames.specs.Told.{head_number, NoHeader, NothingFirst, StepSays, joined_length};
+ghost use Rattle.frames.specs.Told.{NoHeader, NothingFirst, StepSays, joined_length};
 ghost use Rattle.frames.specs.Gather.{GatheredFrom, Joins};
 
 use carriers::{Carrier, Eights, Octets};
+use numbers::Refusal;
 
 // Codes of carrier 1 that have no length octet: one octet of padding, and the end of the area (RFC 2132 §3.1, §3.2).
 const PAD: u8 = 0;
@@ -40,40 +40,29 @@ struct Header {
     lower: u8,
 }
 
-// What the header that stands first says: nothing that can be framed, the area's end, or an option of `size` octets, its header
-// counted, which is the carrier's own or not.
+// What the header that stands first says: the area's end, or an option of `size` octets, its header counted, which is the carrier's own or not.
 #[derive(Clone, Copy)]
 pub enum Head {
-    Bad,
     End,
     Option { own: bool, size: Octets },
 }
 
-// What stands at an index of an area: an own option with its body from `start` up to `end`, where the walk goes on; another option;
-// the area's end; or what cannot be framed.
+// What stands at an index of an area: an own option with its body from `start` up to `end`, where the walk goes on; another option; or the
+// area's end.
 #[derive(Clone, Copy)]
 pub enum Step {
     Block { start: usize, end: usize },
     Skipped { end: usize },
     End,
-    Fault,
 }
 
-// The options 162 of an area: it cannot be framed, there is none, one with its body from `start` up to `end`, or several, with nothing to join
-// before `from`. With the second the walk ends, and the area may still be one that cannot be framed.
+// The options 162 of an area: there is none, one with its body from `start` up to `end`, or several, with nothing to join before `from`. With the
+// second the walk ends, and the area may still be one that cannot be framed.
 #[derive(Clone, Copy)]
 pub enum Gathered {
-    Broken,
     Absent,
     One { start: usize, end: usize },
     Many { from: usize },
-}
-
-// What joining the options 162 of an area answers: it cannot be framed, or how many octets were joined.
-#[derive(Clone, Copy)]
-pub enum Joined {
-    Broken,
-    Whole(usize),
 }
 
 // The header that stands first in `s`, with a code and a length of `width` octets each.
@@ -84,7 +73,7 @@ fn header_in(width: usize, s: &[u8]) -> Header
 {
     if width == 1 {
         return Header {
-            code: octets::wide(s[0]),
+            code: usize::from(s[0]),
             upper: 0,
             lower: s[1],
         };
@@ -116,74 +105,71 @@ fn whole_size(eights: bool, header: usize, n: usize) -> Octets
 }
 
 // What a header with a code and a length says.
-fn head_in(c: Carrier, s: &[u8]) -> Head
+fn head_in(c: Carrier, s: &[u8]) -> Result<Head, Refusal>
     ensures value { result ≡ head_in c s.now }
-    ensures variant { (head_number result ≡ refusal.framing) ↔ NoHeader c s.now }
+    ensures variant { (refusal.number_in result ≡ refusal.framing) ↔ NoHeader c s.now }
 {
     let f = c.facts();
     let width = f.width;
     let header = width + width;
     if s.len() < header {
-        return Head::Bad;
+        return Err(Refusal::Framing);
     }
     let h = header_in(width, s);
     let size = whole_size(f.eights, header, octets::wide16(h.upper, h.lower));
     if size.none() {
-        return Head::Bad;
+        return Err(Refusal::Framing);
     }
-    Head::Option {
+    Ok(Head::Option {
         own: bare_code(f.reserved, h.code) == f.code,
         size,
-    }
+    })
 }
 
 // What the header that stands first in `s` says.
-pub fn first(c: Carrier, s: &[u8]) -> Head
+pub fn first(c: Carrier, s: &[u8]) -> Result<Head, Refusal>
     requires { 0 < length s.now }
     ensures value { result ≡ first_of c s.now }
-    ensures variant { (head_number result ≡ refusal.framing) ↔ NothingFirst c s.now }
+    ensures variant { (refusal.number_in result ≡ refusal.framing) ↔ NothingFirst c s.now }
 {
     let f = c.facts();
     if f.joined {
         let code = s[0];
         if code == PAD {
-            return Head::Option {
+            return Ok(Head::Option {
                 own: false,
                 size: Octets(1),
-            };
+            });
         }
         if code == END {
-            return Head::End;
+            return Ok(Head::End);
         }
-        return head_in(c, s);
     }
     head_in(c, s)
 }
 
-// What stands at an index of the area.
-pub fn next_block(c: Carrier, area: &[u8], at: usize) -> Step
+// What stands at an index of the area. (No iterator of blocks: reading passes over foreign options between two steps, by `skip_foreign`, and an index
+// in a struct was measured slower as a loop's variable; docs/DESIGN.md, Speed.)
+pub fn next_block(c: Carrier, area: &[u8], at: usize) -> Result<Step, Refusal>
     requires { at ≤ length area.now }
     ensures value { result ≡ step_at c area.now at }
     ensures step_says { StepSays c area.now at result }
 {
     if at == area.len() {
-        return Step::End;
+        return Ok(Step::End);
     }
-    match first(c, &area[at..]) {
-        Head::Bad => Step::Fault,
-        Head::End => Step::End,
+    match first(c, &area[at..])? {
+        Head::End => Ok(Step::End),
         Head::Option { own, size } => {
-            let n = size.0;
-            if n <= area.len() - at {
-                let end = at + n;
-                if own {
-                    let start = at + c.header_size();
-                    Step::Block { start, end }
-                } else {
-                    Step::Skipped { end }
-                }
+            if area.len() - at < size.0 {
+                return Err(Refusal::Framing);
+            }
+            let end = at + size.0;
+            if own {
+                let start = at + c.header_size();
+                Ok(Step::Block { start, end })
             } else {
-                Step::Fault
+                Ok(Step::Skipped { end })
             }
         }
     }
@@ -206,7 +192,7 @@ fn skip_wide(code: usize, reserved: bool, area: &[u8], from: usize) -> usize
         }
         let start = at + WIDE_HEADER;
         if h.upper == 0 {
-            let n = octets::wide(h.lower);
+            let n = usize::from(h.lower);
             if area.len() - start < n {
                 return at;
             }
@@ -227,16 +213,10 @@ pub fn skip_foreign(c: Carrier, area: &[u8], at: usize) -> usize
     ensures { Skips c area.now at result }
 {
     let f = c.facts();
-    if f.joined {
+    if f.joined || f.eights || f.width != WIDE {
         return at;
     }
-    if f.eights {
-        return at;
-    }
-    if f.width == WIDE {
-        return skip_wide(f.code, f.reserved, area, at);
-    }
-    at
+    skip_wide(f.code, f.reserved, area, at)
 }
 
 // The length that says a body of n octets after a header of `header` octets.
@@ -245,8 +225,7 @@ fn length_said(eights: bool, header: usize, n: usize) -> usize
     ensures { result ≡ length_said eights header n }
 {
     if eights {
-        let units = carriers::eights_of(Octets(n + header));
-        units.0
+        carriers::eights_of(Octets(n + header)).0
     } else {
         n
     }
@@ -266,37 +245,30 @@ pub fn put_header(out: &mut [u8], at: usize, c: Carrier, n: usize) -> usize
 }
 
 // The options 162 of an area of carrier 1.
-pub fn gather(area: &[u8]) -> Gathered
+pub fn gather(area: &[u8]) -> Result<Gathered, Refusal>
     ensures { GatheredFrom area.now result }
 {
     let mut at: usize = 0;
     let mut from: usize = 0;
     let mut found = Gathered::Absent;
     loop {
-        match next_block(Carrier::Dhcp4, area, at) {
+        match next_block(Carrier::Dhcp4, area, at)? {
             Step::Block { start, end } => {
                 let Gathered::Absent = found else {
-                    return Gathered::Many { from };
+                    return Ok(Gathered::Many { from });
                 };
                 found = Gathered::One { start, end };
                 from = at;
                 at = end;
             }
-            Step::Skipped { end } => {
-                at = end;
-            }
-            Step::End => {
-                return found;
-            }
-            Step::Fault => {
-                return Gathered::Broken;
-            }
+            Step::Skipped { end } => at = end,
+            Step::End => return Ok(found),
         }
     }
 }
 
-// Copies the bodies of all options 162 of an area of carrier 1, one after another, to the front of `out`.
-pub fn join(area: &[u8], out: &mut [u8]) -> Joined
+// Copies the bodies of all options 162 of an area of carrier 1, one after another, to the front of `out`, and returns how many octets they have.
+pub fn join(area: &[u8], out: &mut [u8]) -> Result<usize, Refusal>
     requires { length area.now ≤ length out.old }
     ensures joins { Joins (frame Dhcp4 area.now) out.old result out.new }
     ensures result_in_bounds { joined_length result ≤ length area.now }
@@ -304,20 +276,13 @@ pub fn join(area: &[u8], out: &mut [u8]) -> Joined
     let mut at: usize = 0;
     let mut n: usize = 0;
     loop {
-        match next_block(Carrier::Dhcp4, area, at) {
+        match next_block(Carrier::Dhcp4, area, at)? {
             Step::Block { start, end } => {
                 n = octets::copy(out, n, &area[start..end]);
                 at = end;
             }
-            Step::Skipped { end } => {
-                at = end;
-            }
-            Step::End => {
-                return Joined::Whole(n);
-            }
-            Step::Fault => {
-                return Joined::Broken;
-            }
+            Step::Skipped { end } => at = end,
+            Step::End => return Ok(n),
         }
     }
 }

@@ -7,7 +7,7 @@ use Rattle.hexes.specs.Hexes.{value}
 use Rattle.hexes.specs.Spelled.{Digit, decimal, upper, lower}
 use Rattle.hexes.specs.Exactly.{digit-is}
 use Rattle.groups.specs.declared.Kind.{Kind}
-use Rattle.groups.specs.declared.state.State.{State}
+use Rattle.groups.specs.State.{State}
 use Rattle.groups.specs.States.{fresh, blank, digit_on, prefix, allowed, close, moved}
 use Rattle.groups.specs.StatesLaws.{within-begins, begins-prefix, begins-digital, digital-digit}
 use Rattle.groups.specs.Spells.{Blank, Mark, Ex, Proper, Pairs, Digits, Group, Ends, Listed}

@@ -4,8 +4,7 @@ use Rattle.std.specs.Prelude.{◌≡◌, cond, List, [], ◌∷◌, ◌++◌, �
 use Rattle.hexes.specs.Hexes.{digit}
 use Rattle.hexes.specs.Hexes as hexes
 use Rattle.inputs.specs.Why as why
-use Rattle.inputs.specs.declared.Read.{Read}
-use Rattle.inputs.specs.declared.Read.TheVariants.{Octets, Bad, Long}
+use Rattle.inputs.specs.Read.{Read, Octets, Bad, Long}
 
 -- where such a text stands: between octets 0, after the backslash 1, after the x 2, after the first digit 3, after the second 4; 5 that it is none
 abbrev pub between : ℕ → ℕ

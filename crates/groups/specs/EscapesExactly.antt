@@ -8,8 +8,7 @@ use Rattle.hexes.specs.Hexes.{digit, value}
 use Rattle.hexes.specs.Spelled.{Digit}
 use Rattle.hexes.specs.Exactly.{digit-says, digit-is}
 use Rattle.inputs.specs.Why as why
-use Rattle.inputs.specs.declared.Read.{Read}
-use Rattle.inputs.specs.declared.Read.TheVariants.{Octets, Bad, Long}
+use Rattle.inputs.specs.Read.{Read, Octets, Bad, Long}
 use Rattle.groups.specs.Escapes.{between, next, octet_of, Ended, ended, read_from, read_of}
 use Rattle.groups.specs.Filling.{Machine, Step, ends, passes, lays, Reader, runs-one, read-runs, runs-read}
 use Rattle.groups.specs.Filling as filling

@@ -7,8 +7,7 @@ use Rattle.std.proofs.Math.ListN.{drop}
 use Rattle.hexes.specs.Hexes.{digit}
 use Rattle.hexes.specs.Hexes as hexes
 use Rattle.inputs.specs.Why as why
-use Rattle.inputs.specs.declared.Read.{Read}
-use Rattle.inputs.specs.declared.Read.TheVariants.{Octets, Bad, Long}
+use Rattle.inputs.specs.Read.{Read, Octets, Bad, Long}
 use Rattle.groups.specs.Escapes.{next, octet_of, Ended, ended, arrive, read_from, read_of, Escaped}
 use Rattle.inputs.specs.TextLaws.{closed-cons, closed-end}
 

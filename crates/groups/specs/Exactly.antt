@@ -4,8 +4,7 @@ use Rattle.std.proofs.Common.{sym, ap, ◌∙◌, subst, inl, inr, ⊎_elim, zer
 use Rattle.std.proofs.lemmas.Bool.{false≢true}
 use Rattle.octets.specs.Lists.{All, flat}
 use Rattle.octets.specs.Over.{over}
-use Rattle.inputs.specs.declared.Read.{Read}
-use Rattle.inputs.specs.declared.Read.TheVariants.{Octets}
+use Rattle.inputs.specs.Read.{Read, Octets}
 use Rattle.groups.specs.declared.Kind.{Kind}
 use Rattle.groups.specs.States.{begun}
 use Rattle.groups.specs.Groups.{ended, read_from, read_of}

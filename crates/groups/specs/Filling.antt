@@ -4,8 +4,7 @@ use Rattle.std.specs.Prelude.{◌≡◌, refl, Bool, true, false, cond, List, []
 use Rattle.std.proofs.Common.{sym, ap, ◌∙◌, append-nil, append_assoc, add-zero, add-one, arith, length-set, take-suc-set}
 use Rattle.octets.specs.Over.{over}
 use Rattle.octets.specs.OverLaws.{over-nil, over-set, over-over}
-use Rattle.inputs.specs.declared.Read.{Read}
-use Rattle.inputs.specs.declared.Read.TheVariants.{Octets}
+use Rattle.inputs.specs.Read.{Read, Octets}
 
 -- ---- without a buffer
 

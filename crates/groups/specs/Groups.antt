@@ -1,12 +1,11 @@
 -- What a text is read as that is to be a list: its characters one after the other, and a line break after the last. Assumes nothing: these are
 -- definitions.
 use Rattle.std.specs.Prelude.{◌≡◌, cond, List, [], ◌∷◌, ◌++◌, ℕ, ◌+◌, leb, eqb, length, set}
-use Rattle.inputs.specs.declared.Read.{Read}
-use Rattle.inputs.specs.declared.Read.TheVariants.{Octets, Bad, Long}
+use Rattle.inputs.specs.Read.{Read, Octets, Bad, Long}
 use Rattle.groups.specs.declared.Kind.{Kind}
-use Rattle.groups.specs.declared.Turn.{Turn}
-use Rattle.groups.specs.declared.Turn.TheVariants as turns
-use Rattle.groups.specs.declared.state.State.{State}
+use Rattle.groups.specs.Turn.{Turn}
+use Rattle.groups.specs.Turn as turns
+use Rattle.groups.specs.State.{State}
 use Rattle.groups.specs.States.{begun, moved}
 
 -- What comes of a character, and the buffer then

@@ -1,16 +1,15 @@
 -- How a list is read: an octet laid, a character taken, and the turns of the loop over a text. Assumes nothing.
-use Rattle.std.specs.Prelude.{◌≡◌, true, false, ℕ, ◌+◌, ◌≤◌, ◌<◌, length, get_or, set}
+use Rattle.std.specs.Prelude.{◌≡◌, refl, true, false, ℕ, ◌+◌, ◌≤◌, ◌<◌, length, get_or, set}
 use Rattle.std.proofs.Math.Path.{sym, ap}
 use Rattle.std.proofs.Common.{◌∙◌, arith, eq-eqb, ne_eqb, le-leb}
 use mathlib.Core.List.{List, [], ◌∷◌, ◌++◌}
 use Rattle.std.proofs.lemmas.Bool.{lt-leb}
 use Rattle.std.proofs.Math.ListN.{drop}
-use Rattle.inputs.specs.declared.Read.{Read}
-use Rattle.inputs.specs.declared.Read.TheVariants.{Octets, Bad, Long}
+use Rattle.inputs.specs.Read.{Read, Octets, Bad, Long}
 use Rattle.groups.specs.declared.Kind.{Kind}
-use Rattle.groups.specs.declared.Turn.{Turn}
-use Rattle.groups.specs.declared.Turn.TheVariants as turns
-use Rattle.groups.specs.declared.state.State.{State}
+use Rattle.groups.specs.Turn.{Turn}
+use Rattle.groups.specs.Turn as turns
+use Rattle.groups.specs.State.{State}
 use Rattle.groups.specs.States.{begun, moved}
 use Rattle.groups.specs.Groups.{After, after, lay_of, settled, take_of, Turned, Ended, ended, onward, read_from, read_of, Grouped}
 use Rattle.inputs.specs.TextLaws.{closed-cons, closed-end}
@@ -87,3 +86,25 @@ module _ {f : Kind} {text out₀ : List ℕ} where
 
       pub read-long : r ≡ turns.Long → Grouped f text out₀ Long out'
       read-long g = grouped-as (turn g)
+
+-- ---- a turn: x is taken, as k, the kind of the state, has it
+
+module _ {f k : Kind} {text out₀ : List ℕ} {s : State} {n i : ℕ} {out : List ℕ} (g : k ≡ f) (c : Reading f text out₀ s n i out) (h : i ≤ length text)
+    {x : ℕ} (e : x ≡ get_or text i 10) where
+  as-kind : {t : State} → t ≡ moved k x s → t ≡ moved f x s
+  as-kind q = q ∙ ap (λ (f : Kind). moved f x s) g
+
+  pub turn-refused : {w : ℕ} → (w ≡ 0 → ⊥) → w ≡ (moved k x s).why → Grouped f text out₀ (Bad i w) out
+  turn-refused known q =
+      let p = q ∙ ap (λ (f : Kind). (moved f x s).why) g in
+      read-bad c h e (take-bad f s (moved f x s) x n out refl (λ z. known (p ∙ z))) (ap turns.Bad (sym p))
+
+  module _ (t : State) (q : t ≡ moved k x s) (z : t.why ≡ 0) where
+    pub turn-full : t.complete ≡ true → length out ≤ n → Grouped f text out₀ Long out
+    turn-full a b = read-long c h e (take-laid f s t x n out (as-kind q) z (lay-full t n out a b)) refl
+
+    pub turn-laid : t.complete ≡ true → n < length out → Reading f text out₀ t (n + 1) (i + 1) (set out n t.octet)
+    turn-laid a b = read-on c h e (take-laid f s t x n out (as-kind q) z (lay-laid t n out a b)) refl
+
+    pub turn-waiting : t.complete ≡ false → Reading f text out₀ t n (i + 1) out
+    turn-waiting a = read-on c h e (take-laid f s t x n out (as-kind q) z (lay-waiting t n out a)) refl

@@ -1,12 +1,11 @@
 -- A text that is no list leaves it within itself: at one of its characters, or at its end. Assumes nothing.
 use Rattle.std.specs.Prelude.{◌≡◌, List, [], ◌∷◌, ◌++◌, ℕ, ◌+◌, ◌≤◌, length}
 use Rattle.std.proofs.Common.{subst, arith, length-append}
-use Rattle.inputs.specs.declared.Read.{Read}
-use Rattle.inputs.specs.declared.Read.TheVariants.{Octets, Bad, Long}
+use Rattle.inputs.specs.Read.{Read, Octets, Bad, Long}
 use Rattle.groups.specs.declared.Kind.{Kind}
-use Rattle.groups.specs.declared.Turn.{Turn}
-use Rattle.groups.specs.declared.Turn.TheVariants as turns
-use Rattle.groups.specs.declared.state.State.{State}
+use Rattle.groups.specs.Turn.{Turn}
+use Rattle.groups.specs.Turn as turns
+use Rattle.groups.specs.State.{State}
 use Rattle.groups.specs.States.{begun}
 use Rattle.groups.specs.Groups.{take_of, onward, read_from, read_of}
 

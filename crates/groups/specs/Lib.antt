@@ -1,8 +1,13 @@
+pub mod State
+pub mod Turn
+pub mod Held
+pub mod HeldLaws
 pub mod States
 pub mod StatesLaws
 pub mod Groups
 pub mod GroupsLaws
 pub mod Escapes
+pub mod EscapesHeld
 pub mod EscapesLaws
 pub mod Spells
 pub mod Filling

@@ -2,10 +2,10 @@
 use Rattle.std.specs.Prelude.{◌≡◌, refl, Bool, true, false, cond, List, ◌++◌, ℕ, ◌+◌, eqb, leb, length, set}
 use Rattle.std.proofs.Common.{ap, arith, eqb-true, leb-true, leb-false}
 use Rattle.std.proofs.lemmas.Bool.{eqb-false}
-use Rattle.inputs.specs.declared.Read.TheVariants.{Bad, Long}
+use Rattle.inputs.specs.Read.{Bad, Long}
 use Rattle.groups.specs.declared.Kind.{Kind}
-use Rattle.groups.specs.declared.Turn.TheVariants as turns
-use Rattle.groups.specs.declared.state.State.{State}
+use Rattle.groups.specs.Turn as turns
+use Rattle.groups.specs.State.{State}
 use Rattle.groups.specs.States.{moved}
 use Rattle.groups.specs.Groups.{After, after, take_of, Ended, ended, onward, read_from}
 use Rattle.groups.specs.Filling.{Machine, given, Step, ends, passes, lays, Reader}

@@ -8,7 +8,7 @@ use Rattle.hexes.specs.Spelled.{Digit, decimal, upper, lower}
 use Rattle.hexes.specs.Exactly.{digit-says}
 use Rattle.inputs.specs.Why as why
 use Rattle.groups.specs.declared.Kind.{Kind}
-use Rattle.groups.specs.declared.state.State.{State}
+use Rattle.groups.specs.State.{State}
 use Rattle.groups.specs.States.{fresh, blank, but, digit_on, begins, within, allowed, close, line}
 use Rattle.groups.specs.StatesLaws.{begins-prefix, begins-digital}
 use Rattle.groups.specs.Spells.{Blank, Ex, Pairs, Digits, Group, Ends, Listed}

@@ -4,7 +4,7 @@ use Rattle.hexes.specs.Hexes.{digit}
 use Rattle.hexes.specs.Hexes as hexes
 use Rattle.inputs.specs.Why as why
 use Rattle.groups.specs.declared.Kind.{Kind}
-use Rattle.groups.specs.declared.state.State.{State}
+use Rattle.groups.specs.State.{State}
 
 abbrev pub state : ℕ → ℕ → ℕ → Bool → Bool → Bool → Bool → Bool → ℕ → State
 state p d o c q m v l w = record { front = p; digits = d; octet = o; complete = c; after = q; some = m; several = v; wide = l; why = w }

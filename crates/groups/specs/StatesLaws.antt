@@ -6,7 +6,7 @@ use Rattle.hexes.specs.Hexes.{digit}
 use Rattle.hexes.specs.Hexes as hexes
 use Rattle.inputs.specs.Why as why
 use Rattle.groups.specs.declared.Kind.{Kind}
-use Rattle.groups.specs.declared.state.State.{State}
+use Rattle.groups.specs.State.{State}
 use Rattle.groups.specs.States.{state, fresh, blank, but, more, waiting, completing, digit_on, prefix, digital, begins, within}
 use Rattle.groups.specs.States.{ended, ended_one, allowed, close, line, mark, marking, moved}
 

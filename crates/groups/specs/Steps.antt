@@ -5,7 +5,7 @@ use Rattle.std.proofs.lemmas.Bool.{false≢true, eqb-false}
 use Rattle.hexes.specs.Hexes.{digit}
 use Rattle.inputs.specs.Why as why
 use Rattle.groups.specs.declared.Kind.{Kind}
-use Rattle.groups.specs.declared.state.State.{State}
+use Rattle.groups.specs.State.{State}
 use Rattle.groups.specs.States.{state, fresh, blank, but, digit_on, prefix, digital, begins, within, allowed, close, line, mark, moved}
 use Rattle.groups.specs.StatesLaws.{moved-line, moved-blank, moved-marking, marking-mark, marking-within}
 use Rattle.groups.specs.Spells.{Ex}

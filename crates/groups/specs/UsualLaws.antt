@@ -8,7 +8,7 @@ use Rattle.octets.specs.Numbers.{Bytes}
 use Rattle.octets.specs.Over.{over}
 use Rattle.hexes.specs.Hexes.{digit_of, two, hex_of}
 use Rattle.hexes.specs.Spelled.{Digit, decimal, upper, lower}
-use Rattle.inputs.specs.declared.Read.TheVariants.{Octets}
+use Rattle.inputs.specs.Read.{Octets}
 use Rattle.groups.specs.declared.Kind.{Kind}
 use Rattle.groups.specs.Groups.{ended, read_of}
 use Rattle.groups.specs.Spells.{Blank, Mark, Ex, Proper, Pairs, Digits, Listed, Alone, Spells}

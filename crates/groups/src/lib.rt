@@ -3,12 +3,14 @@
 // may be words or offsets is refused: in such a group the octets may stand in another order, or be none.
 #![tactic(auto)]
 
-ghost use Rattle.groups.specs.Groups.{lay_of, take_of, Turned, Grouped};
+ghost use Rattle.groups.specs.Groups.{Grouped};
+ghost use Rattle.inputs.specs.Read.{read_in};
 
 pub mod escapes;
+mod moves;
 mod state;
 
-use inputs::{Read, character};
+use inputs::{Unread, character};
 use state::State;
 
 // A kind of list.
@@ -26,56 +28,26 @@ pub struct Kind {
     pub whole: bool,
 }
 
-// What comes of a character: where the list stands, and how many octets there are; or why the text is no list; or that there is no room.
-#[derive(Clone, Copy)]
-pub enum Turn {
-    Go(State, usize),
-    Bad(usize),
-    Long,
-}
-
-// Lays an octet that is complete.
-fn lay(s: State, n: usize, out: &mut [u8]) -> Turn
-    ensures { Turned (lay_of s n out.old) result out.new }
-{
-    if !s.complete {
-        return Turn::Go(s, n);
-    }
-    if out.len() <= n {
-        return Turn::Long;
-    }
-    out[n] = s.octet;
-    Turn::Go(s, n + 1)
-}
-
-// Takes a character.
-fn take(kind: Kind, s: State, x: u8, n: usize, out: &mut [u8]) -> Turn
-    ensures { Turned (take_of kind s x n out.old) result out.new }
-{
-    let t = s.moved(kind, x);
-    if t.why != 0 {
-        return Turn::Bad(t.why);
-    }
-    lay(t, n, out)
-}
-
 // Reads a list into `out`.
-pub fn read(kind: Kind, text: &[u8], out: &mut [u8]) -> Read
-    ensures { Grouped kind text.now out.old result out.new }
+pub fn read(kind: Kind, text: &[u8], out: &mut [u8]) -> Result<usize, Unread>
+    ensures { Grouped kind text.now out.old (read_in result) out.new }
 {
-    let mut s = State::begun();
+    let mut s = State::begun(kind);
     let mut n = 0;
-    let mut i = 0;
-    while i <= text.len() {
-        match take(kind, s, character(text, i), n, out) {
-            Turn::Go(t, m) => {
-                s = t;
-                n = m;
+    for i in 0..=text.len() {
+        match s.moved(character(text, i)) {
+            Ok(t) => s = t,
+            Err(why) => {
+                return Err(Unread::Bad { at: i, why });
             }
-            Turn::Bad(why) => return Read::Bad { at: i, why },
-            Turn::Long => return Read::Long,
         }
-        i += 1;
+        if s.complete {
+            if out.len() <= n {
+                return Err(Unread::Long);
+            }
+            out[n] = s.octet;
+            n += 1;
+        }
     }
-    Read::Octets(n)
+    Ok(n)
 }

@@ -1,6 +1,6 @@
 -- The options that hold a value, the octets of an option after its header (docs/COMMAND.md, "Input"; RULES E2, E3, W6).
 -- Assumes nothing: these are definitions.
-use Rattle.std.specs.Prelude.{◌≡◌, cond, List, [], ◌++◌, map, ℕ, ◌+◌, ◌-◌, ◌%◌, ◌≤◌, ◌<◌, ltb, eqb, length, take, drop}
+use Rattle.std.specs.Prelude.{◌≡◌, cond, List, [], ◌++◌, map, ℕ, ◌+◌, ◌-◌, ◌%◌, ◌≤◌, ◌<◌, ltb, eqb, length, take, drop, Result, Ok, Err}
 use Rattle.octets.specs.Lists.{flat}
 use Rattle.octets.specs.Numbers.{zeros}
 use Rattle.octets.specs.Over.{over}
@@ -12,10 +12,12 @@ use Rattle.frames.specs.Area.{joined, blocks_of}
 use Rattle.frames.specs.Emit.{option_of}
 use Rattle.pieces.specs.Pieces.{cut_of, cut_octets}
 use Rattle.inputs.specs.Why as why
-use Rattle.inputs.specs.declared.Read.{Read}
-use Rattle.inputs.specs.declared.Read.TheVariants.{Octets, Bad, Long}
-use Rattle.headers.specs.declared.Placed.{Placed}
-use Rattle.headers.specs.declared.Placed.TheVariants.{Next, NoRoom, Large}
+use Rattle.inputs.specs.declared.Why.TheVariants as whys
+use Rattle.inputs.specs.declared.Unread.{Unread}
+use Rattle.inputs.specs.declared.Unread.TheVariants as unread
+use Rattle.inputs.specs.Read.{Read, Octets, Bad, Long}
+use Rattle.headers.specs.declared.Misfit.{Misfit}
+use Rattle.headers.specs.declared.Misfit.TheVariants.{NoRoom, Large}
 
 -- ---- the options of a value
 
@@ -65,6 +67,10 @@ pub record Framed (c : Carrier) (vs : List (List ℕ)) : Type 0 where
 
 -- ---- a value put to the front of a buffer
 
+-- so many octets of options; or that there is no room for them; or that no option of the carrier holds the value
+abbrev pub Placed : Type 0
+Placed = Result ℕ Misfit
+
 -- what is answered, and the buffer then
 pub record Put : Type 0 where
   pub placed : Placed
@@ -76,10 +82,10 @@ put p out = record { placed = p; out = out }
 -- a value of no octets has no options, and no room is wanted for it
 unfoldable pub put_of : List ℕ → Carrier → List ℕ → Put
 put_of out c v =
-    cond (eqb (length v) 0) (put (Next 0) out)
-    (cond (ltb (most_of c) (length v)) (put Large out)
-    (cond (ltb (length out) (length (headed_of c v))) (put NoRoom out)
-    (put (Next (length (headed_of c v))) (over 0 (headed_of c v) out))))
+    cond (eqb (length v) 0) (put (Ok 0) out)
+    (cond (ltb (most_of c) (length v)) (put (Err Large) out)
+    (cond (ltb (length out) (length (headed_of c v))) (put (Err NoRoom) out)
+    (put (Ok (length (headed_of c v))) (over 0 (headed_of c v) out))))
 
 pub record Puts (a : Put) (r : Placed) (out' : List ℕ) : Type 0 where
   pub answered : r ≡ a.placed
@@ -92,9 +98,14 @@ pub record Added : Type 0 where
   pub out : List ℕ
 
 abbrev pub told : ℕ → Placed → Read
-told n (Next k) = Octets (n + k)
-told n NoRoom = Long
-told n Large = Bad 0 why.value
+told n (Ok k) = Octets (n + k)
+told n (Err NoRoom) = Long
+told n (Err Large) = Bad 0 why.value
+
+-- the same of src/, where nothing was put
+abbrev pub unread_of : Misfit → Unread
+unread_of NoRoom = unread.Long
+unread_of Large = unread.Bad 0 whys.Value
 
 abbrev pub add_of : List ℕ → ℕ → Carrier → List ℕ → Added
 add_of out n c v = record { read = told n (put_of (drop n out) c v).placed; out = take n out ++ (put_of (drop n out) c v).out }

@@ -1,7 +1,7 @@
 -- The laws of values made options: how many octets these have, that an option can say them, and what each outcome leaves. Assumes nothing.
-use Rattle.std.specs.Prelude.{◌≡◌, Bool, true, false, cond, List, [], ◌∷◌, ◌++◌, ℕ, zero, suc, ◌+◌, ◌-◌, ◌%◌, ◌≤◌, ◌<◌, ltb, eqb, take, drop}
+use Rattle.std.specs.Prelude.{◌≡◌, Bool, true, false, cond, List, ◌∷◌, ◌++◌, ℕ, zero, suc, ◌+◌, ◌-◌, ◌%◌, ◌≤◌, ◌<◌, ltb, eqb, take, drop, Ok, Err}
 use Rattle.std.proofs.Math.Path.{refl, ap}
-use Rattle.std.proofs.Common.{sym, ◌∙◌, subst, true≢false, append_assoc, append-nil, arith, length-append, length-take, length-drop, take-append-drop, drop_of_length-le, take_at, take_all, drop_at, length-take-le}
+use Rattle.std.proofs.Common.{sym, ◌∙◌, subst, true≢false, append_assoc, append-nil, arith, length-append, length-take, length-drop, take-append-drop, take_at, drop_at, length-take-le}
 use Rattle.std.proofs.Math.ListN.{length}
 use Rattle.std.proofs.lemmas.List.{length-replicate}
 use borrow.Author.Tests.{ltb-false, eqb-true, eqb-false, lt-ltb, le-ltb, eq-eqb, ne_eqb}
@@ -19,11 +19,9 @@ use Rattle.frames.proofs.EmitLaws.{option-length}
 use Rattle.pieces.specs.Pieces.{cut_of, cut_octets}
 use Rattle.pieces.specs.PiecesLaws.{cut-length}
 use Rattle.inputs.specs.Why as why
-use Rattle.inputs.specs.declared.Read.{Read}
-use Rattle.inputs.specs.declared.Read.TheVariants.{Octets, Bad, Long}
-use Rattle.headers.specs.declared.Placed.{Placed}
-use Rattle.headers.specs.declared.Placed.TheVariants.{Next, NoRoom, Large}
-use Rattle.headers.specs.Headers.{gap_of, padded_of, headed_of, size_of, most_of, Put, put, put_of, Puts, told, add_of, Adds}
+use Rattle.inputs.specs.Read.{Read, Octets, Bad, Long}
+use Rattle.headers.specs.declared.Misfit.TheVariants.{NoRoom, Large}
+use Rattle.headers.specs.Headers.{gap_of, padded_of, headed_of, size_of, most_of, Placed, Put, put, put_of, Puts, told, add_of}
 use Rattle.headers.specs.Headers.{options_in, Held}
 
 -- ---- by the carrier's row
@@ -151,32 +149,32 @@ cut-wrote v {k} {o} {r} {l} {l₁} {l₂} e w x =
 -- ---- the outcomes
 
 module _ (out : List ℕ) (c : Carrier) (v : List ℕ) where
-  pub put-none : length v ≡ 0 → Puts (put_of out c v) (Next 0) out
+  pub put-none : length v ≡ 0 → Puts (put_of out c v) (Ok 0) out
   unfolding put_of
   put-none e = rw (eq-eqb (length v) 0 e) (record { answered = refl; leaves = refl })
 
   module _ (some : length v ≡ 0 → ⊥) where
-    pub put-large : most_of c < length v → Puts (put_of out c v) Large out
+    pub put-large : most_of c < length v → Puts (put_of out c v) (Err Large) out
     unfolding put_of
     put-large h = rw (ne_eqb (length v) 0 some, lt-ltb (most_of c) (length v) h) (record { answered = refl; leaves = refl })
 
     module _ (small : length v ≤ most_of c) {n : ℕ} (size : n ≡ size_of c (length v)) where
-      pub put-short : length out < n → Puts (put_of out c v) NoRoom out
+      pub put-short : length out < n → Puts (put_of out c v) (Err NoRoom) out
       unfolding put_of
       put-short h =
           let short : length out < length (headed_of c v) = omega (arith, headed-length c v) in
           rw (ne_eqb (length v) 0 some, le-ltb (most_of c) (length v) small, lt-ltb (length out) (length (headed_of c v)) short)
           (record { answered = refl; leaves = refl })
 
-      pub put-laid : {r : ℕ} {out' : List ℕ} → Wrote 0 (headed_of c v) out r out' → Puts (put_of out c v) (Next r) out'
+      pub put-laid : {r : ℕ} {out' : List ℕ} → Wrote 0 (headed_of c v) out r out' → Puts (put_of out c v) (Ok r) out'
       unfolding put_of
       put-laid w =
           rw (ne_eqb (length v) 0 some, le-ltb (most_of c) (length v) small, le-ltb (length out) (length (headed_of c v)) (omega (arith, w.room)))
-          (record { answered = ap Next (omega (arith, w.next)); leaves = w.laid })
+          (record { answered = ap Ok (omega (arith, w.next)); leaves = w.laid })
 
 -- what holds of every outcome: the buffer is as it was, or has room for the options, which are laid over its front
-by-outcome : (P : Placed → List ℕ → Type 0) (out : List ℕ) (c : Carrier) (v : List ℕ) → (length v ≡ 0 → P (Next 0) out) → P Large out → P NoRoom out
-    → ((length v ≡ 0 → ⊥) → length v ≤ most_of c → length (headed_of c v) ≤ length out → P (Next (length (headed_of c v))) (over 0 (headed_of c v) out))
+by-outcome : (P : Placed → List ℕ → Type 0) (out : List ℕ) (c : Carrier) (v : List ℕ) → (length v ≡ 0 → P (Ok 0) out) → P (Err Large) out → P (Err NoRoom) out
+    → ((length v ≡ 0 → ⊥) → length v ≤ most_of c → length (headed_of c v) ≤ length out → P (Ok (length (headed_of c v))) (over 0 (headed_of c v) out))
     → P (put_of out c v).placed (put_of out c v).out
 unfolding put_of
 by-outcome P out c v none large short laid =
@@ -184,9 +182,9 @@ by-outcome P out c v none large short laid =
   where
     answer : Bool → Bool → Bool → Put
     answer x y z =
-        cond x (put (Next 0) out)
-        (cond y (put Large out)
-        (cond z (put NoRoom out) (put (Next (length (headed_of c v))) (over 0 (headed_of c v) out))))
+        cond x (put (Ok 0) out)
+        (cond y (put (Err Large) out)
+        (cond z (put (Err NoRoom) out) (put (Ok (length (headed_of c v))) (over 0 (headed_of c v) out))))
 
     go : (x : Bool) → eqb (length v) 0 ≡ x → (y : Bool) → ltb (most_of c) (length v) ≡ y → (z : Bool) → ltb (length out) (length (headed_of c v)) ≡ z
         → P (answer x y z).placed (answer x y z).out
@@ -198,9 +196,9 @@ by-outcome P out c v none large short laid =
 
 -- the options that were laid have no more octets than the buffer, which keeps its length
 abbrev Within : ℕ → Placed → Type 0
-Within m (Next k) = k ≤ m
-Within m NoRoom = Unit {0}
-Within m Large = Unit {0}
+Within m (Ok k) = k ≤ m
+Within m (Err NoRoom) = Unit {0}
+Within m (Err Large) = Unit {0}
 
 put-within : (out : List ℕ) (c : Carrier) (v : List ℕ) → Within (length out) (put_of out c v).placed
 put-within out c v = by-outcome (λ p l. Within (length out) p) out c v (λ e. omega arith) tt tt (λ s m h. h)
@@ -210,28 +208,13 @@ put-length out c v = by-outcome (λ p l. length l ≡ length out) out c v (λ e.
 
 -- ---- a value added
 
--- what is put to the rest of a buffer is added behind what stands before it
-pub add-told : (out : List ℕ) (n : ℕ) (c : Carrier) (v : List ℕ) {p : Placed} {r : Read} {m : List ℕ} → n ≤ length out
-    → Puts (put_of (take (length out - n) (drop n out)) c v) p m → told n p ≡ r
-    → Adds (add_of out n c v) r (take n out ++ (m ++ drop (length out - n) (drop n out)))
-add-told out n c v {p} {r} {m} h w e =
-    let size : length (drop n out) ≡ length out - n = length-drop n out in
-    let rest : take (length out - n) (drop n out) ≡ drop n out = take_all (length out - n) (drop n out) (omega arith) in
-    let u : Puts (put_of (drop n out) c v) p m = subst (λ (l : List ℕ). Puts (put_of l c v) p m) rest w in
-    let all : length (drop n out) ≤ length out - n = omega arith in
-    let none : drop (length out - n) (drop n out) ≡ [] = drop_of_length-le (drop n out) all in
-    record {
-      answered = sym e ∙ ap (told n) u.answered;
-      leaves = ap (λ (l : List ℕ). take n out ++ (m ++ l)) none ∙ ap (λ (l : List ℕ). take n out ++ l) (append-nil m ∙ u.leaves);
-    }
-
 -- there is room for what was added
 pub add-room : (out : List ℕ) (n : ℕ) (c : Carrier) (v : List ℕ) {p : Placed} {k : ℕ} {m : List ℕ} → n ≤ length out
-    → Puts (put_of (take (length out - n) (drop n out)) c v) p m → p ≡ Next k → n + k ≤ length out
+    → Puts (put_of (take (length out - n) (drop n out)) c v) p m → p ≡ Ok k → n + k ≤ length out
 add-room out n c v {p} {k} {m} h w e =
     let rest : List ℕ = take (length out - n) (drop n out) in
     let f : length rest ≤ length out - n = simp (length-take, length-drop) (omega arith) in
-    let q : Within (length rest) (Next k) = subst (Within (length rest)) (sym w.answered ∙ e) (put-within rest c v) in
+    let q : Within (length rest) (Ok k) = subst (Within (length rest)) (sym w.answered ∙ e) (put-within rest c v) in
     omega (arith, q)
 
 pub add-length : (out : List ℕ) (n : ℕ) (c : Carrier) (v : List ℕ) → length (add_of out n c v).out ≡ length out
@@ -249,9 +232,9 @@ pub add-sound : (k : ℕ) (out : List ℕ) (n : ℕ) (c : Carrier) (v : List ℕ
 add-sound k out n c v h = go (put_of (drop n out) c v).placed (put-within (drop n out) c v)
   where
     go : (p : Placed) → Within (length (drop n out)) p → Sound (length out) k (told n p)
-    go (Next m) q = omega (arith, length-drop n out)
-    go NoRoom q = tt
-    go Large q = omega arith
+    go (Ok m) q = omega (arith, length-drop n out)
+    go (Err NoRoom) q = tt
+    go (Err Large) q = omega arith
 
 front-taken : (a b l : List ℕ) (m : ℕ) → m ≡ length a + length b → take m (a ++ over 0 b l) ≡ a ++ b
 unfolding over

@@ -4,26 +4,42 @@
 #![tactic(auto)]
 
 ghost use Rattle.std.specs.Prelude.{◌≡◌, false, ◌+◌, ◌≤◌, ◌<◌, length};
+ghost use Rattle.inputs.specs.Read.{read_in};
 ghost use Rattle.octets.specs.Numbers.{zeros};
 ghost use Rattle.octets.specs.Over.{Wrote};
 ghost use Rattle.carriers.specs.Carriers.{is_joined};
 ghost use Rattle.pieces.specs.Pieces.{cut_of};
 ghost use Rattle.frames.specs.Emit.{option_of};
-ghost use Rattle.headers.specs.Headers.{most_of, gap_of, padded_of, headed_of, put_of, add_of, Puts, Adds, size_of};
+ghost use Rattle.headers.specs.Headers.{most_of, gap_of, padded_of, headed_of, put_of, add_of, Puts, Adds, size_of, unread_of};
 
 use carriers::Carrier;
-use inputs::{Read, Why};
+use inputs::{Unread, Why};
 use numbers::Limit;
 
 // The most octets that a length of two octets says.
 const MOST: usize = 65535;
 
-// What comes of a value: its options have so many octets; or there is no room for them; or no option of the carrier holds it.
-#[derive(Clone, Copy)]
-pub enum Placed {
-    Next(usize),
+// Why the options of a value are not put.
+#[derive(Clone, Copy, PartialEq, Eq)]
+pub enum Misfit {
+    // There is no room for them.
     NoRoom,
+    // No option of the carrier holds it.
     Large,
+}
+
+impl From<Misfit> for Unread {
+    ghost from_gives = { λ m u. u ≡ unread_of m };
+
+    fn from(m: Misfit) -> Unread {
+        match m {
+            Misfit::NoRoom => Unread::Long,
+            Misfit::Large => Unread::Bad {
+                at: 0,
+                why: Why::Value,
+            },
+        }
+    }
 }
 
 // The most octets of a value.
@@ -110,34 +126,28 @@ fn lay(out: &mut [u8], c: Carrier, value: &[u8]) -> usize
     put_option(out, c, value)
 }
 
-// Puts the options of a value to the front of `out`; a value of no octets has none.
-pub fn put(out: &mut [u8], c: Carrier, value: &[u8]) -> Placed
+// Puts the options of a value to the front of `out`, and returns how many octets they have; a value of no octets has none.
+pub fn put(out: &mut [u8], c: Carrier, value: &[u8]) -> Result<usize, Misfit>
     ensures { Puts (put_of out.old c value.now) result out.new }
 {
     let n = value.len();
     if n == 0 {
-        return Placed::Next(0);
+        return Ok(0);
     }
     if most(c) < n {
-        return Placed::Large;
+        return Err(Misfit::Large);
     }
     if out.len() < size(c, n) {
-        return Placed::NoRoom;
+        return Err(Misfit::NoRoom);
     }
-    Placed::Next(lay(out, c, value))
+    Ok(lay(out, c, value))
 }
 
 // Puts the options of a value after the first n octets of `out`.
-pub fn add(out: &mut [u8], n: usize, c: Carrier, value: &[u8]) -> Read
+pub fn add(out: &mut [u8], n: usize, c: Carrier, value: &[u8]) -> Result<usize, Unread>
     requires { n ≤ length out.old }
-    ensures { Adds (add_of out.old n c value.now) result out.new }
+    ensures { Adds (add_of out.old n c value.now) (read_in result) out.new }
 {
-    match put(&mut out[n..], c, value) {
-        Placed::Next(size) => Read::Octets(n + size),
-        Placed::NoRoom => Read::Long,
-        Placed::Large => Read::Bad {
-            at: 0,
-            why: Why::VALUE,
-        },
-    }
+    let size = put(&mut out[n..], c, value)?;
+    Ok(n + size)
 }

@@ -1,8 +1,8 @@
 -- What `decode` answers and leaves in the buffer. Assumes nothing: these are definitions.
-use Rattle.std.specs.Prelude.{◌≡◌, cond, List, [], ℕ, ltb, length}
+use Rattle.std.specs.Prelude.{◌≡◌, cond, List, [], ℕ, ltb, length, Option, Some, None, Result, Ok, Err}
 use Rattle.octets.specs.Over.{over}
-use Rattle.hexes.specs.declared.Hex.{Hex}
-use Rattle.hexes.specs.declared.Hex.TheVariants.{Octets, NoRoom, Other}
+use Rattle.hexes.specs.declared.Undecoded.{Undecoded}
+use Rattle.hexes.specs.declared.Undecoded.TheVariants.{NoRoom, Other}
 use Rattle.hexes.specs.Hexes.{Read, read_hex}
 use Rattle.hexes.specs.Hexes as hexes
 
@@ -24,10 +24,10 @@ decode_of t room = fit (read_hex t) room
 
 -- ---- what the call gives back, by the answer
 
-abbrev pub told : Answer → Hex
-told (written bs) = Octets (length bs)
-told no_room = NoRoom
-told other = Other
+abbrev pub told : Answer → Result ℕ Undecoded
+told (written bs) = Ok (length bs)
+told no_room = Err NoRoom
+told other = Err Other
 
 -- the whole buffer after it
 abbrev pub left : Answer → List ℕ → List ℕ
@@ -35,7 +35,7 @@ left (written bs) out = over 0 bs out
 left no_room out = out
 left other out = out
 
-pub record Decoded (t out : List ℕ) (r : Hex) (out' : List ℕ) : Type 0 where
+pub record Decoded (t out : List ℕ) (r : Result ℕ Undecoded) (out' : List ℕ) : Type 0 where
   pub answered : r ≡ told (decode_of t (length out))
   pub leaves : out' ≡ left (decode_of t (length out)) out
 
@@ -48,3 +48,7 @@ octets_in hexes.other = []
 
 abbrev pub size_in : Read → ℕ
 size_in r = length (octets_in r)
+
+abbrev pub counted : Read → Option ℕ
+counted (hexes.octets bs) = Some (length bs)
+counted hexes.other = None

@@ -1,10 +1,10 @@
 -- The three answers of `decode`, each from what the passes and the tests between them say; and the texts that are decoded, said without
 -- a reader. Assumes nothing.
-use Rattle.std.specs.Prelude.{◌≡◌, refl, List, [], ◌∷◌, ◌↔◌, Bool, true, false, cond, ℕ, ◌≤◌, ◌<◌, ltb, length}
+use Rattle.std.specs.Prelude.{◌≡◌, refl, List, [], ◌∷◌, ◌↔◌, Bool, true, false, cond, ℕ, ◌≤◌, ◌<◌, ltb, length, Result, Ok, Err}
 use Rattle.std.proofs.Common.{sym, ap, ◌∙◌, zero-add, arith, lt-ltb, le-ltb, ltb-false}
 use Rattle.octets.specs.Over.{Wrote}
-use Rattle.hexes.specs.declared.Hex.{Hex}
-use Rattle.hexes.specs.declared.Hex.TheVariants.{Octets, NoRoom, Other}
+use Rattle.hexes.specs.declared.Undecoded.{Undecoded}
+use Rattle.hexes.specs.declared.Undecoded.TheVariants.{NoRoom, Other}
 use Rattle.hexes.specs.Hexes.{Read, octets, some, pairs, read_hex}
 use Rattle.hexes.specs.Hexes as hexes
 use Rattle.hexes.specs.Spelled.{Spelled}
@@ -25,21 +25,21 @@ fit_written (octets bs) room k h = rw (le-ltb room (length bs) h)
 fit_written hexes.other room k h = absurd (omega arith)
 
 module _ {t out : List ℕ} {n : ℕ} (e : n ≡ size_in (read_hex t)) where
-  pub no-hex : n ≡ 0 → Decoded t out Other out
+  pub no-hex : n ≡ 0 → Decoded t out (Err Other) out
   no-hex z =
       let f : decode_of t (length out) ≡ other = fit-other (pairs t) (length out) (sym e ∙ z) in
       record { answered = sym (ap told f); leaves = sym (ap (λ (a : Answer). left a out) f) }
 
-  pub no_room_lem : length out < n → Decoded t out NoRoom out
+  pub no_room_lem : length out < n → Decoded t out (Err NoRoom) out
   no_room_lem h =
       let f : decode_of t (length out) ≡ no_room = fit-room (read_hex t) (length out) (omega arith) in
       record { answered = sym (ap told f); leaves = sym (ap (λ (a : Answer). left a out) f) }
 
-  pub read-in : {r : ℕ} {out' : List ℕ} → (n ≡ 0 → ⊥) → n ≤ length out → Wrote 0 (octets_in (read_hex t)) out r out' → Decoded t out (Octets r) out'
+  pub read-in : {r : ℕ} {out' : List ℕ} → (n ≡ 0 → ⊥) → n ≤ length out → Wrote 0 (octets_in (read_hex t)) out r out' → Decoded t out (Ok r) out'
   read-in {r} {out'} z h w =
       let f : decode_of t (length out) ≡ written (octets_in (read_hex t)) = fit_written (read_hex t) (length out) (omega arith) (omega arith) in
       record {
-        answered = ap Octets (w.next ∙ zero-add (size_in (read_hex t))) ∙ sym (ap told f);
+        answered = ap Ok (w.next ∙ zero-add (size_in (read_hex t))) ∙ sym (ap told f);
         leaves = w.laid ∙ sym (ap (λ (a : Answer). left a out) f);
       }
 
@@ -64,13 +64,13 @@ decode-exactly t bs room = (to, from)
 -- ---- how many octets a text is said to have had
 
 module _ (n room : ℕ) where
-  fitted : (bs : List ℕ) (b : Bool) → ltb room (length bs) ≡ b → told (cond b no_room (written bs)) ≡ Octets n → n ≤ room
+  fitted : (bs : List ℕ) (b : Bool) → ltb room (length bs) ≡ b → told (cond b no_room (written bs)) ≡ Ok n → n ≤ room
   fitted bs true h e = let z : ◌≡◌ {A = ℕ} 0 1 = cc in absurd (omega arith)
   fitted bs false h e = let q : length bs ≡ n = cc in omega (arith, ltb-false)
 
-  told-within : (r : Read) → told (fit r room) ≡ Octets n → n ≤ room
+  told-within : (r : Read) → told (fit r room) ≡ Ok n → n ≤ room
   told-within (octets bs) e = fitted bs (ltb room (length bs)) refl e
   told-within hexes.other e = let z : ◌≡◌ {A = ℕ} 0 1 = cc in absurd (omega arith)
 
-pub decoded-within : {t out out' : List ℕ} {r : Hex} {n : ℕ} → Decoded t out r out' → r ≡ Octets n → n ≤ length out
+pub decoded-within : {t out out' : List ℕ} {r : Result ℕ Undecoded} {n : ℕ} → Decoded t out r out' → r ≡ Ok n → n ≤ length out
 decoded-within {t} {out} {out'} {r} {n} d e = told-within n (length out) (read_hex t) (sym d.answered ∙ e)

@@ -10,15 +10,13 @@ ghost use Rattle.io.specs.Counts.{IsPrefixLen};
 ghost use Rattle.chars.specs.Puts.{Puts};
 ghost use Rattle.hexes.specs.Hexes as hexes;
 ghost use Rattle.hexes.specs.Hexes.{read_hex, digit_of, two, hex_of};
-ghost use Rattle.hexes.specs.Decoding.{Decoded, octets_in, size_in};
+ghost use Rattle.hexes.specs.Decoding.{Decoded, octets_in, size_in, counted};
 
 use chars::put;
-use octets::{lesser, within};
 
-#[derive(Clone, Copy)]
-pub enum Hex {
-    // How many octets stand at the front of the buffer.
-    Octets(usize),
+// Why a text is not decoded.
+#[derive(Clone, Copy, PartialEq, Eq)]
+pub enum Undecoded {
     // The buffer has no room for the octets.
     NoRoom,
     // The text is no hexadecimal text.
@@ -29,13 +27,7 @@ pub enum Hex {
 pub fn is_digit(x: u8) -> bool
     ensures { result ≡ hexes.digit x }
 {
-    if within(x, b'0', b'9') {
-        return true;
-    }
-    if within(x, b'A', b'F') {
-        return true;
-    }
-    within(x, b'a', b'f')
+    x.is_ascii_hexdigit()
 }
 
 // The value of a digit.
@@ -44,60 +36,45 @@ pub fn value(x: u8) -> u8
     ensures value { result ≡ hexes.value x }
     ensures upper_bound { result < 16 }
 {
-    if x < b'A' {
-        return x - b'0';
+    match x {
+        ..b'A' => x - b'0',
+        b'A'..b'a' => x - b'A' + 10,
+        _ => x - b'a' + 10,
     }
-    if x < b'a' {
-        return x - b'A' + 10;
-    }
-    x - b'a' + 10
 }
 
 // Whether x may stand before, between and after pairs.
+#[tactic(auto, unfolding(crate::specs::Hexes::separator))]
 pub fn is_separator(x: u8) -> bool
     ensures { result ≡ hexes.separator x }
 {
-    if x == b' ' {
-        return true;
-    }
-    if x == b'\t' {
-        return true;
-    }
-    if x == b'\n' {
-        return true;
-    }
-    if x == b'\r' {
-        return true;
-    }
-    x == b':'
+    matches!(x, b' ' | b'\t' | b'\n' | b'\r' | b':')
 }
 
-// How many octets a hexadecimal text spells; 0 for any other text.
-fn count(text: &[u8]) -> usize
-    ensures { result ≡ size_in (read_hex text.now) }
+// How many octets a hexadecimal text spells, one at least.
+fn count(text: &[u8]) -> Option<usize>
+    ensures { result ≡ counted (read_hex text.now) }
 {
-    let size = text.len();
-    let mut i = 0;
     let mut n = 0;
-    while i < size {
-        let next = i + 1;
-        if is_separator(text[i]) {
-            i = next;
-        } else {
-            if size <= next {
-                return 0;
-            }
-            if !is_digit(text[i]) {
-                return 0;
-            }
-            if !is_digit(text[next]) {
-                return 0;
-            }
-            i = next + 1;
-            n += 1;
+    let mut rest = text;
+    while let [x, after @ ..] = rest {
+        rest = after;
+        if is_separator(*x) {
+            continue;
         }
+        let [y, after @ ..] = rest else {
+            return None;
+        };
+        if !is_digit(*x) {
+            return None;
+        }
+        if !is_digit(*y) {
+            return None;
+        }
+        rest = after;
+        n += 1;
     }
-    n
+    (0 < n).then_some(n)
 }
 
 // Writes the octets of a hexadecimal text at the front of `out`, and returns how many.
@@ -105,36 +82,32 @@ fn lay(text: &[u8], out: &mut [u8]) -> usize
     requires { (1 ≤ size_in (read_hex text.now)) × (size_in (read_hex text.now) ≤ length out.old) }
     ensures { Wrote 0 (octets_in (read_hex text.now)) out.old result out.new }
 {
-    let mut at = 0;
     let mut n = 0;
-    while at < text.len() {
-        let next = at + 1;
-        if is_separator(text[at]) {
-            at = next;
-        } else {
-            let high = value(text[at]);
-            let low = value(text[next]);
-            out[n] = high * 16 + low;
-            at = next + 1;
-            n += 1;
+    let mut rest = text;
+    while let [x, after @ ..] = rest {
+        rest = after;
+        if is_separator(*x) {
+            continue;
         }
+        let [y, after @ ..] = rest else {
+            unreachable!();
+        };
+        out[n] = value(*x) * 16 + value(*y);
+        rest = after;
+        n += 1;
     }
     n
 }
 
-// Reads hexadecimal text into `out`: how many octets; or that there is no room for them; or that it is no hexadecimal text. In the
-// last two cases nothing is written.
-pub fn decode(text: &[u8], out: &mut [u8]) -> Hex
+// Reads hexadecimal text into `out`: how many octets; or why it is not decoded, and then nothing is written.
+pub fn decode(text: &[u8], out: &mut [u8]) -> Result<usize, Undecoded>
     ensures { Decoded text.now out.old result out.new }
 {
-    let n = count(text);
-    if n == 0 {
-        return Hex::Other;
-    }
+    let n = count(text).ok_or(Undecoded::Other)?;
     if out.len() < n {
-        return Hex::NoRoom;
+        return Err(Undecoded::NoRoom);
     }
-    Hex::Octets(lay(text, out))
+    Ok(lay(text, out))
 }
 
 // The digit of a value below 16, in lower case.
@@ -162,11 +135,9 @@ pub fn put_octets(out: &mut [u8], at: usize, s: &[u8]) -> usize
     ensures prefix_len { IsPrefixLen result out.new }
     ensures puts { Puts at (hex_of s.now) out.old result out.new }
 {
-    let mut o = lesser(at, out.len());
-    let mut i = 0;
-    while i < s.len() {
-        o = put_octet(out, o, s[i]);
-        i += 1;
+    let mut o = at.min(out.len());
+    for b in s {
+        o = put_octet(out, o, *b);
     }
     o
 }

@@ -1,2 +1,5 @@
 pub mod Why
+pub mod Read
+pub mod ReadLaws
+pub mod Text
 pub mod TextLaws

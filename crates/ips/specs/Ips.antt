@@ -1,6 +1,6 @@
 -- IP addresses as text: IPv4 in dotted decimal, IPv6 as RFC 5952 §4 and §5 recommend. An address is its octets; a text is the codes of its
 -- characters, where `0` is 48, `a` is 97, the dot is 46 and the colon is 58. Assumes nothing: these are definitions.
-use Rattle.std.specs.Prelude.{Bool, cond, ◌&&◌, List, [], ◌∷◌, ◌++◌, map, ℕ, zero, suc, ◌+◌, ◌-◌, ◌/◌, ◌%◌, eqb, ltb, take, drop}
+use Rattle.std.specs.Prelude.{Bool, cond, ◌&&◌, List, [], ◌∷◌, ◌++◌, map, ℕ, zero, suc, ◌+◌, ◌-◌, ◌/◌, ◌%◌, eqb, ltb, take, drop, Option, Some, None}
 use Rattle.octets.specs.Numbers.{at16, words, all_zero}
 use Rattle.ips.specs.declared.Run.{Run}
 
@@ -62,6 +62,11 @@ longest_from i (f ∷ fs) = longer (run i (zeros_ahead (f ∷ fs))) (longest_fro
 -- a run that may be shortened: one field alone may not (RFC 5952 §4.2.2), and then the run has a count of 0
 abbrev pub shortening : Run → Run
 shortening r = cond (ltb r.count 2) (run 0 0) r
+
+-- the run of an answer of the code: none is the run with a count of 0; one that is there has two fields at least, so the run tells which
+abbrev pub run_or_none : Option Run → Run
+run_or_none None = run 0 0
+run_or_none (Some r) = r
 
 -- the run that is shortened: the longest, and the first where several are as long (RFC 5952 §4.2.3)
 unfoldable pub run_of : List ℕ → Run

@@ -3,10 +3,10 @@
 // Nothing here reads a text, or judges an address.
 #![tactic(auto)]
 
-ghost use Rattle.std.specs.Prelude.{◌≡◌, cond, [], ◌∷◌, map, ◌+◌, ◌*◌, ◌^◌, ◌≤◌, ◌<◌, eqb, length};
+ghost use Rattle.std.specs.Prelude.{◌≡◌, cond, [], ◌∷◌, map, ◌+◌, ◌*◌, ◌^◌, ◌≤◌, ◌<◌, eqb, length, IfSome};
 ghost use Rattle.octets.specs.Numbers.{words};
 ghost use Rattle.octets.specs.Over.{Wrote};
-ghost use Rattle.ips.specs.Ips.{digit, numeral, decimal, hex, led, text4, run, longer, shortening, run_of, colons, around, shortened, mapped, mixed, text6};
+ghost use Rattle.ips.specs.Ips.{digit, numeral, decimal, hex, led, text4, run, longer, shortening, run_or_none, run_of, colons, around, shortened, mapped, mixed, text6};
 
 // ---- numbers
 
@@ -15,10 +15,9 @@ fn digit_of(d: usize) -> u8
     requires { d < 16 }
     ensures { result ≡ digit d }
 {
-    if d < 10 {
-        (48 + d) as u8
-    } else {
-        (97 + (d - 10)) as u8
+    match d {
+        0..=9 => (48 + d) as u8,
+        _ => (97 + (d - 10)) as u8,
     }
 }
 
@@ -49,7 +48,7 @@ fn put_decimal(out: &mut [u8], at: usize, x: u8) -> usize
     requires { at + length (decimal x) ≤ length out.old }
     ensures { Wrote at (decimal x) out.old result out.new }
 {
-    put_number(out, at, 10, 2, octets::wide(x))
+    put_number(out, at, 10, 2, usize::from(x))
 }
 
 // Writes a field in hexadecimal.
@@ -109,26 +108,22 @@ fn longer_of(p: Run, q: Run) -> Run
 }
 
 // A run of two fields or more, or none.
-fn shortening_of(r: Run) -> Run
-    ensures { result ≡ shortening r }
+fn shortening_of(r: Run) -> Option<Run>
+    ensures value { run_or_none result ≡ shortening r }
+    ensures bounds { IfSome result (λ q. 2 ≤ q.count) }
 {
-    if r.count < 2 {
-        Run { start: 0, count: 0 }
-    } else {
-        r
-    }
+    if r.count < 2 { None } else { Some(r) }
 }
 
 // The run of an address that is shortened, found from the last field back to the first: n zeros stand from the field with index i on.
-fn run_in(a: &[u8]) -> Run
+fn run_in(a: &[u8]) -> Option<Run>
     requires { length a.now ≡ 16 }
-    ensures { result ≡ run_of (words a.now) }
+    ensures value { run_or_none result ≡ run_of (words a.now) }
+    ensures bounds { IfSome result (λ q. 2 ≤ q.count) }
 {
-    let mut i: usize = 8;
     let mut n: usize = 0;
     let mut best = Run { start: 8, count: 0 };
-    while i > 0 {
-        i -= 1;
+    for i in (0..8).rev() {
         n = zeros_from(octets::get16(a, 2 * i), n);
         best = longer_of(Run { start: i, count: n }, best);
     }
@@ -152,11 +147,9 @@ fn put_led(out: &mut [u8], at: usize, s: &[u8]) -> usize
     requires { at + length (led 58 (map hex (words s.now))) ≤ length out.old }
     ensures { Wrote at (led 58 (map hex (words s.now))) out.old result out.new }
 {
-    let mut k: usize = 0;
     let mut next = at;
-    while k < s.len() / 2 {
+    for k in 0..s.len() / 2 {
         next = put_next(out, next, octets::get16(s, 2 * k));
-        k += 1;
     }
     next
 }
@@ -193,11 +186,10 @@ fn put_shortened(out: &mut [u8], at: usize, a: &[u8]) -> usize
     requires a_in_bounds { at + length (shortened (run_of (words a.now)) (words a.now)) ≤ length out.old }
     ensures { Wrote at (shortened (run_of (words a.now)) (words a.now)) out.old result out.new }
 {
-    let r = run_in(a);
-    if r.count == 0 {
-        return put_fields(out, at, a);
+    match run_in(a) {
+        Some(Run { start, count }) => put_around(out, at, a, start, count),
+        None => put_fields(out, at, a),
     }
-    put_around(out, at, a, r.start, r.count)
 }
 
 // Whether an address is an IPv4-mapped one.

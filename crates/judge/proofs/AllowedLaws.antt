@@ -2,7 +2,7 @@
 -- Assumes nothing.
 use Rattle.std.proofs.Math.Path.{◌≡◌, refl, sym}
 use Rattle.std.proofs.Common.{ap, ◌∙◌, subst, true≢false, eqb-true, eq-eqb, ne_eqb, ltb-false, le-ltb}
-use Rattle.std.specs.Prelude.{Bool, cond, not, ◌↔◌, List, [], ◌∷◌, ℕ, ◌/◌, ◌%◌, ◌≤◌, ◌<◌, ltb, length}
+use Rattle.std.specs.Prelude.{Bool, cond, not, ◌↔◌, List, [], ◌∷◌, ℕ, ◌/◌, ◌%◌, ◌≤◌, ◌<◌, ltb, length, Ok, Err}
 use Rattle.std.proofs.Math.Bool.{true, false}
 use Rattle.std.specs.Bool.{beq}
 use Rattle.std.proofs.Math.Logic.{inl, inr}
@@ -16,8 +16,7 @@ use Rattle.numbers.specs.Fault as fault
 use Rattle.numbers.specs.Limit as limit
 use Rattle.carriers.specs.declared.Carrier.{Carrier}
 use Rattle.carriers.specs.Carriers.{address_width, as_text}
-use Rattle.names.specs.declared.Name.{Name}
-use Rattle.names.specs.declared.Name.TheVariants.{Good, Bad}
+use Rattle.names.specs.Automaton.{Checked}
 use Rattle.names.specs.Wire.{name_check}
 use Rattle.names.specs.Exact as names
 use Rattle.texts.specs.TextCheck.{text_check}
@@ -48,11 +47,11 @@ refuted false d = (λ _ x. true≢false (sym (d.1 x)), λ _. refl)
 
 -- ---- the name
 
-by_form : (text : Bool) (name : List ℕ) → (cond text (text_check name) (name_check name) ≡ Good) ↔ NameBy text name
+by_form : (text : Bool) (name : List ℕ) → (cond text (text_check name) (name_check name) ≡ Ok tt) ↔ NameBy text name
 by_form true name = texts.good name
 by_form false name = names.good name
 
-pub name-exactly : (side : Side) (c : Carrier) (name : List ℕ) → (name_of side c name ≡ Good) ↔ NameAllowed side c name
+pub name-exactly : (side : Side) (c : Carrier) (name : List ℕ) → (name_of side c name ≡ Ok tt) ↔ NameAllowed side c name
 name-exactly Reading c name = by_form (as_text c) name
 name-exactly Writing c name = names.good name
 
@@ -243,13 +242,13 @@ module _ (side : Side) (c : Carrier) (f : Fields) (octets : f.full ≡ true → 
   unfolding judged_of
   fault-told = go (eqb f.priority 0) (name_of side c f.name) refl refl
     where
-      go : (zero : Bool) (n : Name) → eqb f.priority 0 ≡ zero → name_of side c f.name ≡ n
+      go : (zero : Bool) (n : Checked) → eqb f.priority 0 ≡ zero → name_of side c f.name ≡ n
           → Tells (cond zero (judged fault.priority 0)
           (on_name n (λ place. judged fault.name place) (judged (cond f.full tail (name_only_fault c)) 0))).fault (FirstBroken side c f)
       go true n z m k q = inl (λ s. s (eqb-true _ _ z), sym q)
-      go false (Bad place) z m k q =
+      go false (Err place) z m k q =
           inr (eqb-false _ _ z, inl (λ h. let good = (name-exactly side c f.name).1 h in let apart : ◌≡◌ {A = ℕ} 0 1 = cc in omega arith, sym q))
-      go false Good z m k q = inr (eqb-false _ _ z, inr ((name-exactly side c f.name).0 m, form-told f.full refl k q))
+      go false (Ok tt) z m k q = inr (eqb-false _ _ z, inr ((name-exactly side c f.name).0 m, form-told f.full refl k q))
 
 -- the fault of fields is the first rule that they break
 pub broken-exactly : (side : Side) (c : Carrier) (f : Fields) (k : ℕ) → (f.full ≡ true → Bytes f.parameters)

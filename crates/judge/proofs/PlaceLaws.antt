@@ -1,5 +1,5 @@
 -- Of fault 22 the judge's place is that of the name's first bad octet, and no other fault has one (RULES N5, W11, T8). Assumes nothing.
-use Rattle.std.specs.Prelude.{◌≡◌, Bool, true, false, cond, not, ◌↔◌, List, ltb, eqb, length}
+use Rattle.std.specs.Prelude.{◌≡◌, Bool, true, false, cond, not, ◌↔◌, List, ltb, eqb, length, Ok, Err}
 use Rattle.std.proofs.Math.Path.{refl}
 use Rattle.std.proofs.Common.{sym, ap, ◌∙◌, subst, inl, inr, arith, add_assoc, eq-eqb, ne_eqb, eqb-true}
 use Prim.Native.Nat.{ℕ, ◌+◌, ◌/◌, ◌%◌, ◌≤◌}
@@ -9,8 +9,7 @@ use Rattle.numbers.specs.Fault as fault
 use Rattle.numbers.specs.Limit as limit
 use Rattle.carriers.specs.declared.Carrier.{Carrier}
 use Rattle.carriers.specs.Carriers.{address_width, as_text}
-use Rattle.names.specs.declared.Name.{Name}
-use Rattle.names.specs.declared.Name.TheVariants.{Good, Bad}
+use Rattle.names.specs.Automaton.{Checked}
 use Rattle.names.specs.Names.{FirstBad}
 use Rattle.names.specs.Wire.{name_check}
 use Rattle.names.specs.Exact as names
@@ -23,19 +22,19 @@ use Rattle.svcparams.proofs.Exactly as params
 use Rattle.blocks.specs.Block.{Fields}
 use Rattle.judge.specs.declared.Side.{Side}
 use Rattle.judge.specs.declared.Side.TheVariants.{Reading, Writing}
-use Rattle.judge.specs.declared.Judged.{Judged}
+use Rattle.judge.specs.Place.{Judged}
 use Rattle.judge.specs.Place.{judged, place_from, from}
 use Rattle.judge.specs.Judge.{name_of, refused_of, tail_fault, name_only_fault, on_name, judged_of, judged_by, fault_of}
 use Rattle.judge.specs.Allowed.{NameBy, NameAllowed, FirstBroken, PlaceOf, in_name, nowhere}
 
 -- ---- the name
 
-by_form : (text : Bool) (name : List ℕ) (p : ℕ) → (cond text (text_check name) (name_check name) ≡ Bad p) ↔ FirstBad (NameBy text) name p
+by_form : (text : Bool) (name : List ℕ) (p : ℕ) → (cond text (text_check name) (name_check name) ≡ Err p) ↔ FirstBad (NameBy text) name p
 by_form true name p = texts.bad name p
 by_form false name p = names.bad name p
 
 -- the name is bad at p exactly if p is the place of its first bad octet
-pub bad-exactly : (side : Side) (c : Carrier) (name : List ℕ) (p : ℕ) → (name_of side c name ≡ Bad p) ↔ FirstBad (NameAllowed side c) name p
+pub bad-exactly : (side : Side) (c : Carrier) (name : List ℕ) (p : ℕ) → (name_of side c name ≡ Err p) ↔ FirstBad (NameAllowed side c) name p
 bad-exactly Reading c name p = by_form (as_text c) name p
 bad-exactly Writing c name p = names.bad name p
 
@@ -76,7 +75,7 @@ named-service side c f (inr b) e = b.0
 
 module _ (side : Side) (c : Carrier) (f : Fields) where
   -- with 22 it is that of the name, and without 22 there is none
-  judged-place : (fault_of side c f ≡ fault.name → name_of side c f.name ≡ Bad (judged_by side c f).place)
+  judged-place : (fault_of side c f ≡ fault.name → name_of side c f.name ≡ Err (judged_by side c f).place)
       × ((fault_of side c f ≡ fault.name → ⊥) → (judged_by side c f).place ≡ 0)
   unfolding judged_of
   judged-place = go (eqb f.priority 0) (name_of side c f.name) f.full refl
@@ -84,18 +83,18 @@ module _ (side : Side) (c : Carrier) (f : Fields) where
       tail : ℕ
       tail = tail_fault side (address_width c) f.addresses f.parameters
 
-      answer : Bool → Name → Bool → Judged
+      answer : Bool → Checked → Bool → Judged
       answer zero n full = cond zero (judged fault.priority 0) (on_name n (λ place. judged fault.name place) (judged (cond full tail (name_only_fault c)) 0))
 
-      go : (zero : Bool) (n : Name) (full : Bool) → name_of side c f.name ≡ n
-          → ((answer zero n full).fault ≡ fault.name → name_of side c f.name ≡ Bad (answer zero n full).place)
+      go : (zero : Bool) (n : Checked) (full : Bool) → name_of side c f.name ≡ n
+          → ((answer zero n full).fault ≡ fault.name → name_of side c f.name ≡ Err (answer zero n full).place)
           × (((answer zero n full).fault ≡ fault.name → ⊥) → (answer zero n full).place ≡ 0)
       go true n full m = ((λ e. absurd (omega arith)), λ h. refl)
-      go false (Bad place) full m = ((λ e. m), λ h. absurd (h refl))
-      go false Good true m = ((λ e. absurd (tail-no-name side (address_width c) f.addresses f.parameters e)), λ h. refl)
-      go false Good false m = ((λ e. absurd (name-only-no-name c e)), λ h. refl)
+      go false (Err place) full m = ((λ e. m), λ h. absurd (h refl))
+      go false (Ok tt) true m = ((λ e. absurd (tail-no-name side (address_width c) f.addresses f.parameters e)), λ h. refl)
+      go false (Ok tt) false m = ((λ e. absurd (name-only-no-name c e)), λ h. refl)
 
-  pub judged-bad : fault_of side c f ≡ fault.name → name_of side c f.name ≡ Bad (judged_by side c f).place
+  pub judged-bad : fault_of side c f ≡ fault.name → name_of side c f.name ≡ Err (judged_by side c f).place
   judged-bad = judged-place.0
 
   -- it is no more than the name is long

@@ -1,12 +1,11 @@
 -- The first fault of a record's fields, 21 to 28 in that order (RULES T2); a name only skips 24 to 28, and in carriers 1 to 3 also 23
 -- (RULES T4). Of 22 also the place of the name's first bad octet (RULES N5). Assumes nothing: these are definitions.
-use Rattle.std.specs.Prelude.{Bool, cond, not, List, ℕ, ◌/◌, ◌%◌, ltb, eqb, length}
+use Rattle.std.specs.Prelude.{Bool, cond, not, List, ℕ, ◌/◌, ◌%◌, ltb, eqb, length, Ok, Err}
 use Rattle.numbers.specs.Fault as fault
 use Rattle.numbers.specs.Limit as limit
 use Rattle.carriers.specs.declared.Carrier.{Carrier}
 use Rattle.carriers.specs.Carriers.{address_width, as_text}
-use Rattle.names.specs.declared.Name.{Name}
-use Rattle.names.specs.declared.Name.TheVariants.{Good, Bad}
+use Rattle.names.specs.Automaton.{Checked}
 use Rattle.names.specs.Wire.{name_check}
 use Rattle.texts.specs.TextCheck.{text_check}
 use Rattle.addresses.specs.Addresses.{list_of, any_of, none_of}
@@ -14,11 +13,10 @@ use Rattle.svcparams.specs.Params.{params_fault}
 use Rattle.blocks.specs.Block.{Fields}
 use Rattle.judge.specs.declared.Side.{Side}
 use Rattle.judge.specs.declared.Side.TheVariants.{Reading, Writing}
-use Rattle.judge.specs.declared.Judged.{Judged}
-use Rattle.judge.specs.Place.{judged}
+use Rattle.judge.specs.Place.{Judged, judged}
 
 -- 22: the name, as the side has it: a sheet holds the wire form in every carrier
-abbrev pub name_of : Side → Carrier → List ℕ → Name
+abbrev pub name_of : Side → Carrier → List ℕ → Checked
 name_of Writing c name = name_check name
 name_of Reading c name = cond (as_text c) (text_check name) (name_check name)
 
@@ -41,9 +39,9 @@ tail_fault side w addresses parameters =
 abbrev pub name_only_fault : Carrier → ℕ
 name_only_fault c = cond (as_text c) fault.addresses 0
 
-abbrev pub on_name : {A : Type 0} → Name → (ℕ → A) → A → A
-on_name Good bad good = good
-on_name (Bad place) bad good = bad place
+abbrev pub on_name : {A : Type 0} → Checked → (ℕ → A) → A → A
+on_name (Ok tt) bad good = good
+on_name (Err place) bad good = bad place
 
 -- 21, 22 with its place in the name, and what follows by the form
 unfoldable pub judged_of : Side → Carrier → ℕ → List ℕ → Bool → List ℕ → List ℕ → Judged

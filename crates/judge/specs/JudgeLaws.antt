@@ -1,5 +1,5 @@
 -- What each answer of the judge says of the fields: fault 0 is exactly `Passed`, and the bounds that follow. Assumes nothing.
-use Rattle.std.specs.Prelude.{◌≡◌, Bool, not, ◌↔◌, List, ℕ, ◌/◌, ◌%◌}
+use Rattle.std.specs.Prelude.{◌≡◌, Bool, not, ◌↔◌, List, ℕ, ◌/◌, ◌%◌, Ok, Err}
 use Rattle.std.proofs.Math.Path.{refl}
 use Rattle.std.proofs.Common.{sym, ap, ◌∙◌, true≢false, arith}
 use Rattle.std.proofs.Math.Bool.{true, false, cond}
@@ -12,8 +12,7 @@ use Rattle.numbers.specs.Limit as limit
 use Rattle.carriers.specs.declared.Carrier.{Carrier}
 use Rattle.carriers.specs.Carriers.{address_width, as_text}
 use Rattle.carriers.proofs.CarriersLaws.{by_address}
-use Rattle.names.specs.declared.Name.{Name}
-use Rattle.names.specs.declared.Name.TheVariants.{Good, Bad}
+use Rattle.names.specs.Automaton.{Checked}
 use Rattle.names.specs.Names.{IsName}
 use Rattle.names.specs.Exact as names
 use Rattle.texts.specs.Texts.{IsText}
@@ -82,21 +81,21 @@ module _ (side : Side) (c : Carrier) (f : Fields) where
   unfolding judged_of
   fault-passed = go (eqb f.priority 0) (name_of side c f.name) f.full refl refl refl
     where
-      go : (zero : Bool) (n : Name) (full : Bool) → eqb f.priority 0 ≡ zero → name_of side c f.name ≡ n → f.full ≡ full
+      go : (zero : Bool) (n : Checked) (full : Bool) → eqb f.priority 0 ≡ zero → name_of side c f.name ≡ n → f.full ≡ full
           → (cond zero (judged fault.priority 0)
           (on_name n (λ place. judged fault.name place)
           (judged (cond full (tail_fault side (address_width c) f.addresses f.parameters) (name_only_fault c)) 0))).fault ≡ 0
           → Passed side c f
       go true n full p m u e = absurd (omega arith)
-      go false (Bad place) full p m u e = absurd (omega arith)
-      go false Good true p m u e =
+      go false (Err place) full p m u e = absurd (omega arith)
+      go false (Ok tt) true p m u e =
           record {
             service = eqb-false _ _ p;
             named = m;
             tail = λ _. tail-passed side (address_width c) f.addresses f.parameters e;
             name_only = λ v. absurd (true≢false (sym u ∙ v));
           }
-      go false Good false p m u e =
+      go false (Ok tt) false p m u e =
           record {
             service = eqb-false _ _ p;
             named = m;
@@ -121,11 +120,11 @@ module _ (side : Side) (c : Carrier) (f : Fields) where
 -- ---- names that pass
 
 module _ (c : Carrier) (name : List ℕ) where
-  pub read-text : as_text c ≡ true → name_of Reading c name ≡ Good → IsText name
+  pub read-text : as_text c ≡ true → name_of Reading c name ≡ Ok tt → IsText name
   read-text t e = (texts.good name).0 (rw t at e)
 
-  pub read_name : as_text c ≡ false → name_of Reading c name ≡ Good → IsName name
+  pub read_name : as_text c ≡ false → name_of Reading c name ≡ Ok tt → IsName name
   read_name t e = (names.good name).0 (rw t at e)
 
-  pub written-name : name_of Writing c name ≡ Good → IsName name
+  pub written-name : name_of Writing c name ≡ Ok tt → IsName name
   written-name e = (names.good name).0 e

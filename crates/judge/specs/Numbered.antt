@@ -1,12 +1,12 @@
 -- Which numbers the judge gives: 0, or 21 to 28 (RULES R21 to R28). Assumes nothing.
-use Rattle.std.specs.Prelude.{refl, Bool, true, false, cond, not, List, ℕ, ◌/◌, ◌%◌, ◌≤◌, ltb, eqb, length}
+use Rattle.std.specs.Prelude.{◌≡◌, ◌<◌, refl, Bool, true, false, cond, not, List, ℕ, ◌/◌, ◌%◌, ◌≤◌, ltb, eqb, length, Ok, Err}
 use Rattle.std.proofs.Common.{inl, inr, arith}
 use Rattle.numbers.specs.Fault as fault
+use Rattle.numbers.specs.declared.Fault.{Fault}
+use Rattle.numbers.specs.declared.Fault.TheVariants.{Field, Priority, Name, Addresses, Limit, Dropped, Parameters, Hint, Value, Padding}
 use Rattle.numbers.specs.Limit as limit
 use Rattle.carriers.specs.declared.Carrier.{Carrier}
 use Rattle.carriers.specs.Carriers.{address_width, as_text}
-use Rattle.names.specs.declared.Name.{Name}
-use Rattle.names.specs.declared.Name.TheVariants.{Good, Bad}
 use Rattle.addresses.specs.Addresses.{list_of}
 use Rattle.svcparams.specs.Params.{params_fault}
 use Rattle.svcparams.proofs.Exactly as params
@@ -15,6 +15,7 @@ use Rattle.judge.specs.declared.Side.{Side}
 use Rattle.judge.specs.Place.{judged}
 use Rattle.judge.specs.Judge.{name_of, refused_of, tail_fault, name_only_fault, on_name, judged_of, fault_of}
 use Rattle.judge.specs.Passed.{FaultNumber}
+use Rattle.names.specs.Automaton.{Checked}
 
 within : (k : ℕ) → fault.priority ≤ k → k ≤ fault.value → FaultNumber k
 within k l h = inr (l, h)
@@ -54,10 +55,27 @@ fault-number side c f = go (eqb f.priority 0) (name_of side c f.name) f.full
     tail : ℕ
     tail = tail_fault side (address_width c) f.addresses f.parameters
 
-    go : (zero : Bool) (n : Name) (full : Bool)
+    go : (zero : Bool) (n : Checked) (full : Bool)
         → FaultNumber (cond zero (judged fault.priority 0)
         (on_name n (λ place. judged fault.name place) (judged (cond full tail (name_only_fault c)) 0))).fault
     go true n full = within _ (omega arith) (omega arith)
-    go false (Bad place) full = within _ (omega arith) (omega arith)
-    go false Good true = tail-number side (address_width c) f.addresses f.parameters
-    go false Good false = name-only-number c
+    go false (Err place) full = within _ (omega arith) (omega arith)
+    go false (Ok tt) true = tail-number side (address_width c) f.addresses f.parameters
+    go false (Ok tt) false = name-only-number c
+
+-- a fault has a number
+pub number-some : (k : Fault) → fault.number_of k ≡ 0 → ⊥
+number-some k e =
+    let some : 0 < fault.number_of k = elim k as (λ k. 0 < fault.number_of k) [
+      | Field ↦ omega arith
+      | Priority ↦ omega arith
+      | Name ↦ omega arith
+      | Addresses ↦ omega arith
+      | Limit ↦ omega arith
+      | Dropped ↦ omega arith
+      | Parameters ↦ omega arith
+      | Hint ↦ omega arith
+      | Value ↦ omega arith
+      | Padding ↦ omega arith
+    ] in
+    omega arith

@@ -1,5 +1,5 @@
 -- What the definitions say on each way through the code: one lemma for each return. Assumes nothing.
-use Rattle.std.specs.Prelude.{◌≡◌, Bool, true, false, List, ℕ, ◌/◌, ◌%◌, ◌≤◌, ◌<◌, length}
+use Rattle.std.specs.Prelude.{◌≡◌, Bool, true, false, List, ℕ, ◌/◌, ◌%◌, ◌≤◌, ◌<◌, length, Ok, Err}
 use Rattle.std.proofs.Math.Path.{sym}
 use Rattle.std.proofs.Common.{◌∙◌}
 use borrow.Author.Tests.{eq-eqb, ne_eqb, lt-ltb, le-ltb}
@@ -7,8 +7,7 @@ use Rattle.numbers.specs.Fault as fault
 use Rattle.numbers.specs.Limit as limit
 use Rattle.carriers.specs.declared.Carrier.{Carrier}
 use Rattle.carriers.specs.Carriers.{address_width, as_text}
-use Rattle.names.specs.declared.Name.{Name}
-use Rattle.names.specs.declared.Name.TheVariants.{Good, Bad}
+use Rattle.names.specs.Automaton.{Checked}
 use Rattle.names.specs.Wire.{name_check}
 use Rattle.texts.specs.TextCheck.{text_check}
 use Rattle.addresses.specs.Addresses.{list_of, any_of, none_of}
@@ -18,7 +17,7 @@ use Rattle.judge.specs.declared.Side.TheVariants.{Reading, Writing}
 use Rattle.judge.specs.Place.{judged}
 use Rattle.judge.specs.Judge.{name_of, refused_of, tail_fault, name_only_fault, judged_of}
 
-module _ (side : Side) (c : Carrier) (name : List ℕ) (r : Name) where
+module _ (side : Side) (c : Carrier) (name : List ℕ) (r : Checked) where
   pub name-written : side ≡ Writing → r ≡ name_check name → r ≡ name_of side c name
   name-written e q = rw e q
 
@@ -69,16 +68,12 @@ module _ (side : Side) (c : Carrier) (priority : ℕ) (name : List ℕ) (full : 
   judged-priority e = simp (eq-eqb _ _ e)
 
   module _ (e : priority ≡ 0 → ⊥) where
-    pub judged-name : (place : ℕ) → Bad place ≡ name_of side c name → judged fault.name place ≡ judged_of side c priority name full a p
-    unfolding judged_of
-    judged-name place n = simp (ne_eqb _ _ e, sym n)
-
-    pub judged-full : (k : ℕ) → Good ≡ name_of side c name → full ≡ true → k ≡ tail_fault side (address_width c) a p
+    pub judged-full : (k : ℕ) → Ok tt ≡ name_of side c name → full ≡ true → k ≡ tail_fault side (address_width c) a p
         → judged k 0 ≡ judged_of side c priority name full a p
     unfolding judged_of
     judged-full k n f q = simp (ne_eqb _ _ e, sym n, f, sym q)
 
-    pub judged-name-only : (k : ℕ) → Good ≡ name_of side c name → full ≡ false → k ≡ name_only_fault c
+    pub judged-name-only : (k : ℕ) → Ok tt ≡ name_of side c name → full ≡ false → k ≡ name_only_fault c
         → judged k 0 ≡ judged_of side c priority name full a p
     unfolding judged_of
     judged-name-only k n f q = simp (ne_eqb _ _ e, sym n, f, sym q)

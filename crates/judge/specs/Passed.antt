@@ -1,10 +1,9 @@
 -- A step of the proofs between the judge and `Allowed`: fields of which none of the judge's tests for 21 to 28 holds, in the words of these
 -- tests; what a reader must believe is `Allowed` (`allowed-exactly`). Assumes nothing: these are definitions.
-use Rattle.std.specs.Prelude.{◌≡◌, true, false, List, ℕ, ◌/◌, ◌%◌, ◌≤◌, ◌<◌, length, ◌⊎◌}
+use Rattle.std.specs.Prelude.{◌≡◌, true, false, List, ℕ, ◌/◌, ◌%◌, ◌≤◌, ◌<◌, length, ◌⊎◌, Ok}
 use Rattle.numbers.specs.Limit as limit
 use Rattle.carriers.specs.declared.Carrier.{Carrier}
 use Rattle.carriers.specs.Carriers.{address_width, as_text}
-use Rattle.names.specs.declared.Name.TheVariants.{Good}
 use Rattle.addresses.specs.Addresses.{list_of}
 use Rattle.svcparams.specs.Params.{params_fault}
 use Rattle.blocks.specs.Block.{Fields}
@@ -27,6 +26,6 @@ pub record PassedTail (side : Side) (w : ℕ) (addresses parameters : List ℕ) 
 
 pub record Passed (side : Side) (c : Carrier) (f : Fields) : Type 0 where
   pub service : f.priority ≡ 0 → ⊥  -- 21
-  pub named : name_of side c f.name ≡ Good  -- 22
+  pub named : name_of side c f.name ≡ Ok tt  -- 22
   pub tail : f.full ≡ true → PassedTail side (address_width c) f.addresses f.parameters  -- 23 to 28
   pub name_only : f.full ≡ false → as_text c ≡ false  -- 23

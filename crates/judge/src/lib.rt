@@ -5,11 +5,11 @@
 
 ghost use Rattle.std.specs.Prelude.{◌≡◌, ◌+◌, ◌<◌, ◌^◌};
 ghost use Rattle.addresses.specs.Addresses.{Width, list_of};
-ghost use Rattle.judge.specs.Place.{place_from};
+ghost use Rattle.numbers.specs.Fault as fault;
+ghost use Rattle.judge.specs.Place.{from, flawed, judged_in};
 ghost use Rattle.judge.specs.Judge.{name_of, refused_of, tail_fault, name_only_fault, judged_of};
 
 use carriers::Carrier;
-use names::Name;
 use numbers::{Fault, Limit};
 
 #[derive(Clone, Copy)]
@@ -18,16 +18,41 @@ pub enum Side {
     Writing,
 }
 
-// The first fault, or 0; with fault 22 the place of the first octet of the name at which no acceptable name can continue, or the name's length
-// where it is cut short, else 0. The judge counts it from the name's first octet; what is told of a body, a block or a sheet, from where that
-// begins (`place_from`).
+// A fault and its place: of fault 22 the place of the first octet of the name at which no acceptable name can continue, or the name's length
+// where it is cut short; of any other 0. The judge counts it from the name's first octet; what is told of a body, a block or a sheet, from where
+// that begins (`back`).
 #[derive(Clone, Copy)]
-pub struct Judged {
-    pub fault: usize,
+pub struct Flaw {
+    pub fault: Fault,
     pub place: usize,
 }
 
-fn check_name(side: Side, c: Carrier, name: &[u8]) -> Name
+// A fault that has no place.
+impl From<Fault> for Flaw {
+    ghost from_gives = { λ f w. w ≡ record { fault = f; place = 0 } };
+
+    fn from(fault: Fault) -> Flaw {
+        Flaw { fault, place: 0 }
+    }
+}
+
+impl Flaw {
+    // The same, its place counted from `n` octets further back.
+    pub fn back(self, n: usize) -> Flaw
+        requires { n + self.place < 2 ^ 63 }
+        ensures { flawed result ≡ from n (flawed self) }
+    {
+        if self.fault == Fault::Name {
+            return Flaw {
+                fault: self.fault,
+                place: n + self.place,
+            };
+        }
+        Flaw::from(self.fault)
+    }
+}
+
+fn check_name(side: Side, c: Carrier, name: &[u8]) -> Result<(), usize>
     ensures { result ≡ name_of side c name.now }
 {
     match side {
@@ -54,37 +79,37 @@ fn refused(side: Side, w: usize, addresses: &[u8]) -> bool
 }
 
 // Faults 23 to 28 of a record in full form, with addresses of `w` octets.
-fn tail_fault(side: Side, w: usize, addresses: &[u8], parameters: &[u8]) -> usize
+fn tail_fault(side: Side, w: usize, addresses: &[u8], parameters: &[u8]) -> Result<(), Fault>
     requires { Width w }
-    ensures { result ≡ tail_fault side w addresses.now parameters.now }
+    ensures { fault.number_in result ≡ tail_fault side w addresses.now parameters.now }
 {
     let n = addresses.len();
     if n == 0 {
-        return Fault::ADDRESSES;
+        return Err(Fault::Addresses);
     }
     if n % w != 0 {
-        return Fault::ADDRESSES;
+        return Err(Fault::Addresses);
     }
     if Limit::ADDRESSES < n / w {
-        return Fault::LIMIT;
+        return Err(Fault::Limit);
     }
     if Limit::PARAMETERS < parameters.len() {
-        return Fault::LIMIT;
+        return Err(Fault::Limit);
     }
     if refused(side, w, addresses) {
-        return Fault::DROPPED;
+        return Err(Fault::Dropped);
     }
     svcparams::params_fault(parameters)
 }
 
 // Name only skips 24 to 28, and in carriers 1 to 3 also 23.
-fn name_only_fault(c: Carrier) -> usize
-    ensures { result ≡ name_only_fault c }
+fn name_only_fault(c: Carrier) -> Result<(), Fault>
+    ensures { fault.number_in result ≡ name_only_fault c }
 {
     if c.as_text() {
-        return Fault::ADDRESSES;
+        return Err(Fault::Addresses);
     }
-    0
+    Ok(())
 }
 
 // The first of faults 21 to 28 of a record's fields; a name-only record has neither addresses nor parameters. (`&name[..]`:
@@ -97,43 +122,20 @@ pub fn judge_fields(
     full: bool,
     addresses: &[u8],
     parameters: &[u8],
-) -> Judged
-    ensures { result ≡ judged_of side c priority name.now full addresses.now parameters.now }
+) -> Result<(), Flaw>
+    ensures { judged_in result ≡ judged_of side c priority name.now full addresses.now parameters.now }
 {
     if priority == 0 {
-        return Judged {
-            fault: Fault::PRIORITY,
-            place: 0,
-        };
+        return Err(Flaw::from(Fault::Priority));
     }
-    match check_name(side, c, &name[..]) {
-        Name::Bad(place) => Judged {
-            fault: Fault::NAME,
-            place,
-        },
-        Name::Good => {
-            if full {
-                Judged {
-                    fault: tail_fault(side, c.address_width(), &addresses[..], &parameters[..]),
-                    place: 0,
-                }
-            } else {
-                Judged {
-                    fault: name_only_fault(c),
-                    place: 0,
-                }
-            }
-        }
+    check_name(side, c, &name[..]).map_err(|place| Flaw {
+        fault: Fault::Name,
+        place,
+    })?;
+    if full {
+        tail_fault(side, c.address_width(), &addresses[..], &parameters[..])?;
+    } else {
+        name_only_fault(c)?;
     }
-}
-
-// The place of a fault, counted from `n` octets further back; only fault 22 has one.
-pub fn place_from(n: usize, fault: usize, place: usize) -> usize
-    requires { n + place < 2 ^ 63 }
-    ensures { result ≡ place_from n fault place }
-{
-    if fault == Fault::NAME {
-        return n + place;
-    }
-    0
+    Ok(())
 }

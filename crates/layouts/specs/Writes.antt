@@ -17,7 +17,7 @@ use Rattle.texts.specs.Texts.{text_of}
 use Rattle.texts.specs.Convert.{text-length}
 use Rattle.blocks.specs.Block.{Fields, put_after_name, padding_of, layout_by, layout, FitsBy, Fits}
 use Rattle.frames.specs.Emit.{head_of}
-use Rattle.blocks.specs.Places.{Named}
+use Rattle.blocks.specs.Parts.{Named}
 use Rattle.blocks.specs.Sizes.{length-layout}
 use Rattle.carriers.proofs.CarriersLaws.{length-width, text-width, wire-form, text-form}
 use Rattle.layouts.specs.Layouts.{carried_as, carried_of, own_option, instance_of}

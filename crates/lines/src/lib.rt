@@ -10,12 +10,13 @@ ghost use Rattle.std.specs.Prelude.{◌≡◌, ◌<◌};
 ghost use Rattle.io.specs.Counts.{IsPrefixLen};
 ghost use Rattle.chars.specs.Puts.{Puts};
 ghost use Rattle.words.specs.Words.{words_in};
+ghost use Rattle.arguments.specs.Wrong.{number_of};
 ghost use Rattle.lines.specs.Messages.{count_of, worded_of, about_of, failed_of, beside_of, table, culprit, usage_of};
 ghost use Rattle.lines.specs.HexLines.{after_of, hex_lines_of};
 
 use arguments::Wrong;
 use chars::{put, put_all, put_number};
-use words::{put_found, put_words};
+use words::put_words;
 
 // ---- parts of messages
 
@@ -69,47 +70,45 @@ pub fn put_beside(out: &mut [u8], name: &[u8], errno: usize) -> usize
 
 // ---- a command line that is wrong
 
-// Writes what is wrong (`Wrong`), from a table as `words` has it.
-fn put_text(out: &mut [u8], at: usize, wrong: usize) -> usize
-    ensures { Puts at (words_in table wrong) out.old result out.new }
+// What is wrong, in words.
+#[tactic(auto, unfolding(crate::specs::Messages::table, words::specs::Words::words_in))]
+fn text(wrong: Wrong) -> &'static [u8]
+    ensures { result.now ≡ words_in table (number_of wrong) }
 {
-    put_found(
-        out,
-        at,
-        wrong,
-        b"\x01unknown command: \n\
-          \x02unknown option: \n\
-          \x03unknown carrier: \n\
-          \x04a second file: \n\
-          \x05an argument is too long\n\
-          \x06read needs a carrier\n\
-          \x07-o needs a file name\n\
-          \x08-o is given twice\n\
-          \x09--hex, --raw and --base64 exclude each other\n\
-          \x0a--value, --strict and --force are for read\n\
-          \x0bshow has no -o\n\
-          \x0c--json and -o - exclude each other\n",
-    )
+    match wrong {
+        Wrong::Command => b"unknown command: ",
+        Wrong::Option => b"unknown option: ",
+        Wrong::Carrier => b"unknown carrier: ",
+        Wrong::File => b"a second file: ",
+        Wrong::Long => b"an argument is too long",
+        Wrong::NoCarrier => b"read needs a carrier",
+        Wrong::NoName => b"-o needs a file name",
+        Wrong::Output => b"-o is given twice",
+        Wrong::Form => b"--hex, --raw and --base64 exclude each other",
+        Wrong::OnlyRead => b"--value, --strict and --force are for read",
+        Wrong::ShowOutput => b"show has no -o",
+        Wrong::JsonOutput => b"--json and -o - exclude each other",
+    }
 }
 
-// Writes the argument that is wrong, where one is.
-fn put_culprit(out: &mut [u8], at: usize, wrong: usize, argument: &[u8]) -> usize
-    ensures { Puts at (culprit wrong argument.now) out.old result out.new }
+// What is said of the argument that is wrong: where it is a word that is unknown, or a file's name, the argument itself.
+fn culprit(wrong: Wrong, argument: &[u8]) -> &[u8]
+    ensures { result.now ≡ culprit (number_of wrong) argument.now }
 {
-    if Wrong::LONG <= wrong {
-        return put_all(out, at, &argument[..0]);
+    match wrong {
+        Wrong::Command | Wrong::Option | Wrong::Carrier | Wrong::File => argument,
+        _ => b"",
     }
-    put_all(out, at, argument)
 }
 
 // Writes that the command line is wrong.
-pub fn put_usage(out: &mut [u8], wrong: usize, argument: &[u8]) -> usize
+pub fn put_usage(out: &mut [u8], wrong: Wrong, argument: &[u8]) -> usize
     ensures prefix_len { IsPrefixLen result out.new }
-    ensures puts { Puts 0 (usage_of wrong argument.now) out.old result out.new }
+    ensures puts { Puts 0 (usage_of (number_of wrong) argument.now) out.old result out.new }
 {
     let from = put_all(out, 0, b"dnr: ");
-    let next = put_text(out, from, wrong);
-    let end = put_culprit(out, next, wrong, argument);
+    let next = put_all(out, from, text(wrong));
+    let end = put_all(out, next, culprit(wrong, argument));
     put_all(out, end, b"\n")
 }
 
@@ -120,13 +119,11 @@ fn after(i: usize, n: usize) -> u8
     requires { i < n }
     ensures { result ≡ after_of i n }
 {
-    if i % 16 == 15 {
-        return b'\n';
+    if i % 16 == 15 || i + 1 == n {
+        b'\n'
+    } else {
+        b' '
     }
-    if i + 1 == n {
-        return b'\n';
-    }
-    b' '
 }
 
 // Writes octets as hexadecimal text, and returns how long it is.
@@ -135,11 +132,9 @@ pub fn put_hex(out: &mut [u8], s: &[u8]) -> usize
     ensures puts { Puts 0 (hex_lines_of s.now) out.old result out.new }
 {
     let mut o = 0;
-    let mut i = 0;
-    while i < s.len() {
-        let next = hexes::put_octet(out, o, s[i]);
+    for (i, b) in s.iter().enumerate() {
+        let next = hexes::put_octet(out, o, *b);
         o = put(out, next, after(i, s.len()));
-        i += 1;
     }
     o
 }

@@ -1,12 +1,13 @@
 // What is listed of an area that is not taken whole: the blocks that are discarded, the addresses that are dropped.
 ghost use Rattle.io.specs.Counts.{IsPrefixLen};
 ghost use Rattle.chars.specs.Puts.{Puts};
+ghost use Rattle.numbers.specs.Fault as faults;
 ghost use Rattle.lines.specs.Listed.{reason_part, key_part, cause_of, discarded_of, dropped_of};
 
 use crate::{put_about, put_count, put_worded};
 use chars::put_all;
-use octets::lesser;
-use reasons::Param;
+use numbers::Fault;
+use reasons::Reason;
 use words::put_reason;
 
 // A block that is discarded. Blocks are counted from 1, octets of the area from 0.
@@ -15,43 +16,52 @@ pub struct Discard {
     pub block: usize,
     pub octet: usize,
     // Why (RULES R20 to R29).
-    pub fault: usize,
-    // Why its name is bad, or 0.
-    pub reason: usize,
-    // The key of the parameter at fault, or `Param::NONE`.
-    pub key: usize,
+    pub fault: Fault,
+    // Why its name is bad, and the key of the parameter at fault, where one is.
+    pub reason: Option<Reason>,
+    pub key: Option<usize>,
 }
 
 // ---- a block
 
 // Writes why a name is bad, where one is.
-fn put_reason_part(out: &mut [u8], at: usize, reason: usize) -> usize
+fn put_reason_part(out: &mut [u8], at: usize, reason: Option<Reason>) -> usize
     ensures { Puts at (reason_part reason) out.old result out.new }
 {
-    if reason == 0 {
-        return lesser(at, out.len());
+    match reason {
+        None => at.min(out.len()),
+        Some(reason) => {
+            let from = put_all(out, at, b"; ");
+            put_reason(out, from, reason)
+        }
     }
-    let from = put_all(out, at, b"; ");
-    put_reason(out, from, reason)
 }
 
 // Writes the key of a parameter, where there is one.
-fn put_key_part(out: &mut [u8], at: usize, key: usize) -> usize
+fn put_key_part(out: &mut [u8], at: usize, key: Option<usize>) -> usize
     ensures { Puts at (key_part key) out.old result out.new }
 {
-    if Param::NONE <= key {
-        return lesser(at, out.len());
+    match key {
+        None => at.min(out.len()),
+        Some(key) => {
+            let from = put_all(out, at, b"; parameter ");
+            values::put_key(out, from, key)
+        }
     }
-    let from = put_all(out, at, b"; parameter ");
-    values::put_key(out, from, key)
 }
 
 // Writes why a block is discarded or a sheet refused, to the end of the line.
-pub fn put_cause(out: &mut [u8], at: usize, fault: usize, reason: usize, key: usize) -> usize
+pub fn put_cause(
+    out: &mut [u8],
+    at: usize,
+    fault: Fault,
+    reason: Option<Reason>,
+    key: Option<usize>,
+) -> usize
     ensures prefix_len { IsPrefixLen result out.new }
-    ensures puts { Puts at (cause_of fault reason key) out.old result out.new }
+    ensures puts { Puts at (cause_of (faults.number_of fault) reason key) out.old result out.new }
 {
-    let worded = put_worded(out, at, fault);
+    let worded = put_worded(out, at, fault.number());
     let reasoned = put_reason_part(out, worded, reason);
     let end = put_key_part(out, reasoned, key);
     put_all(out, end, b"\n")
@@ -60,7 +70,7 @@ pub fn put_cause(out: &mut [u8], at: usize, fault: usize, reason: usize, key: us
 // Writes that a block is discarded: where, and why.
 pub fn put_discarded(out: &mut [u8], name: &[u8], d: Discard) -> usize
     ensures prefix_len { IsPrefixLen result out.new }
-    ensures puts { Puts 0 (discarded_of name.now d.block d.octet d.fault d.reason d.key) out.old result out.new }
+    ensures puts { Puts 0 (discarded_of name.now d.block d.octet (faults.number_of d.fault) d.reason d.key) out.old result out.new }
 {
     let next = put_about(out, name);
     let counted = put_count(out, next, b": block ", d.block);

@@ -1,18 +1,17 @@
 // What is said, as JSON: one object a line, of a message and of octets printed or saved.
-ghost use Rattle.std.specs.Prelude.{◌≡◌, ◌-◌, length};
+ghost use Rattle.std.specs.Prelude.{◌≡◌, length};
 ghost use Rattle.io.specs.Counts.{IsPrefixLen};
 ghost use Rattle.chars.specs.Puts.{Puts};
 ghost use Rattle.lines.specs.Objects.{unit_of, letter_of, string_of, member_of, members_of, inner_of, object_of, octets_of, saved_of};
 
 use crate::put_count;
 use chars::{put, put_all};
-use octets::lesser;
 
 // Octets of `dnr: `, with which every line begins.
 const FRONT: usize = 5;
 
-// What goes with a message; 0 stands for none.
-#[derive(Clone, Copy)]
+// What goes with a message. 0 is left out of its object, an octet of 0 too, so that an Option would say one thing in two ways.
+#[derive(Clone, Copy, Default)]
 pub struct Note {
     // The exit status that the message gives.
     pub status: usize,
@@ -38,30 +37,21 @@ fn put_unit(out: &mut [u8], at: usize, b: u8) -> usize
 fn put_letter(out: &mut [u8], at: usize, b: u8) -> usize
     ensures { Puts at (letter_of b) out.old result out.new }
 {
-    if b < b' ' {
-        return put_unit(out, at, b);
+    match b {
+        b'"' => put_all(out, at, b"\\\""),
+        b'\\' => put_all(out, at, b"\\\\"),
+        b' '..=b'~' => put(out, at, b),
+        _ => put_unit(out, at, b),
     }
-    if b'~' < b {
-        return put_unit(out, at, b);
-    }
-    if b == b'"' {
-        return put_all(out, at, b"\\\"");
-    }
-    if b == b'\\' {
-        return put_all(out, at, b"\\\\");
-    }
-    put(out, at, b)
 }
 
 // Writes the octets of a string.
 fn put_string(out: &mut [u8], at: usize, s: &[u8]) -> usize
     ensures { Puts at (string_of s.now) out.old result out.new }
 {
-    let mut o = lesser(at, out.len());
-    let mut i = 0;
-    while i < s.len() {
-        o = put_letter(out, o, s[i]);
-        i += 1;
+    let mut o = at.min(out.len());
+    for b in s {
+        o = put_letter(out, o, *b);
     }
     o
 }
@@ -73,7 +63,7 @@ fn put_member(out: &mut [u8], at: usize, before: &[u8], n: usize) -> usize
     ensures { Puts at (member_of before.now n) out.old result out.new }
 {
     if n == 0 {
-        return lesser(at, out.len());
+        return at.min(out.len());
     }
     put_count(out, at, before, n)
 }
@@ -91,22 +81,12 @@ fn put_members(out: &mut [u8], at: usize, note: Note) -> usize
     put_all(out, octet, b"}\n")
 }
 
-// Where the line break of a line stands.
-fn last(line: &[u8]) -> usize
-    ensures { result ≡ length line.now - 1 }
-{
-    if line.len() == 0 {
-        return 0;
-    }
-    line.len() - 1
-}
-
 // Writes what a line says as a string.
 fn put_inner(out: &mut [u8], at: usize, line: &[u8]) -> usize
     ensures { Puts at (string_of (inner_of line.now)) out.old result out.new }
 {
-    let end = last(line);
-    let from = lesser(FRONT, end);
+    let end = line.len().saturating_sub(1);
+    let from = FRONT.min(end);
     put_string(out, at, &line[from..end])
 }
 

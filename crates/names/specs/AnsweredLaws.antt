@@ -1,12 +1,10 @@
 -- The walk over the last octets of a buffer by a step, and its answer as a number and back. Assumes nothing.
-use Rattle.std.specs.Prelude.{◌≡◌, refl, Bool, true, false, not, List, ◌∷◌, ℕ, ◌+◌, ◌-◌, ◌≤◌, ◌<◌, get_or, take, drop}
+use Rattle.std.specs.Prelude.{◌≡◌, refl, Bool, true, false, not, List, ◌∷◌, ℕ, ◌+◌, ◌-◌, ◌≤◌, ◌<◌, get_or, take, drop, Ok, Err}
 use Rattle.std.proofs.Math.Path.{sym, ap}
 use Rattle.std.proofs.Common.{◌∙◌, add-one, drop-cons, length-take-le, get_or-take, ne_eqb}
 use native.Mathlib.Omega.{arith}
 use Rattle.std.proofs.Math.ListN.{length, drop_of_length-le}
-use Rattle.names.specs.declared.Name.{Name}
-use Rattle.names.specs.declared.Name.TheVariants.{Good, Bad}
-use Rattle.names.specs.Automaton.{stop, go, Automaton, walk}
+use Rattle.names.specs.Automaton.{stop, go, Automaton, walk, Checked}
 use Rattle.names.specs.AutomatonLaws as laws
 use Rattle.names.specs.Answered.{past, placed, named, answer_in}
 
@@ -59,9 +57,9 @@ unfolding answer_in
 whole a b n st = let z : n - n ≡ 0 = omega arith in rw z
 
 -- the number gives the answer back
-pub named_back : (r : Name) → ((p : ℕ) → r ≡ Bad p → p ≤ 256) → named (placed r) ≡ r
-named_back Good h = refl
-named_back (Bad p) h = let k = h p refl in simp (ne_eqb p past (omega arith))
+pub named_back : (r : Checked) → ((p : ℕ) → r ≡ Err p → p ≤ 256) → named (placed r) ≡ r
+named_back (Ok tt) h = refl
+named_back (Err p) h = let k = h p refl in simp (ne_eqb p past (omega arith))
 
 -- past two octets, fewer are left
 pub two-fewer : {t : ℕ} (left : ℕ) → (left ≡ 0 → ⊥) → left ≡ t → left - 1 - 1 < t

@@ -1,7 +1,10 @@
 -- A check of octets one after the other, each at its place, in whatever states. Assumes nothing: these are definitions.
-use Rattle.std.specs.Prelude.{Bool, cond, List, [], ◌∷◌, ℕ, ◌+◌}
-use Rattle.names.specs.declared.Name.{Name}
-use Rattle.names.specs.declared.Name.TheVariants.{Good, Bad}
+use Rattle.std.specs.Prelude.{Bool, cond, List, [], ◌∷◌, ℕ, ◌+◌, Result, Ok, Err}
+
+-- What a check answers: Ok of what is acceptable, or Err of the place, from 0, of the first octet at which nothing acceptable can continue, or
+-- of the length where what stands there is cut short
+abbrev pub Checked : Type 0
+Checked = Result (Unit {0}) ℕ
 
 -- What an octet does: nothing acceptable goes on so, or the check goes on in a state
 pub data Move (S : Type 0) : Type 0 where
@@ -14,11 +17,11 @@ pub record Automaton (S : Type 0) : Type 0 where
   pub step : S → ℕ → ℕ → Move S
 
 -- What comes of a move: the answer where it stops, and from the next place on
-abbrev pub on : {S : Type 0} → Move S → Name → (S → Name) → Name
+abbrev pub on : {S : Type 0} → Move S → Checked → (S → Checked) → Checked
 on stop bad next = bad
 on (go st) bad next = next st
 
 -- The octets from the place `at` on
-unfoldable pub walk : {S : Type 0} → Automaton S → S → ℕ → List ℕ → Name
-walk a st at [] = cond (a.ends st) Good (Bad at)
-walk a st at (x ∷ xs) = on (a.step st at x) (Bad at) (λ st'. walk a st' (at + 1) xs)
+unfoldable pub walk : {S : Type 0} → Automaton S → S → ℕ → List ℕ → Checked
+walk a st at [] = cond (a.ends st) (Ok tt) (Err at)
+walk a st at (x ∷ xs) = on (a.step st at x) (Err at) (λ st'. walk a st' (at + 1) xs)

@@ -1,7 +1,6 @@
 -- `name_check` takes each name. Assumes nothing.
-use Rattle.std.specs.Prelude.{◌≡◌, refl, List, [], ◌∷◌, ◌++◌, true, false, ℕ, suc, ◌+◌, ◌-◌, ◌≤◌, length}
+use Rattle.std.specs.Prelude.{◌≡◌, refl, List, [], ◌∷◌, ◌++◌, true, false, ℕ, suc, ◌+◌, ◌-◌, ◌≤◌, length, Ok}
 use Rattle.std.proofs.Common.{sym, ap, ◌∙◌, inl, inr, arith, length-append}
-use Rattle.names.specs.declared.Name.TheVariants.{Good}
 use Rattle.names.specs.Automaton.{walk}
 use Rattle.names.specs.AutomatonLaws.{goes, ends-good}
 use Rattle.names.specs.Wire.{State, letter, hyphen, first, root, step, inside, name_automaton, name_check}
@@ -10,7 +9,7 @@ use Rattle.octets.specs.Lists.{All}
 use Rattle.names.specs.Names.{alnum, last, Ldh, Label, wire, IsName}
 
 -- the root octet at the end
-pub root-good : (at : ℕ) → (at ≡ 0 → ⊥) → walk name_automaton (letter 0) at (0 ∷ []) ≡ Good
+pub root-good : (at : ℕ) → (at ≡ 0 → ⊥) → walk name_automaton (letter 0) at (0 ∷ []) ≡ Ok tt
 root-good at n = goes name_automaton (letter 0) at 0 [] (at_length 0 at 0 refl ∙ length-root at 0 refl n) ∙ ends-good name_automaton root (at + 1) refl
 
 pub hyphen-not-alnum : (x : ℕ) → x ≡ 45 → alnum x ≡ false
@@ -81,7 +80,7 @@ wire-some [] = omega arith
 wire-some (l ∷ ls) = omega arith
 
 pub wire-good : (ls : List (List ℕ)) (at : ℕ) → All Label ls → at + length (wire ls) ≤ 255 → (at ≡ 0 → 1 ≤ length ls)
-    → walk name_automaton (letter 0) at (wire ls) ≡ Good
+    → walk name_automaton (letter 0) at (wire ls) ≡ Ok tt
 wire-good [] at o h n = root-good at (λ z. let q = n z in omega arith)
 wire-good (l ∷ ls) at o h n =
     let a = length-append l (wire ls) in
@@ -90,7 +89,7 @@ wire-good (l ∷ ls) at o h n =
     one_label l at (wire ls) o.0 (omega arith)
     ∙ wire-good ls (at + 1 + length l) o.1 (omega arith) (λ z. absurd (omega arith))
 
-pub good-complete : (s : List ℕ) → IsName s → name_check s ≡ Good
+pub good-complete : (s : List ℕ) → IsName s → name_check s ≡ Ok tt
 unfolding name_check
 good-complete s o =
     let h = o.short in

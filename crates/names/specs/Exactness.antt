@@ -1,18 +1,16 @@
--- An automaton that takes the acceptable lists and no others, and stops only where something else could follow, says `Bad p` exactly where
+-- An automaton that takes the acceptable lists and no others, and stops only where something else could follow, says `Err p` exactly where
 -- p is the first bad place; and what comes after the longest acceptable list changes nothing. Assumes nothing.
-use Rattle.std.specs.Prelude.{◌≡◌, refl, ◌↔◌, Bool, true, false, List, [], ◌∷◌, ◌++◌, ℕ, ◌+◌, ◌≤◌, ◌<◌, leb, length, take}
+use Rattle.std.specs.Prelude.{◌≡◌, refl, ◌↔◌, Bool, true, false, List, [], ◌∷◌, ◌++◌, ℕ, ◌+◌, ◌≤◌, ◌<◌, leb, length, take, Ok, Err}
 use Rattle.std.proofs.Common.{sym, ap, ◌∙◌, append_assoc, arith, length-append, take_at, take_all, take-take, length-take-le, leb-true, leb-false}
-use Rattle.names.specs.declared.Name.{Name}
-use Rattle.names.specs.declared.Name.TheVariants.{Good, Bad}
 use Rattle.names.specs.Names.{FirstBad}
-use Rattle.names.specs.Automaton.{Automaton, walk}
+use Rattle.names.specs.Automaton.{Automaton, walk, Checked}
 use Rattle.names.specs.AutomatonLaws.{not_good, StopsAt}
 use Rattle.names.specs.Unique.{one_place}
 
 module _ {S : Type 0} (a : Automaton S) (st : S) (Acceptable : List ℕ → Type 0)
-    (sound : (s : List ℕ) → walk a st 0 s ≡ Good → Acceptable s)
-    (complete : (s : List ℕ) → Acceptable s → walk a st 0 s ≡ Good)
-    (stopped : (s : List ℕ) (p : ℕ) → walk a st 0 s ≡ Bad p → StopsAt a st 0 s p) where
+    (sound : (s : List ℕ) → walk a st 0 s ≡ Ok tt → Acceptable s)
+    (complete : (s : List ℕ) → Acceptable s → walk a st 0 s ≡ Ok tt)
+    (stopped : (s : List ℕ) (p : ℕ) → walk a st 0 s ≡ Err p → StopsAt a st 0 s p) where
   no-halt : (s back : List ℕ) (p : ℕ) (r : StopsAt a st 0 s p) → r.back ≡ back → p < length s → (t : List ℕ) → Acceptable (take (p + 1) s ++ t) → ⊥
   no-halt s [] p r b h t o =
       let q = r.place in
@@ -28,7 +26,7 @@ module _ {S : Type 0} (a : Automaton S) (st : S) (Acceptable : List ℕ → Type
       let j : take (p + 1) s ++ t ≡ r.front ++ (z ∷ t) = rw k (append_assoc r.front (z ∷ []) t) in
       not_good (sym (r.halts z zs t b) ∙ (rw j at (complete (take (p + 1) s ++ t) o)))
 
-  bad-first : (s : List ℕ) (p : ℕ) → walk a st 0 s ≡ Bad p → FirstBad Acceptable s p
+  bad-first : (s : List ℕ) (p : ℕ) → walk a st 0 s ≡ Err p → FirstBad Acceptable s p
   bad-first s p e =
       let r = stopped s p e in
       let q = r.place in
@@ -42,11 +40,11 @@ module _ {S : Type 0} (a : Automaton S) (st : S) (Acceptable : List ℕ → Type
         halts = no-halt s r.back p r refl;
       }
 
-  from-result : (s : List ℕ) (p : ℕ) (r : Name) → walk a st 0 s ≡ r → FirstBad Acceptable s p → walk a st 0 s ≡ Bad p
-  from-result s p Good e b = absurd (b.not_acceptable (sound s e))
-  from-result s p (Bad q) e b = e ∙ ap Bad (one_place s q p (bad-first s q e) b)
+  from-result : (s : List ℕ) (p : ℕ) (r : Checked) → walk a st 0 s ≡ r → FirstBad Acceptable s p → walk a st 0 s ≡ Err p
+  from-result s p (Ok tt) e b = absurd (b.not_acceptable (sound s e))
+  from-result s p (Err q) e b = e ∙ ap Err (one_place s q p (bad-first s q e) b)
 
-  pub bad : (s : List ℕ) (p : ℕ) → (walk a st 0 s ≡ Bad p) ↔ FirstBad Acceptable s p
+  pub bad : (s : List ℕ) (p : ℕ) → (walk a st 0 s ≡ Err p) ↔ FirstBad Acceptable s p
   bad s p = (bad-first s p, from-result s p (walk a st 0 s) refl)
 
   -- where an acceptable list has at most so many octets
@@ -61,13 +59,13 @@ module _ {S : Type 0} (a : Automaton S) (st : S) (Acceptable : List ℕ → Type
         let k = length-take-le p s w in
         omega arith
 
-    pub place-small : (s : List ℕ) (p : ℕ) → walk a st 0 s ≡ Bad p → p ≤ most
+    pub place-small : (s : List ℕ) (p : ℕ) → walk a st 0 s ≡ Err p → p ≤ most
     place-small s p e = place_of s p (bad-first s p e)
 
     -- what comes later changes nothing
-    longer : (s : List ℕ) (n : ℕ) (r : Name) → walk a st 0 s ≡ r → most < n → n < length s → walk a st 0 (take n s) ≡ r
-    longer s n Good e h k = let o = short s (sound s e) in absurd (omega arith)
-    longer s n (Bad p) e h k =
+    longer : (s : List ℕ) (n : ℕ) (r : Checked) → walk a st 0 s ≡ r → most < n → n < length s → walk a st 0 (take n s) ≡ r
+    longer s n (Ok tt) e h k = let o = short s (sound s e) in absurd (omega arith)
+    longer s n (Err p) e h k =
         let b = bad-first s p e in
         let q = place_of s p b in
         let f = length-take-le n s (omega arith) in

@@ -3,7 +3,7 @@
 use Rattle.std.specs.Prelude.{◌≡◌, refl, List, Bool, true, false, ℕ, ◌+◌, ◌-◌, ◌≤◌, ◌<◌, min, ltb, eqb, length, get_or}
 use Rattle.std.proofs.Common.{sym, ap, ◌∙◌, arith, ltb-true}
 use Rattle.std.proofs.Math.Seq.{take-length}
-use Rattle.names.specs.declared.Name.{Name}
+use Rattle.names.specs.Automaton.{Checked}
 use Rattle.names.specs.Names.{alnum}
 use Rattle.names.specs.Wire.{State, letter, hyphen, first, root, step, inside, length_octet, hyphen_fits, label_fits, name_automaton, name_check}
 use Rattle.names.specs.Answered.{past, named, answer_in}
@@ -122,7 +122,7 @@ hyphen-more label x e f =
     (told e f)
 
 -- the walk over a whole slice, and its answer
-pub held-check : (s : List ℕ) {r : ℕ} {a : Name} → r ≡ answer_in name_automaton s (length s) (letter 0) (length s) → a ≡ named r → a ≡ name_check s
+pub held-check : (s : List ℕ) {r : ℕ} {a : Checked} → r ≡ answer_in name_automaton s (length s) (letter 0) (length s) → a ≡ named r → a ≡ name_check s
 unfolding name_check
 held-check s e f =
     let w = whole name_automaton s (length s) (letter 0) in

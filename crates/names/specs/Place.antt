@@ -1,11 +1,10 @@
 -- Wherever the check of a name stops, something else could follow: the letter a to the end of the label, and the root octet. Assumes nothing.
-use Rattle.std.specs.Prelude.{◌≡◌, refl, List, [], ◌∷◌, ◌++◌, true, ℕ, zero, suc, ◌+◌, eqb, replicate}
+use Rattle.std.specs.Prelude.{◌≡◌, refl, List, [], ◌∷◌, ◌++◌, true, ℕ, zero, suc, ◌+◌, eqb, replicate, Err}
 use Rattle.std.proofs.Common.{◌∙◌, inl, arith, eqb-true}
 use Rattle.std.proofs.lemmas.List.{length-replicate}
 use Rattle.std.proofs.lemmas.Bool.{eqb-false}
 use Rattle.octets.specs.Lists.{All}
 use Rattle.octets.specs.Cases.{by-test}
-use Rattle.names.specs.declared.Name.TheVariants.{Bad}
 use Rattle.names.specs.Names.{alnum, last, Ldh, Label}
 use Rattle.names.specs.AutomatonLaws.{goes, ends-good, Ending, StopsAt, stopped}
 use Rattle.names.specs.Wire.{State, letter, hyphen, first, root, name_automaton, name_check}
@@ -57,6 +56,6 @@ ending (first k) y at v =
     (97 ∷ t.0, goes name_automaton (first k) at 97 t.0 (first-letter k at 97 a-alnum) ∙ t.1)
 ending root y at v = ([], ends-good name_automaton root at refl)
 
-pub bad-stops : (s : List ℕ) (p : ℕ) → name_check s ≡ Bad p → StopsAt name_automaton (letter 0) 0 s p
+pub bad-stops : (s : List ℕ) (p : ℕ) → name_check s ≡ Err p → StopsAt name_automaton (letter 0) 0 s p
 unfolding name_check alnum
 bad-stops s p e = stopped name_automaton Valid Claim stepped ending s (letter 0) 48 0 p (refl, omega arith) e

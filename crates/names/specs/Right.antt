@@ -1,9 +1,8 @@
 -- What an answer of the check claims of the slice, by its number and said of the slice itself; and that a name has three octets at least.
 -- Assumes nothing.
-use Rattle.std.specs.Prelude.{◌≡◌, refl, ℕ, ◌≤◌, length, List, [], ◌∷◌}
-use Rattle.std.proofs.Common.{ap, inl, inr, arith, length-append}
-use Rattle.names.specs.declared.Name.{Name}
-use Rattle.names.specs.declared.Name.TheVariants.{Good, Bad}
+use Rattle.std.specs.Prelude.{◌≡◌, refl, ℕ, ◌≤◌, length, List, [], ◌∷◌, Ok, Err}
+use Rattle.std.proofs.Common.{sym, ap, inl, inr, arith, length-append}
+use Rattle.names.specs.Automaton.{Checked}
 use Rattle.names.specs.Wire.{name_check}
 use Rattle.octets.specs.Lists.{All}
 use Rattle.names.specs.Names.{IsName, wire, Label}
@@ -12,12 +11,12 @@ use Rattle.names.specs.Complete.{wire-some}
 use Rattle.names.specs.Exact.{good, bad}
 
 -- what an answer claims of the slice: that it is a name, or where no name can continue
-abbrev pub Right : List ℕ → Name → Type 0
+abbrev pub Right : List ℕ → Checked → Type 0
 Right s r = Claims IsName s r
 
-pub right : (s : List ℕ) (r : Name) → r ≡ name_check s → Right s r
-right s Good e = inl (refl, (good s).0 (cc))
-right s (Bad p) e = inr (refl, (bad s p).0 (cc))
+pub right : (s : List ℕ) (r : Checked) → r ≡ name_check s → Right s r
+right s (Ok tt) e = inl (refl, (good s).0 (sym e))
+right s (Err p) e = inr (refl, (bad s p).0 (sym e))
 
 wire-three : (ls : List (List ℕ)) → 1 ≤ length ls → All Label ls → 3 ≤ length (wire ls)
 wire-three [] h o = absurd (omega arith)

@@ -1,7 +1,6 @@
 -- What `name_check` takes is a name. Assumes nothing.
-use Rattle.std.specs.Prelude.{◌≡◌, refl, List, [], ◌∷◌, ◌++◌, true, ℕ, suc, ◌+◌, ◌-◌, ◌≤◌, length}
+use Rattle.std.specs.Prelude.{◌≡◌, refl, List, [], ◌∷◌, ◌++◌, true, ℕ, suc, ◌+◌, ◌-◌, ◌≤◌, length, Ok}
 use Rattle.std.proofs.Common.{ap, inl, inr, arith}
-use Rattle.names.specs.declared.Name.TheVariants.{Good}
 use Rattle.names.specs.Automaton.{Move}
 use Rattle.names.specs.AutomatonLaws.{After, taken}
 use Rattle.names.specs.Wire.{State, letter, hyphen, first, root, step, ended, inside, name_automaton, name_check}
@@ -117,7 +116,7 @@ pub nil-of : (l : List ℕ) → length l ≡ 0 → l ≡ []
 nil-of [] e = refl
 nil-of (x ∷ l) e = absurd (omega arith)
 
-pub good-sound : (s : List ℕ) → name_check s ≡ Good → IsName s
+pub good-sound : (s : List ℕ) → name_check s ≡ Ok tt → IsName s
 unfolding name_check alnum
 good-sound s e =
     let r : Rest 48 0 0 s = taken name_automaton Valid Claim stepped at_end s (letter 0) 48 0 (refl, omega arith) e in

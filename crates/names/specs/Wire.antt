@@ -1,8 +1,7 @@
 -- The check of a name in wire form, octet by octet. Assumes nothing: these are definitions.
 use Rattle.std.specs.Prelude.{ℕ, ◌+◌, ◌-◌, List, Bool, true, false, cond, ◌&&◌, leb, ltb, eqb}
-use Rattle.names.specs.declared.Name.{Name}
 use Rattle.names.specs.Names.{alnum}
-use Rattle.names.specs.Automaton.{Move, stop, go, Automaton, walk}
+use Rattle.names.specs.Automaton.{Move, stop, go, Automaton, walk, Checked}
 
 -- Where in a name the next octet stands
 pub data State : Type 0 where
@@ -53,5 +52,5 @@ abbrev pub name_automaton : Automaton State
 name_automaton = record { ends = ended; step = step }
 
 -- A whole name: a length octet stands first
-unfoldable pub name_check : List ℕ → Name
+unfoldable pub name_check : List ℕ → Checked
 name_check s = walk name_automaton (letter 0) 0 s

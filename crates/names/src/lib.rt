@@ -10,30 +10,15 @@ ghost use Rattle.names.specs.Right.{Right};
 ghost use Rattle.names.specs.Wire.{name_check, name_automaton, letter, hyphen, label_fits, hyphen_fits};
 ghost use Rattle.names.specs.Answered.{answer_in, named};
 
-use octets::{lesser, wide, within};
-
-#[derive(Clone, Copy)]
-pub enum Name {
-    // The slice is a name.
-    Good,
-    // The place, from 0, of the first octet at which no name can go on; the slice's length if the name is cut short.
-    Bad(usize),
-}
-
 // What the walk of a name, in either form, answers of a good one: past every place of 256 octets, and past their end.
 pub const GOOD: usize = 257;
 
 // Whether b is a letter or a digit. Small letters, the most frequent, are decided first.
+#[tactic(auto, unfolding(crate::specs::Names::alnum))]
 pub fn is_alnum(b: u8) -> bool
     ensures { result ≡ alnum b }
 {
-    if b'a' <= b {
-        return b <= b'z';
-    }
-    if b'A' <= b {
-        return b <= b'Z';
-    }
-    within(b, b'0', b'9')
+    b.is_ascii_lowercase() || b.is_ascii_uppercase() || b.is_ascii_digit()
 }
 
 // Whether b is a hyphen that does not end its label, with `left` octets of the label to come, b among them.
@@ -77,7 +62,7 @@ fn after_letter(s: &&[u8], n: usize, left: usize, label: usize, stop: usize) -> 
             }
             return GOOD;
         }
-        let size = wide(b);
+        let size = usize::from(b);
         if !label_fits(at, size) {
             return at;
         }
@@ -85,7 +70,7 @@ fn after_letter(s: &&[u8], n: usize, left: usize, label: usize, stop: usize) -> 
             return n;
         }
         if is_alnum(s[next]) {
-            return after_letter(s, n, rest - 1, size - 1, rest - lesser(size, rest));
+            return after_letter(s, n, rest - 1, size - 1, rest - size.min(rest));
         }
         return next;
     }
@@ -120,17 +105,17 @@ fn after_hyphen(s: &&[u8], n: usize, left: usize, label: usize, stop: usize) -> 
 }
 
 // The answer of a walk.
-pub fn name_of(place: usize) -> Name
+pub fn name_of(place: usize) -> Result<(), usize>
     ensures { result ≡ named place }
 {
     if place == GOOD {
-        return Name::Good;
+        return Ok(());
     }
-    Name::Bad(place)
+    Err(place)
 }
 
 // The check of at most 256 octets. (`&s[..]`: so that s itself comes in registers.)
-fn check_held(s: &[u8]) -> Name
+fn check_held(s: &[u8]) -> Result<(), usize>
     requires { length s.now ≤ 256 }
     ensures { result ≡ name_check s.now }
 {
@@ -140,7 +125,7 @@ fn check_held(s: &[u8]) -> Name
 }
 
 // Whether s is a name, filling s exactly. No name has more than 255 octets, so that what comes after 256 changes nothing.
-pub fn check_wire(s: &[u8]) -> Name
+pub fn check_wire(s: &[u8]) -> Result<(), usize>
     ensures value { result ≡ name_check s.now }
     ensures right { Right s.now result }
 {

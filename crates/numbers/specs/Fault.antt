@@ -1,6 +1,8 @@
 -- Why a block is discarded, or a sheet's record not written (RULES R20 to R29): the same names as in src/.
 -- Assumes nothing: these are definitions.
-use Rattle.std.specs.Prelude.{ℕ}
+use Rattle.std.specs.Prelude.{ℕ, Result, Ok, Err}
+use Rattle.numbers.specs.declared.Fault.{Fault}
+use Rattle.numbers.specs.declared.Fault.TheVariants.{Field, Priority, Name, Addresses, Limit, Dropped, Parameters, Hint, Value, Padding}
 
 -- a field runs past its body's end, an instance past the joined data, or no instance (RULES R20)
 abbrev pub field : ℕ
@@ -41,3 +43,21 @@ value = 28
 -- carrier 3: padding not 0 to 7 zeros (RULES R29)
 abbrev pub padding : ℕ
 padding = 29
+
+-- the number of a fault of src/
+abbrev pub number_of : Fault → ℕ
+number_of Field = field
+number_of Priority = priority
+number_of Name = name
+number_of Addresses = addresses
+number_of Limit = limit
+number_of Dropped = dropped
+number_of Parameters = parameters
+number_of Hint = hint
+number_of Value = value
+number_of Padding = padding
+
+-- the number of an answer: 0, or that of the fault
+abbrev pub number_in : {T : Type 0} → Result T Fault → ℕ
+number_in (Ok _) = 0
+number_in (Err f) = number_of f

@@ -1,5 +1,7 @@
 -- What a call answers instead of a result (RULES R1 to R5, R40 to R44): the same names as in src/. Assumes nothing: these are definitions.
-use Rattle.std.specs.Prelude.{ℕ}
+use Rattle.std.specs.Prelude.{ℕ, Result, Ok, Err}
+use Rattle.numbers.specs.declared.Refusal.{Refusal}
+use Rattle.numbers.specs.declared.Refusal.TheVariants.{Carrier, Input, Framing, Records, Room, Sheet, Version, SheetCarrier, Tiling, Large}
 
 -- reading: the carrier number is not 1 to 5 (RULES R1)
 abbrev pub carrier : ℕ
@@ -40,3 +42,21 @@ tiling = 43
 -- a carrier 3 record above 2,040 octets when rounded (RULES R44, L6)
 abbrev pub large : ℕ
 large = 44
+
+-- the number of a refusal of src/
+abbrev pub number_of : Refusal → ℕ
+number_of Carrier = carrier
+number_of Input = input
+number_of Framing = framing
+number_of Records = records
+number_of Room = room
+number_of Sheet = sheet
+number_of Version = version
+number_of SheetCarrier = sheet_carrier
+number_of Tiling = tiling
+number_of Large = large
+
+-- the number of an answer: 0, or that of the refusal
+abbrev pub number_in : {T : Type 0} → Result T Refusal → ℕ
+number_in (Ok _) = 0
+number_in (Err r) = number_of r

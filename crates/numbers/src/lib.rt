@@ -3,76 +3,76 @@
 // and `sheet_size` for RECORD and SHEET).
 #![tactic(auto)]
 
+ghost use Rattle.std.specs.Prelude.{◌≡◌};
+ghost use Rattle.numbers.specs.Fault as fault;
+ghost use Rattle.numbers.specs.Refusal as refusal;
+
 // What a call answers instead of a result.
-#[derive(Drop)]
-pub struct Refusal();
-
-impl Refusal {
+#[derive(Clone, Copy, PartialEq, Eq)]
+pub enum Refusal {
     // Reading: the carrier number is not 1 to 5.
-    pub const CARRIER: usize = 1;
-
+    Carrier = 1,
     // The input is longer than 40,960 octets.
-    pub const INPUT: usize = 2;
-
+    Input = 2,
     // Area framing: a header or body runs past the end, or carrier 3 length 0.
-    pub const FRAMING: usize = 3;
-
+    Framing = 3,
     // More than 16 records kept, or a sheet's count above 16.
-    pub const RECORDS: usize = 4;
-
+    Records = 4,
     // The output is shorter than the result.
-    pub const ROOM: usize = 5;
-
+    Room = 5,
     // The sheet is shorter than 7 octets, or does not begin with RSV.
-    pub const SHEET: usize = 40;
-
+    Sheet = 40,
     // The sheet's version is not 1.
-    pub const VERSION: usize = 41;
-
+    Version = 41,
     // The sheet's carrier is not 1 to 5.
-    pub const SHEET_CARRIER: usize = 42;
-
+    SheetCarrier = 42,
     // The sheet does not tile, a mode is not 0 or 1, priorities fall, or a lifetime stands where none belongs.
-    pub const TILING: usize = 43;
-
+    Tiling = 43,
     // A carrier 3 record is above 2,040 octets when rounded.
-    pub const LARGE: usize = 44;
+    Large = 44,
 }
 
-// Why a block is discarded; 21 to 28 are also answers of writing.
-#[derive(Drop)]
-pub struct Fault();
+impl Refusal {
+    // The number that is given back.
+    pub fn number(self) -> usize
+        ensures { result ≡ refusal.number_of self }
+    {
+        self as usize
+    }
+}
+
+// Why a block is discarded; all but the first and the last are also answers of writing.
+#[derive(Clone, Copy, PartialEq, Eq)]
+pub enum Fault {
+    // A field runs past its body's end, an instance past the joined data, or there is no instance.
+    Field = 20,
+    // Priority 0, AliasMode (RFC 9460 §2.4.2).
+    Priority = 21,
+    // The name.
+    Name = 22,
+    // An address length of 0 or no multiple, no addresses, or name only in carriers 4 and 5.
+    Addresses = 23,
+    // More than 63 addresses as carried, or more than 1,024 octets of parameters.
+    Limit = 24,
+    // Reading: no address is left after dropping; writing: an address to be dropped is present.
+    Dropped = 25,
+    // Parameters: tiling, order, key 65535.
+    Parameters = 26,
+    // Key 4 or 6 (ipv4hint, ipv6hint).
+    Hint = 27,
+    // Key 0, 1, 2 or 3 is not as RULES P4 to P7 say.
+    Value = 28,
+    // Carrier 3: padding that is not 0 to 7 zeros.
+    Padding = 29,
+}
 
 impl Fault {
-    // A field runs past its body's end, an instance past the joined data, or there is no instance.
-    pub const FIELD: usize = 20;
-
-    // Priority 0, AliasMode (RFC 9460 §2.4.2).
-    pub const PRIORITY: usize = 21;
-
-    // The name.
-    pub const NAME: usize = 22;
-
-    // An address length of 0 or no multiple, no addresses, or name only in carriers 4 and 5.
-    pub const ADDRESSES: usize = 23;
-
-    // More than 63 addresses as carried, or more than 1,024 octets of parameters.
-    pub const LIMIT: usize = 24;
-
-    // Reading: no address is left after dropping; writing: an address to be dropped is present.
-    pub const DROPPED: usize = 25;
-
-    // Parameters: tiling, order, key 65535.
-    pub const PARAMETERS: usize = 26;
-
-    // Key 4 or 6 (ipv4hint, ipv6hint).
-    pub const HINT: usize = 27;
-
-    // Key 0, 1, 2 or 3 is not as RULES P4 to P7 say.
-    pub const VALUE: usize = 28;
-
-    // Carrier 3: padding that is not 0 to 7 zeros.
-    pub const PADDING: usize = 29;
+    // The number that is given back.
+    pub fn number(self) -> usize
+        ensures { result ≡ fault.number_of self }
+    {
+        self as usize
+    }
 }
 
 // The limits, house rules (RULES L1 to L6).

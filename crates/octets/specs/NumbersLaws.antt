@@ -1,6 +1,6 @@
 -- The laws of numbers as octets, over the width: what is written is read, and what is read is written. Assumes nothing.
-use Rattle.std.specs.Prelude.{◌≡◌, refl, true, false, ◌↔◌, List, [], ◌∷◌, ◌++◌, ℕ, zero, suc, ◌+◌, ◌*◌, ◌/◌, ◌%◌, ◌^◌, ◌≤◌, ◌<◌, eqb, length, get_or, take, drop}
-use Rattle.std.proofs.Common.{sym, ap, ap₂, ◌∙◌, append-nil, mul_comm, mul_assoc, pow-suc, add-zero, zero-add, one-mul, add-suc, suc-add, add_assoc, add-one, arith, eqb-true, ne_eqb, length-append, length-drop, drop_of_length-le, take-suc, drop-cons, get_or-drop, take_at, drop_at}
+use Rattle.std.specs.Prelude.{◌≡◌, refl, true, ◌↔◌, List, [], ◌∷◌, ◌++◌, ℕ, zero, suc, ◌+◌, ◌*◌, ◌/◌, ◌%◌, ◌^◌, ◌≤◌, ◌<◌, eqb, length, get_or, take, drop}
+use Rattle.std.proofs.Common.{sym, ap, ap₂, ◌∙◌, append-nil, mul_comm, mul_assoc, pow-suc, add-zero, zero-add, one-mul, add-suc, suc-add, add_assoc, add-one, arith, eqb-true, length-append, length-drop, take-suc, drop-cons, get_or-drop, take_at, drop_at}
 use Rattle.std.proofs.Math.Bool.{and-eq-true_iff}
 use Rattle.std.proofs.Math.Seq.{append_snoc}
 use Rattle.std.proofs.lemmas.List.{take-append-le, drop-append-le}
@@ -163,19 +163,6 @@ numbers-words (a ∷ b ∷ v) o h =
     rw (q, r, numbers-words v o.1.1 (omega arith))
 
 -- ---- zeros
-
--- one octet more, a nonzero octet, and none left: the turns of a loop over the octets
-pub zero_turn : (l : List ℕ) (i : ℕ) → i < length l → get_or l i 0 ≡ 0 → all_zero (drop (i + 1) l) ≡ all_zero (drop i l)
-unfolding all_zero
-zero_turn l i h e = rw (add-one, drop-cons l i 0, e)
-
-pub zero-not : (l : List ℕ) (i : ℕ) → i < length l → (get_or l i 0 ≡ 0 → ⊥) → false ≡ all_zero (drop i l)
-unfolding all_zero
-zero-not l i h n = rw (drop-cons l i 0, ne_eqb (get_or l i 0) 0 n)
-
-pub zero-end : (l : List ℕ) (i : ℕ) → length l ≤ i → true ≡ all_zero (drop i l)
-unfolding all_zero
-zero-end l i h = rw (drop_of_length-le l h)
 
 pub zeros-zero : (n : ℕ) → all_zero (zeros n) ≡ true
 unfolding all_zero

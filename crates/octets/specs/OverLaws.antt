@@ -1,7 +1,9 @@
 -- The laws of octets laid over a list, and how writes compose. Assumes nothing.
 use Rattle.std.specs.Prelude.{◌≡◌, refl, List, [], ◌∷◌, ◌++◌, ℕ, suc, ◌+◌, ◌-◌, ◌≤◌, ◌<◌, length, get_or, take, drop, set}
-use Rattle.std.proofs.Common.{sym, ap, subst, ◌∙◌, append_assoc, append-nil, add-zero, add_assoc, add-one, arith, length-append, length-take, length-drop, take-append-drop, take-add, take-take, take-suc, take_at, drop_at, drop-drop, length-take-le}
+use Rattle.std.proofs.Common.{sym, ap, ◌∙◌, append_assoc, append-nil, add-zero, add_assoc, add-one, arith, length-append, length-take, length-drop, take-append-drop, take-take, take_all, take-suc, take_at, drop_at, drop-drop, length-take-le}
 use Rattle.std.proofs.lemmas.List.{take-append-le, set_split}
+use Rattle.std.proofs.lemmas.Slice.{put_mid-paste}
+use borrow.Rule.Slice.PartMut.{put_mid}
 use Rattle.octets.specs.Over.{over, Wrote}
 
 -- nothing laid over a list leaves it
@@ -164,12 +166,14 @@ reaching-back {at} {r} {m} {r'} i k s {l} {l'} {l''} h e q w v =
           ∙ over-again at k (take i s) (drop k s) l (omega arith) (omega arith) room ∙ ap (λ (x : List ℕ). over at x l) all;
     }
 
--- the first i octets of s are written, and then the n after them
-pub taking-more : {at r r' : ℕ} (i n : ℕ) (s : List ℕ) {l l' l'' : List ℕ} → Wrote at (take i s) l r l' → Wrote r (take n (drop i s)) l' r' l''
-    → Wrote at (take (i + n) s) l r' l''
-taking-more {at} {r} {r'} i n s {l} {l'} {l''} w v = subst (λ (x : List ℕ). Wrote at x l r' l'') (sym (take-add i n s)) (then w v)
-
 -- octets laid at the front of a buffer are the front of it
 pub wrote-front : {n : ℕ} {bs l l' : List ℕ} → Wrote 0 bs l n l' → take n l' ≡ bs
 unfolding over
 wrote-front {n} {bs} {l} {l'} w = ap (λ (x : List ℕ). take n x) w.laid ∙ take_at bs (drop (0 + length bs) l) n (omega (arith, w.next))
+
+-- s is copied into the part of l that stands from `at` on, k octets, and x is that part then
+pub wrote_part : (at k : ℕ) (s l x : List ℕ) → at + length s ≤ length l → length s ≡ k → x ≡ s → Wrote at s l (at + length s) (put_mid at k l x)
+unfolding over
+wrote_part at k s l x h e q =
+    let all : take (length s) s ≡ s = take_all (length s) s (omega arith) in
+    record { room = h; next = refl; laid = put_mid-paste at k l x s (length s) q e refl ∙ rw all }

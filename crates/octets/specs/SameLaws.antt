@@ -1,14 +1,10 @@
--- The laws of `same`: it is true exactly of equal lists, and two lists are compared octet by octet. Assumes nothing.
-use Rattle.std.specs.Prelude.{◌≡◌, refl, ◌↔◌, Bool, true, false, ◌&&◌, List, [], ◌∷◌, ℕ, suc, ◌+◌, ◌≤◌, ◌<◌, eqb, get_or, drop}
-use Rattle.std.proofs.Common.{ap, subst, add-one}
+-- The laws of `same`: it is true exactly of equal lists, and is what `==` of two slices answers. Assumes nothing.
+use Rattle.std.specs.Prelude.{◌≡◌, refl, ◌↔◌, Bool, true, false, ◌&&◌, List, [], ◌∷◌, ℕ, eqb, nat_eq}
+use Rattle.std.specs.Cmp.Lexicographic.{pointwise}
+use Rattle.std.proofs.Common.{ap, subst}
 use Rattle.std.proofs.lemmas.Bool.{false≢true}
-use native.Mathlib.Omega.{arith}
-use borrow.Author.Tests.{eqb-true, eq-eqb, ne_eqb}
-use Rattle.std.proofs.Math.ListN.{length, drop_of_length-le}
-use Rattle.std.proofs.Math.Seq.{drop-cons}
+use borrow.Author.Tests.{eqb-true, eq-eqb}
 use Rattle.octets.specs.Lists.{same}
-
--- ---- equal lists
 
 pub same_true : (a b : List ℕ) → same a b ≡ true → a ≡ b
 unfolding same
@@ -29,34 +25,10 @@ same_self (x ∷ xs) = rw (eq-eqb x x refl) (same_self xs)
 pub same-exactly : (a b : List ℕ) → (same a b ≡ true) ↔ (a ≡ b)
 same-exactly a b = (same_true a b, λ e. subst (λ (x : List ℕ). same a x ≡ true) e (same_self a))
 
--- ---- octet by octet
-
-pub same_length : (a b : List ℕ) → (length a ≡ length b → ⊥) → false ≡ same a b
+-- it is what `==` of two slices answers
+pub same_pointwise : (a b : List ℕ) → same a b ≡ pointwise nat_eq a b
 unfolding same
-same_length [] [] h = absurd (h refl)
-same_length [] (y ∷ ys) h = refl
-same_length (x ∷ xs) [] h = refl
-same_length (x ∷ xs) (y ∷ ys) h = go (eqb x y) (same_length xs ys (λ e. h (ap suc e)))
-  where
-    go : (b : Bool) → false ≡ same xs ys → false ≡ (b && same xs ys)
-    go true e = e
-    go false e = refl
-
-module _ (a b : List ℕ) (i : ℕ) (even : length a ≡ length b) where
-  pub same_turn : i < length a → get_or a i 0 ≡ get_or b i 0 → same (drop (i + 1) a) (drop (i + 1) b) ≡ same (drop i a) (drop i b)
-  unfolding same
-  same_turn h e =
-      let k : i < length b = omega arith in
-      rw (add-one, drop-cons a i 0 h, drop-cons b i 0 k, eq-eqb (get_or a i 0) (get_or b i 0) e)
-
-  pub same_not : i < length a → (get_or a i 0 ≡ get_or b i 0 → ⊥) → false ≡ same (drop i a) (drop i b)
-  unfolding same
-  same_not h n =
-      let k : i < length b = omega arith in
-      rw (drop-cons a i 0 h, drop-cons b i 0 k, ne_eqb (get_or a i 0) (get_or b i 0) n)
-
-  pub same_end : length a ≤ i → true ≡ same (drop i a) (drop i b)
-  unfolding same
-  same_end h =
-      let k : length b ≤ i = omega arith in
-      rw (drop_of_length-le a h, drop_of_length-le b k)
+same_pointwise [] [] = refl
+same_pointwise [] (y ∷ ys) = refl
+same_pointwise (x ∷ xs) [] = refl
+same_pointwise (x ∷ xs) (y ∷ ys) = ap (λ (b : Bool). eqb x y && b) (same_pointwise xs ys)

@@ -18,34 +18,12 @@ const LONG: usize = 128;
 // Octets of a block, which the processor moves at once.
 const BLOCK: usize = 16;
 
-// An octet as a number.
-pub fn wide(x: u8) -> usize
-    ensures value { result ≡ x }
-    ensures upper_bound { result < 256 }
-{
-    x as usize
-}
-
-// Whether an octet is from `lo` to `hi`.
-pub fn within(x: u8, lo: u8, hi: u8) -> bool
-    ensures { result ≡ range lo hi x }
-{
-    lo <= x && x <= hi
-}
-
-// The smaller of two numbers.
-pub fn lesser(a: usize, b: usize) -> usize
-    ensures { result ≡ min a b }
-{
-    if a < b { a } else { b }
-}
-
 // Two octets as a number.
 pub fn wide16(upper: u8, lower: u8) -> usize
     ensures value { result ≡ upper * 256 + lower }
     ensures upper_bound { result < 65536 }
 {
-    wide(upper) * 256 + wide(lower)
+    usize::from(u16::from_be_bytes([upper, lower]))
 }
 
 // The two octets at `i` as a number.
@@ -65,7 +43,7 @@ pub fn get_number(s: &[u8], i: usize, width: usize) -> usize
     ensures upper_bound { result < 65536 }
 {
     if width == 1 {
-        return wide(s[i]);
+        return usize::from(s[i]);
     }
     get16(s, i)
 }
@@ -83,31 +61,14 @@ pub fn get32(s: &[u8], i: usize) -> usize
 pub fn same(a: &[u8], b: &[u8]) -> bool
     ensures { result ≡ lists.same a.now b.now }
 {
-    if a.len() != b.len() {
-        return false;
-    }
-    let mut i: usize = 0;
-    while i < a.len() {
-        if a[i] != b[i] {
-            return false;
-        }
-        i += 1;
-    }
-    true
+    a == b
 }
 
 // Whether all octets are zero.
 pub fn zeros(s: &[u8]) -> bool
     ensures { result ≡ all_zero s.now }
 {
-    let mut i: usize = 0;
-    while i < s.len() {
-        if s[i] != 0 {
-            return false;
-        }
-        i += 1;
-    }
-    true
+    s.iter().all(|x| *x == 0)
 }
 
 // Writes v in one octet at `at`, and returns the index after it.
@@ -124,8 +85,9 @@ pub fn put16(out: &mut [u8], at: usize, v: usize) -> usize
     requires { (at + 2 ≤ length out.old) × (v < 65536) }
     ensures { Wrote at (be 2 v) out.old result out.new }
 {
-    out[at] = (v / 256) as u8;
-    out[at + 1] = (v % 256) as u8;
+    let [upper, lower] = (v as u16).to_be_bytes();
+    out[at] = upper;
+    out[at + 1] = lower;
     at + 2
 }
 
@@ -155,39 +117,42 @@ fn copy_each(out: &mut [u8], at: usize, src: &[u8]) -> usize
     requires { at + length src.now ≤ length out.old }
     ensures { Wrote at src.now out.old result out.new }
 {
-    let mut j = 0;
-    let mut o = at;
-    while j < src.len() {
-        out[o] = src[j];
-        o += 1;
-        j += 1;
+    for (j, &b) in src.iter().enumerate() {
+        out[at + j] = b;
     }
-    o
+    at + src.len()
 }
 
-// The same, all octets read before one is written: through a local array, so that LLVM may use one memmove; the array disappears.
-fn copy_held(out: &mut [u8], at: usize, src: &[u8]) -> usize
-    requires { (at + length src.now ≤ length out.old) × (length src.now ≤ 1024) }
+// The same for N octets, all read before one is written: through a local array, so that LLVM makes of it a load and a store (by
+// `copy_from_slice` 8 octets take twice as long); the array disappears.
+fn copy_held<const N: usize>(out: &mut [u8], at: usize, src: &[u8]) -> usize
+    requires { (at + length src.now ≤ length out.old) × (length src.now ≡ N) }
     ensures { Wrote at src.now out.old result out.new }
 {
-    let mut held = [0u8; HELD];
-    let n = copy_each(&mut held, 0, src);
-    copy_each(out, at, &held[..n])
+    let mut held = [0u8; N];
+    copy_each(&mut held, 0, src);
+    copy_each(out, at, &held)
 }
 
-// The same for 4 to 15 octets: the first 8 and the last 8, or 4 and 4, which may share some.
+// The same for N to 2 N octets: the first N and the last N, which may share some.
+fn copy_ends<const N: usize>(out: &mut [u8], at: usize, src: &[u8]) -> usize
+    requires { (at + length src.now ≤ length out.old) × (N ≤ length src.now) × (length src.now ≤ 2 * N) }
+    ensures { Wrote at src.now out.old result out.new }
+{
+    let last = src.len() - N;
+    copy_held::<N>(out, at, &src[..N]);
+    copy_held::<N>(out, at + last, &src[last..])
+}
+
+// The same for 4 to 15 octets: by 8 and 8, or by 4 and 4.
 fn copy_small(out: &mut [u8], at: usize, src: &[u8]) -> usize
     requires { (at + length src.now ≤ length out.old) × (4 ≤ length src.now) × (length src.now < 16) }
     ensures { Wrote at src.now out.old result out.new }
 {
     if src.len() < 8 {
-        let last = src.len() - 4;
-        copy_held(out, at, &src[..4]);
-        return copy_held(out, at + last, &src[last..]);
+        return copy_ends::<4>(out, at, src);
     }
-    let last = src.len() - 8;
-    copy_held(out, at, &src[..8]);
-    copy_held(out, at + last, &src[last..])
+    copy_ends::<8>(out, at, src)
 }
 
 // The same for 16 octets or more: blocks of 16, the last of which may reach back into the one before it.
@@ -195,14 +160,22 @@ fn copy_blocks(out: &mut [u8], at: usize, src: &[u8]) -> usize
     requires { (at + length src.now ≤ length out.old) × (16 ≤ length src.now) }
     ensures { Wrote at src.now out.old result out.new }
 {
-    let mut i = 0;
-    while BLOCK <= src.len() - i {
-        let end = i + BLOCK;
-        copy_held(out, at + i, &src[i..end]);
-        i = end;
+    let mut o = at;
+    for block in src.chunks_exact(BLOCK) {
+        o = copy_held::<BLOCK>(out, o, block);
     }
     let last = src.len() - BLOCK;
-    copy_held(out, at + last, &src[last..])
+    copy_held::<BLOCK>(out, at + last, &src[last..])
+}
+
+// The same by the C library.
+fn copy_once(out: &mut [u8], at: usize, src: &[u8]) -> usize
+    requires { at + length src.now ≤ length out.old }
+    ensures { Wrote at src.now out.old result out.new }
+{
+    let end = at + src.len();
+    out[at..end].copy_from_slice(src);
+    end
 }
 
 // The same by the way that is fastest for so many octets.
@@ -220,10 +193,7 @@ fn copy_all(out: &mut [u8], at: usize, src: &[u8]) -> usize
     if n < LONG {
         return copy_blocks(out, at, src);
     }
-    if n <= HELD {
-        return copy_held(out, at, src);
-    }
-    copy_each(out, at, src)
+    copy_once(out, at, src)
 }
 
 // Writes src at `at`, and returns the index after it. (`&src[..]`: docs/DESIGN.md, Speed.)
@@ -235,6 +205,7 @@ pub fn copy(out: &mut [u8], at: usize, src: &[u8]) -> usize
 }
 
 // Writes the n octets that stand at `from` at `to` in the same buffer, and returns the index after them there. The two places may overlap.
+// (Through a local array, which disappears: the slice's own `copy_within` takes half as long again for 255 octets.)
 pub fn copy_within(out: &mut [u8], to: usize, from: usize, n: usize) -> usize
     requires { (to + n ≤ length out.old) × (from + n ≤ length out.old) × (n ≤ 1024) }
     ensures { Wrote to (take n (drop from out.old)) out.old result out.new }

@@ -1,6 +1,5 @@
 pub mod Order
 pub mod Listed
-pub mod ListedLaws
 pub mod OrderLaws
 pub mod ExchangeLaws
 pub mod MergeLaws

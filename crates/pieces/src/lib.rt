@@ -9,7 +9,6 @@ ghost use Rattle.frames.specs.Emit.{option_of};
 ghost use Rattle.pieces.specs.Pieces.{cut_of, cut_octets};
 
 use carriers::Carrier;
-use octets::lesser;
 
 // The most octets that an option 162 has after its header.
 const PIECE: usize = 255;
@@ -41,7 +40,7 @@ pub fn cut_within(out: &mut [u8], from: usize, n: usize) -> usize
     let mut i = 0;
     let mut o = 0;
     while i < n {
-        let size = lesser(PIECE, n - i);
+        let size = PIECE.min(n - i);
         o = put_piece(out, o, from + i, size);
         i += size;
     }

@@ -1,5 +1,5 @@
 -- The answer by a tally is the answer of the definitions. Assumes nothing.
-use Rattle.std.specs.Prelude.{◌≡◌, Bool, true, false, cond, ℕ, ◌+◌, ◌≤◌, ◌<◌, ltb, length, take}
+use Rattle.std.specs.Prelude.{◌≡◌, Bool, true, false, cond, ℕ, ◌+◌, ◌≤◌, ◌<◌, ltb, length, take, Option, Some, None, Ok, Err}
 use Rattle.std.proofs.Math.Path.{refl, ap, subst⁻¹}
 use Rattle.std.proofs.Common.{sym, ◌∙◌, subst, zero-add, arith}
 use mathlib.Core.List.{List, [], ◌∷◌, map}
@@ -9,20 +9,19 @@ use Rattle.octets.specs.Over.{over, Wrote}
 use Rattle.octets.specs.OverLaws.{over-length, over-fits}
 use Rattle.numbers.specs.Refusal as refusal
 use Rattle.numbers.specs.Limit as limit
+use Rattle.numbers.specs.declared.Refusal.{Refusal}
 use Rattle.carriers.specs.declared.Carrier.{Carrier}
 use Rattle.carriers.specs.declared.Carrier.TheVariants.{Dhcp4}
-use Rattle.carriers.specs.declared.Chosen.{Chosen}
-use Rattle.carriers.specs.declared.Chosen.TheVariants.{Known, Unknown}
 use Rattle.carriers.specs.Carriers.{chosen_of, is_joined}
 use Rattle.carriers.proofs.CarriersLaws.{other-joined}
 use Rattle.octets.specs.Lists.{flat}
-use Rattle.frames.specs.Frame.{Framed, framed, frame}
+use Rattle.frames.specs.Frame.{Framed, fault, framed, frame}
 use Rattle.frames.specs.Area.{joined}
-use Rattle.frames.specs.declared.Joined.{Joined}
 use Rattle.frames.specs.Gather.{Several, Joins}
 use Rattle.frames.proofs.GatherLaws.{joins-whole}
 use Rattle.frames.specs.declared.Step.{Step}
 use Rattle.frames.specs.Step.{step_at}
+use Rattle.frames.specs.Laws.{step-framing}
 use Rattle.frames.specs.WalkLaws.{walked_end, walked-fault}
 use Rattle.blocks.specs.Block.{Fields}
 use Rattle.records.specs.Records.{record_of}
@@ -62,7 +61,7 @@ module _ (c : Carrier) (source : List ℕ) (room : ℕ) where
 
 module _ (c : Carrier) (area : List ℕ) (room : ℕ) {at : ℕ} {t : Tally} (g : Tallying c area at t) where
   -- at the area's end the tally answers for it
-  pub answer-end : (c ≡ Dhcp4 → ⊥) → step_at c area at ≡ Step.End → read_framed c (frame c area) room ≡ answer_of c area t room
+  pub answer-end : (c ≡ Dhcp4 → ⊥) → step_at c area at ≡ Ok Step.End → read_framed c (frame c area) room ≡ answer_of c area t room
   answer-end n e =
       let j = other-joined c n in
       ap (λ (f : Framed). read_framed c f room) (walked_end c area g.walked e)
@@ -73,8 +72,14 @@ module _ (c : Carrier) (area : List ℕ) (room : ℕ) {at : ℕ} {t : Tally} (g 
       shown j = subst⁻¹ (λ (b : Bool). Shows c area (map (λ l. cond b (joined_yield l) (alone c l)) g.bodies) t) j g.shows
 
   -- where the walk cannot go on, the area cannot be framed
-  pub answer-fault : step_at c area at ≡ Step.Fault → read_framed c (frame c area) room ≡ refuse refusal.framing
-  answer-fault e = ap (λ (f : Framed). read_framed c f room) (walked-fault c area g.walked e)
+  pub answer-fault : {r : Refusal} → step_at c area at ≡ Err r → read_framed c (frame c area) room ≡ refuse (refusal.number_of r)
+  answer-fault e =
+      ap (λ (f : Framed). read_framed c f room) (walked-fault c area g.walked e) ∙ ap (λ (r : Refusal). refuse (refusal.number_of r)) (sym (step-framing c area at e))
+
+-- an area that cannot be framed, by the refusal that says so
+pub answer-broken : (c : Carrier) (room : ℕ) {f : Framed} (r : Refusal) → (f ≡ fault) × (refusal.number_of r ≡ refusal.framing)
+    → read_framed c f room ≡ refuse (refusal.number_of r)
+answer-broken c room r e = ap (λ (f : Framed). read_framed c f room) e.0 ∙ ap refuse (sym e.1)
 
 -- ---- carrier 1
 
@@ -90,7 +95,7 @@ answer-joined source room (b ∷ bs) e h q =
     ap (λ (x : Framed). read_framed Dhcp4 x room) e ∙ ap (λ (l : List ℕ). read_blocks Dhcp4 (l ∷ []) room) (sym q)
 
 -- several: what `join` wrote at the front of its buffer
-module _ (area l l' : List ℕ) (n : ℕ) (j : Joins (frame Dhcp4 area) l (Joined.Whole n) l') where
+module _ (area l l' : List ℕ) (n : ℕ) (j : Joins (frame Dhcp4 area) l (Ok n) l') where
   many-wrote : (bs : List (List ℕ)) × (frame Dhcp4 area ≡ framed bs) × Wrote 0 (flat bs) l n l'
   many-wrote = joins-whole (frame Dhcp4 area) l l' n j
 
@@ -135,14 +140,14 @@ module _ (c : Carrier) (source : List ℕ) (t : Tally) (room : ℕ) where
 -- ---- 1 and 2
 
 module _ (n : ℕ) (s : List ℕ) (room : ℕ) where
-  pub read-unknown : chosen_of n ≡ Unknown → read_of n s room ≡ refuse refusal.carrier
+  pub read-unknown : chosen_of n ≡ None → read_of n s room ≡ refuse refusal.carrier
   unfolding read_of
-  read-unknown e = ap (λ (k : Chosen). read_chosen k s room) e
+  read-unknown e = ap (λ (k : Option Carrier). read_chosen k s room) e
 
-  module _ {c : Carrier} (e : chosen_of n ≡ Known c) where
+  module _ {c : Carrier} (e : chosen_of n ≡ Some c) where
     known : read_of n s room ≡ read_area c s room
     unfolding read_of
-    known = ap (λ (k : Chosen). read_chosen k s room) e
+    known = ap (λ (k : Option Carrier). read_chosen k s room) e
 
     pub read-long : limit.input < length s → read_of n s room ≡ refuse refusal.input
     read-long h = known ∙ rw (lt-ltb limit.input (length s) h)

@@ -1,14 +1,12 @@
 -- Reading (RULES W9 to W11, T1): what an area yields under a carrier, the answer of the call, and the sheet it writes.
 -- Assumes nothing: these are definitions.
-use Rattle.std.specs.Prelude.{cond, List, [], ◌∷◌, map, ℕ, zero, suc, ◌+◌, ◌-◌, ltb, eqb, length, take, drop}
+use Rattle.std.specs.Prelude.{cond, List, [], ◌∷◌, map, ℕ, zero, suc, ◌+◌, ◌-◌, ltb, eqb, length, take, drop, Option, Some, None}
 use Rattle.octets.specs.Numbers.{at16}
 use Rattle.numbers.specs.Refusal as refusal
 use Rattle.numbers.specs.Fault as fault
 use Rattle.numbers.specs.Limit as limit
 use Rattle.carriers.specs.declared.Carrier.{Carrier}
 use Rattle.carriers.specs.declared.Carrier.TheVariants.{Dhcp4}
-use Rattle.carriers.specs.declared.Chosen.{Chosen}
-use Rattle.carriers.specs.declared.Chosen.TheVariants.{Known, Unknown}
 use Rattle.carriers.specs.Carriers.{chosen_of, is_joined, header_of}
 use Rattle.carriers.specs.Told.{read_number}
 use Rattle.frames.specs.Frame.{Framed, framed, framed_number, frame}
@@ -96,9 +94,9 @@ abbrev pub read_area : Carrier → List ℕ → ℕ → Answer
 read_area c s room = cond (ltb limit.input (length s)) (refuse refusal.input) (read_framed c (frame c s) room)
 
 -- 1
-abbrev pub read_chosen : Chosen → List ℕ → ℕ → Answer
-read_chosen Unknown s room = refuse (read_number Unknown)
-read_chosen (Known c) s room = read_area c s room
+abbrev pub read_chosen : Option Carrier → List ℕ → ℕ → Answer
+read_chosen None s room = refuse (read_number None)
+read_chosen (Some c) s room = read_area c s room
 
 -- reading under carrier number n, with an output buffer of `room` octets
 unfoldable pub read_of : ℕ → List ℕ → ℕ → Answer

@@ -3,7 +3,7 @@
 use Rattle.std.specs.Prelude.{◌≡◌, List, [], ◌∷◌, ◌++◌, ℕ, ◌+◌, length}
 use Rattle.octets.specs.Over.{over}
 use Rattle.blocks.specs.Block.{Fields}
-use Rattle.judge.specs.declared.Judged.{Judged}
+use Rattle.judge.specs.Place.{Judged}
 use Rattle.judge.specs.Place.{judged}
 use Rattle.records.specs.Records.{Outcome, faulty, kept}
 use Rattle.reading.specs.declared.Reading.{Reading}

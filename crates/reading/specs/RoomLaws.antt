@@ -1,12 +1,10 @@
 -- The room decides whether a reading is done or refused by 5, and nothing else: a reading that is done in one room is done, with the same
 -- sheet and numbers, in every room that its sheet fits. Assumes nothing.
-use Rattle.std.specs.Prelude.{◌≡◌, Bool, true, false, cond, List, map, ℕ, ltb, length}
+use Rattle.std.specs.Prelude.{◌≡◌, Bool, true, false, cond, List, map, ℕ, ltb, length, Option, Some, None}
 use Rattle.std.proofs.Common.{ap, arith}
 use Rattle.numbers.specs.Refusal as refusal
 use Rattle.numbers.specs.Limit as limit
 use Rattle.carriers.specs.declared.Carrier.{Carrier}
-use Rattle.carriers.specs.declared.Chosen.{Chosen}
-use Rattle.carriers.specs.declared.Chosen.TheVariants.{Known, Unknown}
 use Rattle.carriers.specs.Carriers.{chosen_of}
 use Rattle.frames.specs.Frame.{Framed, framed, frame}
 use Rattle.frames.specs.Area.{blocks_of}
@@ -52,9 +50,9 @@ module _ {d : Done} where
       go true e = absurd (refused e)
       go false e = framed-so c (frame c s) a b e
 
-  chosen-so : (k : Chosen) (s : List ℕ) (a b : ℕ) → read_chosen k s a ≡ done d → read_chosen k s b ≡ in_room d b
-  chosen-so Unknown s a b e = absurd (refused e)
-  chosen-so (Known c) s a b e = area-so c s a b e
+  chosen-so : (k : Option Carrier) (s : List ℕ) (a b : ℕ) → read_chosen k s a ≡ done d → read_chosen k s b ≡ in_room d b
+  chosen-so None s a b e = absurd (refused e)
+  chosen-so (Some c) s a b e = area-so c s a b e
 
   -- done in room a, it is in room b done with the same, or refused by 5
   pub room-decides : (n : ℕ) (s : List ℕ) (a b : ℕ) → read_of n s a ≡ done d → read_of n s b ≡ in_room d b

@@ -11,8 +11,8 @@ use Rattle.octets.specs.OverLaws.{over-length, then, wrote_none}
 use Rattle.carriers.specs.declared.Carrier.{Carrier}
 use Rattle.frames.specs.Step.{part}
 use Rattle.blocks.specs.Block.{Fields}
-use Rattle.order.specs.declared.Slot.{Slot}
-use Rattle.order.specs.declared.Slots.{Slots}
+use Rattle.order.specs.declared.slots.Slot.{Slot}
+use Rattle.order.specs.declared.slots.Slots.{Slots}
 use Rattle.order.specs.declared.Sorting.{Sorting}
 use Rattle.octets.specs.Lists.{All}
 use Rattle.octets.specs.ListsLaws.{all_map, all-at}
@@ -20,10 +20,9 @@ use Rattle.order.specs.Order.{SameKey}
 use Rattle.order.specs.OrderLaws.{sort-length}
 use Rattle.order.specs.MapLaws.{each-sort, sort-map-on}
 use Rattle.order.specs.Listed.{rank, none, listed, OrderedFrom}
-use Rattle.records.specs.declared.Examined.{Examined}
 use Rattle.records.specs.Records.{Outcome, faulty, kept, record_of}
 use Rattle.records.specs.Yielded.{outcome_of}
-use Rattle.records.specs.Examined.{Clean, Kept, octets_in, examined_of}
+use Rattle.records.specs.Examined.{Verdict, Clean, Kept, octets_in, examined_of}
 use Rattle.sheets.specs.Sheets.{front_of, records_of, sheet_of}
 use Rattle.sheets.specs.SheetsLaws.{length_front, length-sheet}
 use Rattle.reading.specs.Reading.{in_order}
@@ -34,7 +33,7 @@ use Rattle.reading.specs.Tally.{body_at, record_in, record_at, records_at, Good,
 -- ---- one slot
 
 module _ (c : Carrier) (source : List ℕ) where
-  module _ (start end : ℕ) {f : Fields} {e : Examined} (o : outcome_of c (part start end source) ≡ kept f) (q : e ≡ examined_of c (kept f) e.clean) where
+  module _ (start end : ℕ) {f : Fields} {e : Verdict} (o : outcome_of c (part start end source) ≡ kept f) (q : e ≡ examined_of c (kept f) e.clean) where
     pub slot-record : record_at c source (slot_of e start end) ≡ f
     slot-record = ap record_in o
 
@@ -43,7 +42,7 @@ module _ (c : Carrier) (source : List ℕ) where
     slot-good h k all = record {
       within = omega arith;
       yields = subst⁻¹ Kept o tt;
-      ranked = ap (λ (r : Fields). r.priority) slot-record ∙ sym (ap (λ (x : Examined). x.priority) q);
+      ranked = ap (λ (r : Fields). r.priority) slot-record ∙ sym (ap (λ (x : Verdict). x.priority) q);
       clean = all;
     }
 

@@ -1,36 +1,27 @@
 -- What a reading has at hand before it writes: where kept bodies stand in their source, what is held of their records, and what a tally
--- tells of the blocks met. The code has the parts of `Held` and `Tally` as numbers of its own, and hands them on as `Counts` beside the
--- slots; the laws speak of them together.
+-- tells of the blocks met. The code has the parts of `Tally` beside what is held as numbers of its own, and hands them on as `Counts`; the laws
+-- speak of them together.
 -- Assumes nothing: these are definitions.
-use Rattle.std.specs.Prelude.{◌≡◌, Bool, true, false, cond, List, [], ◌∷◌, ◌++◌, map, ℕ, ◌+◌, ◌-◌, ◌*◌, ◌≤◌, ◌<◌, min, ltb, length, take, drop}
+use Rattle.std.specs.Prelude.{◌≡◌, ◌⊎◌, Bool, true, false, cond, List, [], ◌∷◌, ◌++◌, map, ℕ, ◌+◌, ◌-◌, ◌*◌, ◌≤◌, ◌<◌, min, ltb, length, take, drop, Option, Some, None}
 use Rattle.numbers.specs.Refusal as refusal
 use Rattle.numbers.specs.Limit as limit
 use Rattle.carriers.specs.declared.Carrier.{Carrier}
 use Rattle.frames.specs.Step.{part}
 use Rattle.blocks.specs.Block.{Fields}
-use Rattle.judge.specs.declared.Judged.{Judged}
-use Rattle.judge.specs.Place.{judged}
-use Rattle.order.specs.declared.Slot.{Slot}
-use Rattle.order.specs.declared.Slots.{Slots}
+use Rattle.judge.specs.declared.Flaw.{Flaw}
+use Rattle.judge.specs.Place.{Judged, judged, flawed}
+use Rattle.order.specs.declared.slots.Slot.{Slot}
+use Rattle.order.specs.declared.slots.Slots.{Slots}
 use Rattle.octets.specs.Lists.{All}
 use Rattle.order.specs.Listed.{listed}
-use Rattle.records.specs.declared.Examined.{Examined}
 use Rattle.records.specs.Records.{Outcome, faulty, kept}
 use Rattle.records.specs.Yielded.{outcome_of}
-use Rattle.records.specs.Examined.{examined_of, Clean, Kept}
+use Rattle.records.specs.Examined.{Verdict, examined_of, Clean, Kept}
 use Rattle.sheets.specs.Sheets.{front_size, sheet_of}
 use Rattle.reading.specs.declared.Counts.{Counts}
+use Rattle.reading.specs.declared.Held.{Held}
 use Rattle.reading.specs.Reading.{in_order}
 use Rattle.reading.specs.Result.{Yield, arrivals, discarded_in, first_fault, Answer, refuse, done}
-
--- ---- buffers
-
--- octets of the buffers in which several options 162 of a smaller area are joined: of a usual message, and of half the largest input
-abbrev pub usual : ℕ
-usual = 4096
-
-abbrev pub half : ℕ
-half = 20480
 
 -- ---- slots
 
@@ -61,12 +52,6 @@ records_at c source slots = map (record_at c source) (listed slots)
 
 -- of at most 16 records: where their bodies stand, the octets of a sheet of them, and whether their bodies are all known to be clean; and
 -- whether there are more records, and then nothing else is asked
-pub record Held : Type 0 where
-  pub slots : Slots
-  pub size : ℕ
-  pub clean : Bool
-  pub more : Bool
-
 abbrev pub held_of : Slots → ℕ → Bool → Bool → Held
 held_of slots size clean more = record { slots = slots; size = size; clean = clean; more = more }
 
@@ -75,11 +60,11 @@ abbrev pub largest : ℕ → ℕ
 largest n = front_size + limit.record_size * n
 
 -- the slot of a body from `start` to `end`
-abbrev pub slot_of : Examined → ℕ → ℕ → Slot
+abbrev pub slot_of : Verdict → ℕ → ℕ → Slot
 slot_of e start end = record { priority = e.priority; place = start; length = end - start }
 
 -- e tells of the body from `start` to `end` of the source
-pub record Seen (c : Carrier) (source : List ℕ) (start end : ℕ) (e : Examined) : Type 0 where
+pub record Seen (c : Carrier) (source : List ℕ) (start end : ℕ) (e : Verdict) : Type 0 where
   pub low : start ≤ end
   pub high : end ≤ length source
   pub tells : e ≡ examined_of c (outcome_of c (part start end source)) e.clean
@@ -88,11 +73,17 @@ pub record Seen (c : Carrier) (source : List ℕ) (start end : ℕ) (e : Examine
   pub clean : e.clean ≡ true → Clean c (part start end source)
 
 -- there was room in h, the slots s are those of h and one more, of the body that e tells of, and `clean` claims no more of them than is known
-pub record Grown (h : Held) (e : Examined) (start end : ℕ) (s : Slots) (clean : Bool) : Type 0 where
+pub record Grown (h : Held) (e : Verdict) (start end : ℕ) (s : Slots) (clean : Bool) : Type 0 where
   pub room : h.slots.count < limit.records
   pub count : s.count ≡ h.slots.count + 1
   pub list : listed s ≡ listed h.slots ++ (slot_of e start end ∷ [])
   pub claims : clean ≡ true → (h.clean ≡ true) × (e.clean ≡ true)
+
+-- one more record, of the body that e tells of: h' has a slot of it, or there was no room, and says that there are more
+abbrev pub Keeps : Held → Verdict → ℕ → ℕ → Held → Type 0
+Keeps h e start end h' =
+    (Grown h e start end h'.slots h'.clean × (h' ≡ held_of h'.slots (h.size + e.size) h'.clean h.more))
+    ⊎ ((limit.records ≤ h.slots.count) × (h' ≡ held_of h.slots h.size h.clean true))
 
 -- h has a slot for each of the records rs, and the octets of their sheet
 pub record Lists (c : Carrier) (source : List ℕ) (rs : List Fields) (h : Held) : Type 0 where
@@ -119,9 +110,14 @@ pub record Tally : Type 0 where
 abbrev pub tally_of : Held → ℕ → ℕ → Judged → Tally
 tally_of held found discarded first = record { held = held; found = found; discarded = discarded; first = first }
 
+-- the first discarded block's fault with its place, or 0 for none
+abbrev pub first_in : Option Flaw → Judged
+first_in None = judged 0 0
+first_in (Some w) = flawed w
+
 -- the tally that the code hands on
-abbrev pub tally_in : Slots → Counts → Tally
-tally_in slots k = tally_of (held_of slots k.size k.clean k.more) k.found k.discarded (judged k.fault k.place)
+abbrev pub tally_in : Held → Counts → Tally
+tally_in held k = tally_of held k.found k.discarded (first_in k.first)
 
 -- t tells of blocks that yield ys
 pub record Shows (c : Carrier) (source : List ℕ) (ys : List Yield) (t : Tally) : Type 0 where

@@ -1,6 +1,6 @@
 -- How a tally begins and grows, over the blocks of an area and over the instances of joined data. Assumes nothing.
-use Rattle.std.specs.Prelude.{◌≡◌, refl, Bool, true, false, List, [], ◌∷◌, ◌++◌, map, ℕ, ◌+◌, ◌-◌, ◌≤◌, ◌<◌, length, drop}
-use Rattle.std.proofs.Common.{sym, ap, ap₂, ◌∙◌, ⊎_elim, append-nil, arith, lt-ltb, le-ltb, ltb-false, length-append}
+use Rattle.std.specs.Prelude.{◌≡◌, refl, Bool, true, false, List, [], ◌∷◌, ◌++◌, map, ℕ, ◌+◌, ◌-◌, ◌≤◌, ◌<◌, length, drop, Ok}
+use Rattle.std.proofs.Common.{sym, ap, ◌∙◌, ⊎_elim, append-nil, arith, lt-ltb, le-ltb, ltb-false, length-append}
 use Rattle.std.proofs.Math.Path.{subst⁻¹}
 use Rattle.std.proofs.lemmas.List.{map-append, length-map}
 use Rattle.octets.specs.Numbers.{at16}
@@ -16,23 +16,22 @@ use Rattle.frames.specs.SkipLaws.{skips-forward}
 use Rattle.frames.specs.WalkLaws.{walked_start, walked_block, walked-skips}
 use Rattle.frames.specs.Laws.{step_block}
 use Rattle.blocks.specs.Block.{Fields}
-use Rattle.judge.specs.declared.Judged.{Judged}
-use Rattle.judge.specs.Place.{judged, place_from, from}
-use Rattle.order.specs.declared.Slots.{Slots}
+use Rattle.judge.specs.Place.{Judged, judged, from}
+use Rattle.order.specs.declared.slots.Slots.{Slots}
 use Rattle.order.specs.OrderLaws.{le-or-lt}
 use Rattle.octets.specs.Lists.{All}
 use Rattle.octets.specs.ListsLaws.{flat_map_append, all_append}
 use Rattle.order.specs.Listed.{listed}
-use Rattle.records.specs.declared.Examined.{Examined}
 use Rattle.records.specs.Records.{Outcome, faulty, kept, further, record_of}
 use Rattle.records.specs.Yielded.{outcome_of}
-use Rattle.records.specs.Examined.{examined_of}
+use Rattle.records.specs.Examined.{Verdict, examined_of}
 use Rattle.records.specs.RecordsLaws.{fault-some}
 use Rattle.sheets.specs.Sheets.{front_size, records_of, sheet_of}
 use Rattle.sheets.specs.SheetsLaws.{length-sheet}
 use Rattle.reading.specs.Reading.{ahead, instances_from, joined_yield, alone}
 use Rattle.reading.specs.Result.{Yield, discarded, yields, single, arrivals}
-use Rattle.reading.specs.Tally.{Good, record_at, slot_of, Held, held_of, Seen, Grown, Holds, Tally, tally_of, Shows, Open, Ready}
+use Rattle.reading.specs.declared.Held.{Held}
+use Rattle.reading.specs.Tally.{Good, record_at, slot_of, held_of, Seen, Grown, Keeps, Holds, Tally, tally_of, Shows, Open, Ready}
 use Rattle.reading.specs.YieldLaws.{arrivals-more, discarded-more, discarded-few, first-yields, first-discarded, first-stays}
 use Rattle.reading.specs.InstanceLaws.{instance-short, instance-past, instance-whole, instances-end, before-none, before-ahead, joined-some}
 use Rattle.reading.specs.SlotLaws.{slot-record, slot-good, good-still}
@@ -40,7 +39,7 @@ use Rattle.reading.specs.Walks.{Tallying, Passed, before}
 
 -- ---- what an examination says of a body
 
-module _ {c : Carrier} {source : List ℕ} {start end : ℕ} {e : Examined} (s : Seen c source start end e) where
+module _ {c : Carrier} {source : List ℕ} {start end : ℕ} {e : Verdict} (s : Seen c source start end e) where
   abbrev body : List ℕ
   body = part start end source
 
@@ -54,14 +53,14 @@ module _ {c : Carrier} {source : List ℕ} {start end : ℕ} {e : Examined} (s :
   seen-faulty n = go (outcome_of c body) refl
     where
       go : (o : Outcome) → outcome_of c body ≡ o → outcome_of c body ≡ faulty told
-      go (faulty j) p = p ∙ ap faulty (sym (ap (λ (x : Examined). judged x.fault x.place) (same p)))
-      go (kept r) p = absurd (n (ap (λ (x : Examined). x.fault) (same p)))
+      go (faulty j) p = p ∙ ap faulty (sym (ap (λ (x : Verdict). judged x.fault x.place) (same p)))
+      go (kept r) p = absurd (n (ap (λ (x : Verdict). x.fault) (same p)))
 
   pub seen-kept : e.fault ≡ 0 → (f : Fields) × (outcome_of c body ≡ kept f)
   seen-kept z = go (outcome_of c body) refl
     where
       go : (o : Outcome) → outcome_of c body ≡ o → (f : Fields) × (outcome_of c body ≡ kept f)
-      go (faulty j) p = absurd (fault-some c body j p (sym (ap (λ (x : Examined). x.fault) (same p)) ∙ z))
+      go (faulty j) p = absurd (fault-some c body j p (sym (ap (λ (x : Verdict). x.fault) (same p)) ∙ z))
       go (kept r) p = (r, p)
 
 -- ---- records kept
@@ -74,11 +73,15 @@ holds-none c source n l = record {
   lists = λ _. record { good = subst⁻¹ (All (Good c source true)) l tt; records = ap (map (record_at c source)) l; size = sym (length-sheet c []) };
 }
 
+pub holds-new : (c : Carrier) (source : List ℕ) {h : Held} → (h.slots.count ≡ 0) × (listed h.slots ≡ []) → h ≡ held_of h.slots front_size true false
+    → Holds c source [] h
+holds-new c source n e = subst⁻¹ (Holds c source []) e (holds-none c source n.0 n.1)
+
 module _ {c : Carrier} {source : List ℕ} {rs : List Fields} {h : Held} (k : Holds c source rs h) where
   pub holds-few : h.slots.count ≤ limit.records
   holds-few = omega (arith, k.count)
 
-  module _ {start end : ℕ} {e : Examined} {f : Fields} (x : Seen c source start end e) (o : outcome_of c (part start end source) ≡ kept f) where
+  module _ {start end : ℕ} {e : Verdict} {f : Fields} (x : Seen c source start end e) (o : outcome_of c (part start end source) ≡ kept f) where
     longer : length (rs ++ (f ∷ [])) ≡ length rs + 1
     longer = length-append rs (f ∷ [])
 
@@ -108,7 +111,7 @@ module _ {c : Carrier} {source : List ℕ} {rs : List Fields} {h : Held} (k : Ho
               was.size,
               length-sheet c rs,
               length-sheet c (rs ++ (f ∷ [])),
-              ap (λ (x : Examined). x.size) is,
+              ap (λ (x : Verdict). x.size) is,
               ap length (flat_map_append (record_of c) rs (f ∷ [])),
               length-append (records_of c rs) (records_of c (f ∷ [])),
               ap length (append-nil (record_of c f)),
@@ -189,7 +192,7 @@ module _ (c : Carrier) (area : List ℕ) where
     tallying-skips s =
         record { bodies = g.bodies; walked = walked-skips c area g.walked s; shows = g.shows; behind = omega (arith, g.behind, skips-forward s) }
 
-    module _ {start end : ℕ} (p : step_at c area at ≡ Step.Block start end) where
+    module _ {start end : ℕ} (p : step_at c area at ≡ Ok (Step.Block start end)) where
       -- one more block, with what it yields
       on : {r : Tally} (y : Yield) → alone c (part start end area) ≡ y → Shows c area (map (alone c) g.bodies ++ (y ∷ [])) r → Tallying c area end r
       on {r} y e s =
@@ -204,14 +207,12 @@ module _ (c : Carrier) (area : List ℕ) where
             behind = omega (arith, g.behind, m.0, length-append g.bodies (part start end area ∷ []));
           }
 
-      module _ {e : Examined} (x : Seen c area start end e) where
-        pub tallying-discarded : {k p there : ℕ} → (e.fault ≡ 0 → ⊥) → there ≡ place_from (header_of c) e.fault e.place
-            → (t.discarded ≡ 0 → k ≡ e.fault) × ((t.discarded ≡ 0 → ⊥) → k ≡ t.first.fault)
-            → (t.discarded ≡ 0 → p ≡ there) × ((t.discarded ≡ 0 → ⊥) → p ≡ t.first.place)
-            → Tallying c area end (tally_of t.held (t.found + 1) (t.discarded + 1) (judged k p))
-        tallying-discarded n h f q =
+      module _ {e : Verdict} (x : Seen c area start end e) where
+        pub tallying-discarded : {j : Judged} → (e.fault ≡ 0 → ⊥) → (t.discarded ≡ 0 → j ≡ from (header_of c) (judged e.fault e.place))
+            → ((t.discarded ≡ 0 → ⊥) → j ≡ t.first) → Tallying c area end (tally_of t.held (t.found + 1) (t.discarded + 1) j)
+        tallying-discarded n first later =
             on (discarded (from (header_of c) (told x))) (ap (λ (o : Outcome). single (further (header_of c) o)) (seen-faulty x n))
-            (shows-discarded g.shows (λ z. ap₂ judged (f.0 z) (q.0 z ∙ h)) (λ z. ap₂ judged (f.1 z) (q.1 z)))
+            (shows-discarded g.shows first later)
 
         module _ (z : e.fault ≡ 0) where
           pub tallying-kept : {s : Slots} {b : Bool} → Grown t.held e start end s b
@@ -225,6 +226,11 @@ module _ (c : Carrier) (area : List ℕ) where
           tallying-full a =
               let f = seen-kept x z in
               on (yields (f.0 ∷ [])) (ap (λ (o : Outcome). single (further (header_of c) o)) f.1) (shows_kept g.shows f.0 (holds-full g.shows.holds x f.1 a))
+
+          pub tallying-keeps : {h : Held} → Keeps t.held e start end h → Tallying c area end (tally_of h (t.found + 1) t.discarded t.first)
+          tallying-keeps =
+              let on : Held → Type 0 = λ h. Tallying c area end (tally_of h (t.found + 1) t.discarded t.first) in
+              ⊎_elim (λ g. subst⁻¹ on g.1 (tallying-kept g.0)) (λ f. subst⁻¹ on f.1 (tallying-full f.0))
 
 -- ---- the walk over joined data
 
@@ -246,7 +252,7 @@ module _ (joined : List ℕ) where
       pub passed-past : length joined - (at + 2) < long → joined_yield joined ≡ discarded (judged fault.field 0)
       passed-past l = g.yields_on ∙ ap (before g.records) (instance-past joined at i long q k l)
 
-      module _ (l : long ≤ length joined - (at + 2)) {e : Examined} (x : Seen Dhcp4 joined (at + 2) (at + 2 + long) e) where
+      module _ (l : long ≤ length joined - (at + 2)) {e : Verdict} (x : Seen Dhcp4 joined (at + 2) (at + 2 + long) e) where
         past : (o : Outcome) → outcome_of Dhcp4 (part (at + 2) (at + 2 + long) joined) ≡ o
             → joined_yield joined ≡ before g.records (ahead (further (at + 2) o) (instances_from 0 (at + 2 + long) (drop (at + 2 + long) joined)))
         past o p =
@@ -254,9 +260,8 @@ module _ (joined : List ℕ) where
             ∙ ap (before g.records) (instance-whole joined at i long q k l)
             ∙ ap (λ (o : Outcome). before g.records (ahead (further (at + 2) o) (instances_from 0 (at + 2 + long) (drop (at + 2 + long) joined)))) p
 
-        pub passed-faulty : {there : ℕ} → (e.fault ≡ 0 → ⊥) → there ≡ place_from (at + 2) e.fault e.place
-            → joined_yield joined ≡ discarded (judged e.fault there)
-        passed-faulty n h = past (faulty (told x)) (seen-faulty x n) ∙ ap (λ (p : ℕ). discarded (judged e.fault p)) (sym h)
+        pub passed-faulty : {j : Judged} → (e.fault ≡ 0 → ⊥) → j ≡ from (at + 2) (judged e.fault e.place) → joined_yield joined ≡ discarded j
+        passed-faulty n h = past (faulty (told x)) (seen-faulty x n) ∙ ap discarded (sym h)
 
         module _ (z : e.fault ≡ 0) where
           goes_on : {r : Held} (f : Fields) → outcome_of Dhcp4 (part (at + 2) (at + 2 + long) joined) ≡ kept f → Holds Dhcp4 joined (g.records ++ (f ∷ [])) r
@@ -274,6 +279,11 @@ module _ (joined : List ℕ) where
 
           pub passed-full : limit.records ≤ h.slots.count → Passed joined (at + 2 + long) (held_of h.slots h.size h.clean true)
           passed-full a = let f = seen-kept x z in goes_on f.0 f.1 (holds-full g.holds x f.1 a)
+
+          pub passed-keeps : {h' : Held} → Keeps h e (at + 2) (at + 2 + long) h' → Passed joined (at + 2 + long) h'
+          passed-keeps =
+              let on : Held → Type 0 = Passed joined (at + 2 + long) in
+              ⊎_elim (λ g. subst⁻¹ on g.1 (passed-kept g.0)) (λ f. subst⁻¹ on f.1 (passed-full f.0))
 
     -- all instances are passed: the tally of the one block
     pub passed-end : length joined ≤ at → Shows Dhcp4 joined (joined_yield joined ∷ []) (tally_of h 1 0 (judged 0 0))

@@ -7,12 +7,13 @@ use Rattle.carriers.specs.declared.Carrier.{Carrier}
 use Rattle.carriers.specs.declared.Carrier.TheVariants.{Dhcp4}
 use Rattle.frames.specs.Walk.{Walked}
 use Rattle.blocks.specs.Block.{Fields}
-use Rattle.order.specs.declared.Slot.{Slot}
+use Rattle.order.specs.declared.slots.Slot.{Slot}
 use Rattle.records.specs.Yielded.{outcome_of}
 use Rattle.records.specs.Examined.{octets_in}
 use Rattle.reading.specs.Reading.{instances_from, joined_yield, alone}
 use Rattle.reading.specs.Result.{Yield, discarded, yields}
-use Rattle.reading.specs.Tally.{body_at, Held, Holds, Tally, Shows}
+use Rattle.reading.specs.declared.Held.{Held}
+use Rattle.reading.specs.Tally.{body_at, Holds, Tally, Shows}
 
 -- ---- the blocks of an area
 

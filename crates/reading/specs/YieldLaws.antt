@@ -2,7 +2,7 @@
 use Rattle.std.specs.Prelude.{◌≡◌, refl, List, [], ◌∷◌, ◌++◌, ◌+◌, ◌≤◌, length}
 use Rattle.std.proofs.Common.{sym, ap, ◌∙◌, append_assoc, append-nil, arith}
 use Rattle.blocks.specs.Block.{Fields}
-use Rattle.judge.specs.declared.Judged.{Judged}
+use Rattle.judge.specs.Place.{Judged}
 use Rattle.reading.specs.Result.{Yield, discarded, yields, records_in, arrivals, discards, discarded_in, or_fault, first_fault}
 
 pub arrivals-more : (ys : List Yield) (y : Yield) → arrivals (ys ++ (y ∷ [])) ≡ arrivals ys ++ records_in y

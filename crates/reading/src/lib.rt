@@ -4,20 +4,24 @@
 // kept bodies are remembered. Only when the answer is 0 are they ordered and written. The tests stand in the order 1, 2, 3, 4, 5 (RULES T1).
 #![tactic(auto)]
 
-ghost use Rattle.std.specs.Prelude.{◌≡◌, true, [], ◌∷◌, ◌≤◌, ◌<◌, length};
+ghost use Rattle.std.specs.Prelude.{◌≡◌, true, false, [], ◌∷◌, ◌≤◌, ◌<◌, length, Ok};
 ghost use Rattle.octets.specs.Over.{Wrote};
 ghost use Rattle.numbers.specs.Limit as limit;
+ghost use Rattle.numbers.specs.Refusal as refusal;
 ghost use Rattle.carriers.specs.declared.Carrier.TheVariants.{Dhcp4};
 ghost use Rattle.frames.specs.Frame.{frame};
 ghost use Rattle.frames.specs.Gather.{Several};
-ghost use Rattle.judge.specs.Place.{judged};
-ghost use Rattle.sheets.specs.Sheets.{sheet_of};
+ghost use Rattle.judge.specs.Place.{judged, flawed};
+ghost use Rattle.order.specs.Listed.{listed};
+ghost use Rattle.records.specs.Examined.{verdict_in};
+ghost use Rattle.sheets.specs.Sheets.{front_size, sheet_of};
 ghost use Rattle.reading.specs.Reading.{joined_yield, in_order, read_blocks, read_framed, read_of};
 ghost use Rattle.reading.specs.Result.{discarded, refuse, told, Reads};
-ghost use Rattle.reading.specs.Tally.{usual, half, records_at, slot_of, tally_in, Sound, Ready, answer_of};
+ghost use Rattle.reading.specs.Tally.{records_at, slot_of, held_of, largest, Keeps, first_in, tally_in, Sound, Ready, answer_of};
 
-use carriers::{Carrier, Chosen};
-use frames::{Gathered, Joined, Step};
+use carriers::Carrier;
+use frames::{Gathered, Step};
+use judge::Flaw;
 use numbers::{Fault, Limit, Refusal};
 use order::{Slot, Slots};
 use records::Examined;
@@ -41,26 +45,59 @@ pub struct Reading {
     pub place: usize,
 }
 
-// What is counted of the blocks met: the place of the first discarded block's fault; the octets of a sheet of the kept records; how many
-// blocks were found; whether every address of the records is known to stay; how many blocks were discarded; whether more than 16 records were
-// kept; the first discarded block's fault. (Fields that are neighbours in `Reading` are kept apart here: LLVM would load two by one
-// instruction, which waits for their separate stores.)
-#[derive(Clone, Copy)]
-struct Counts {
-    place: usize,
+// What is held of the records kept: where their bodies stand; the octets of a sheet of them; whether every address of theirs is known to stay; and
+// whether there are more than 16 records, and then nothing else is asked.
+#[derive(Drop)]
+struct Held {
+    slots: Slots,
     size: usize,
-    found: usize,
     clean: bool,
-    discarded: usize,
     more: bool,
-    fault: usize,
 }
 
-fn refused(number: usize) -> Reading
-    ensures { result ≡ told (refuse number) }
+// What is counted of the blocks met: how many were found, how many of them were discarded, and the first discarded block's fault with its place.
+#[derive(Clone, Copy)]
+struct Counts {
+    found: usize,
+    discarded: usize,
+    first: Option<Flaw>,
+}
+
+impl Held {
+    // Of no records.
+    fn new() -> Held
+        ensures none { (result.slots.count ≡ 0) × (listed result.slots ≡ []) }
+        ensures value { result ≡ held_of result.slots front_size true false }
+    {
+        Held {
+            slots: Slots::new(),
+            size: sheets::FRONT,
+            clean: true,
+            more: false,
+        }
+    }
+
+    // One more record, of the body from `start` to `end`, of which `e` tells.
+    fn keep(&mut self, e: Examined, start: usize, end: usize)
+        requires place { (start ≤ end) × (end ≤ limit.input) }
+        requires bounds { (e.priority < 65536) × (e.size ≤ limit.record_size) × (self.old.size ≤ largest self.old.slots.count) }
+        ensures { Keeps self.old (verdict_in (Ok e)) start end self.new }
+    {
+        match self.slots.push(slot_of(e, start, end)) {
+            Ok(()) => {
+                self.size += e.size;
+                self.clean &= e.clean;
+            }
+            Err(_) => self.more = true,
+        }
+    }
+}
+
+fn refused(why: Refusal) -> Reading
+    ensures { result ≡ told (refuse (refusal.number_of why)) }
 {
     Reading {
-        number,
+        number: why.number(),
         length: 0,
         found: 0,
         discarded: 0,
@@ -72,7 +109,7 @@ fn refused(number: usize) -> Reading
 // The slot of the body from `start` to `end`, of which `e` tells.
 fn slot_of(e: Examined, start: usize, end: usize) -> Slot
     requires { (start ≤ end) × (end ≤ limit.input) × (e.priority < 65536) }
-    ensures { result ≡ slot_of e start end }
+    ensures { result ≡ slot_of (verdict_in (Ok e)) start end }
 {
     Slot {
         priority: e.priority as u16,
@@ -81,24 +118,14 @@ fn slot_of(e: Examined, start: usize, end: usize) -> Slot
     }
 }
 
-// What is claimed of all and of one more.
-fn both(all: bool, one: bool) -> bool
-    ensures { result ≡ true → (all ≡ true) × (one ≡ true) }
+// The fault and the place that are given back: those of the first discarded block, or 0.
+fn given_back(first: Option<Flaw>) -> (usize, usize)
+    ensures { judged result.0 result.1 ≡ first_in first }
 {
-    if all {
-        return one;
+    match first {
+        Some(flaw) => (flaw.fault.number(), flaw.place),
+        None => (0, 0),
     }
-    false
-}
-
-// The first discarded block's fault, or its place, with one more block discarded: `first` is that of those before it, `this` the block's own.
-fn first_of(discarded: usize, first: usize, this: usize) -> usize
-    ensures { (discarded ≡ 0 → result ≡ this) × ((discarded ≡ 0 → ⊥) → result ≡ first) }
-{
-    if discarded == 0 {
-        return this;
-    }
-    first
 }
 
 // Orders the kept bodies of `source` and writes the sheet of their records. `clean`: every address of theirs is known to stay.
@@ -109,38 +136,35 @@ fn put_sheet(out: &mut [u8], c: Carrier, source: &[u8], slots: Slots, clean: boo
 {
     let sorting = order::ordered(slots);
     let sorted = sorting.slots;
-    let count = sorted.count;
-    let mut o = sheets::put_front(out, c, count as u8);
-    let mut i: usize = 0;
-    while i < count {
-        let slot = sorted.items[i];
-        let start = slot.place as usize;
-        let end = start + slot.length as usize;
+    let mut o = sheets::put_front(out, c, sorted.count as u8);
+    for slot in sorted.as_slice() {
+        let start = usize::from(slot.place);
+        let end = start + usize::from(slot.length);
         o = records::put_record(out, o, c, clean, &source[start..end]);
-        i += 1;
     }
     o
 }
 
 // 4, 5, or the sheet of the kept records, with the blocks' counts. (`&source[..]`: see docs/DESIGN.md, Speed.)
-fn settle(out: &mut [u8], c: Carrier, source: &[u8], slots: Slots, counts: Counts) -> Reading
-    requires { Ready c source.now (tally_in slots counts).held }
-    ensures { Reads (answer_of c source.now (tally_in slots counts) (length out.old)) out.old result out.new }
+fn settle(out: &mut [u8], c: Carrier, source: &[u8], held: Held, counts: Counts) -> Reading
+    requires { Ready c source.now held }
+    ensures { Reads (answer_of c source.now (tally_in held counts) (length out.old)) out.old result out.new }
 {
-    if counts.more {
-        return refused(Refusal::RECORDS);
+    if held.more {
+        return refused(Refusal::Records);
     }
-    if out.len() < counts.size {
-        return refused(Refusal::ROOM);
+    if out.len() < held.size {
+        return refused(Refusal::Room);
     }
-    let length = put_sheet(out, c, &source[..], slots, counts.clean);
+    let length = put_sheet(out, c, &source[..], held.slots, held.clean);
+    let (fault, place) = given_back(counts.first);
     Reading {
         number: 0,
         length,
         found: counts.found,
         discarded: counts.discarded,
-        fault: counts.fault,
-        place: counts.place,
+        fault,
+        place,
     }
 }
 
@@ -149,122 +173,88 @@ fn read_blocks(c: Carrier, area: &[u8], out: &mut [u8]) -> Reading
     requires { (c ≡ Dhcp4 → ⊥) × (length area.now ≤ limit.input) }
     ensures { Reads (read_framed c (frame c area.now) (length out.old)) out.old result out.new }
 {
-    let mut slots = order::empty();
-    let mut size = sheets::FRONT;
-    let mut clean = true;
-    let mut more = false;
+    let mut held = Held::new();
     let mut found: usize = 0;
-    let mut bad: usize = 0;
-    let mut fault: usize = 0;
-    let mut place: usize = 0;
+    let mut discarded: usize = 0;
+    let mut first = None;
     let mut at: usize = 0;
     loop {
         match frames::next_block(c, area, at) {
-            Step::Block { start, end } => {
-                let e = records::examine(c, &area[start..end]);
+            Ok(Step::Block { start, end }) => {
                 found += 1;
                 at = end;
-                if e.fault != 0 {
-                    let there = judge::place_from(c.header_size(), e.fault, e.place);
-                    fault = first_of(bad, fault, e.fault);
-                    place = first_of(bad, place, there);
-                    bad += 1;
-                } else if slots.count < Limit::RECORDS {
-                    let n = slots.count;
-                    slots.items[n] = slot_of(e, start, end);
-                    slots.count = n + 1;
-                    size += e.size;
-                    clean = both(clean, e.clean);
-                } else {
-                    more = true;
+                match records::examine(c, &area[start..end]) {
+                    Err(flaw) => {
+                        if discarded == 0 {
+                            first = Some(flaw.back(c.header_size()));
+                        }
+                        discarded += 1;
+                    }
+                    Ok(e) => held.keep(e, start, end),
                 }
             }
-            Step::Skipped { end: past } => at = frames::skip_foreign(c, area, past),
-            Step::End => {
+            Ok(Step::Skipped { end: past }) => at = frames::skip_foreign(c, area, past),
+            Ok(Step::End) => {
                 let counts = Counts {
-                    place,
-                    size,
-                    clean,
-                    more,
                     found,
-                    discarded: bad,
-                    fault,
+                    discarded,
+                    first,
                 };
-                return settle(out, c, area, slots, counts);
+                return settle(out, c, area, held, counts);
             }
-            Step::Fault => return refused(Refusal::FRAMING),
+            Err(why) => return refused(why),
         }
     }
 }
 
 // Carrier 1, where the one block is discarded.
-fn discard_joined(joined: &[u8], out: &mut [u8], fault: usize, place: usize) -> Reading
-    requires { joined_yield joined.now ≡ discarded (judged fault place) }
+fn discard_joined(joined: &[u8], out: &mut [u8], flaw: Flaw) -> Reading
+    requires { joined_yield joined.now ≡ discarded (flawed flaw) }
     ensures { Reads (read_blocks Dhcp4 (joined.now ∷ []) (length out.old)) out.old result out.new }
 {
-    let none = order::empty();
     let counts = Counts {
-        place,
-        size: sheets::FRONT,
-        clean: true,
-        more: false,
         found: 1,
         discarded: 1,
-        fault,
+        first: Some(flaw),
     };
-    settle(out, Carrier::Dhcp4, joined, none, counts)
+    settle(out, Carrier::Dhcp4, joined, Held::new(), counts)
 }
 
-// Carrier 1: the one block of joined data, each instance read from its own octets and nothing around them.
+// Carrier 1: the one block of joined data, each instance read from its own octets and nothing around them. (An index, since each step is as long as
+// the instance that stands there.)
 fn read_instances(joined: &[u8], out: &mut [u8]) -> Reading
     requires { length joined.now ≤ limit.input }
     ensures { Reads (read_blocks Dhcp4 (joined.now ∷ []) (length out.old)) out.old result out.new }
 {
-    if joined.len() == 0 {
-        return discard_joined(&joined[..], out, Fault::FIELD, 0);
+    if joined.is_empty() {
+        return discard_joined(&joined[..], out, Flaw::from(Fault::Field));
     }
     let c = Carrier::Dhcp4;
-    let mut slots = order::empty();
-    let mut size = sheets::FRONT;
-    let mut clean = true;
-    let mut more = false;
+    let mut held = Held::new();
     let mut at: usize = 0;
     while at < joined.len() {
         if joined.len() - at < 2 {
-            return discard_joined(&joined[..], out, Fault::FIELD, 0);
+            return discard_joined(&joined[..], out, Flaw::from(Fault::Field));
         }
         let long = octets::get16(&joined[..], at);
         let start = at + 2;
         if joined.len() - start < long {
-            return discard_joined(&joined[..], out, Fault::FIELD, 0);
+            return discard_joined(&joined[..], out, Flaw::from(Fault::Field));
         }
         let end = start + long;
-        let e = records::examine(c, &joined[start..end]);
-        if e.fault != 0 {
-            let place = judge::place_from(start, e.fault, e.place);
-            return discard_joined(&joined[..], out, e.fault, place);
-        }
+        let e = match records::examine(c, &joined[start..end]) {
+            Ok(e) => e,
+            Err(flaw) => return discard_joined(&joined[..], out, flaw.back(start)),
+        };
         at = end;
-        if slots.count < Limit::RECORDS {
-            let n = slots.count;
-            slots.items[n] = slot_of(e, start, end);
-            slots.count = n + 1;
-            size += e.size;
-            clean = both(clean, e.clean);
-        } else {
-            more = true;
-        }
+        held.keep(e, start, end);
     }
     let counts = Counts {
-        place: 0,
-        size,
-        clean,
-        more,
         found: 1,
         discarded: 0,
-        fault: 0,
+        first: None,
     };
-    settle(out, c, &joined[..], slots, counts)
+    settle(out, c, &joined[..], held, counts)
 }
 
 // Carrier 1 with several options 162: their data joined in a buffer that has room for the area.
@@ -273,35 +263,17 @@ fn read_within(area: &[u8], buffer: &mut [u8], out: &mut [u8]) -> Reading
     ensures { Reads (read_framed Dhcp4 (frame Dhcp4 area.now) (length out.old)) out.old result out.new }
 {
     match frames::join(area, buffer) {
-        Joined::Broken => refused(Refusal::FRAMING),
-        Joined::Whole(n) => read_instances(&buffer[..n], out),
+        Err(why) => refused(why),
+        Ok(n) => read_instances(&buffer[..n], out),
     }
 }
 
-// The same in a local buffer, for an area of a usual message.
-fn read_few(area: &[u8], out: &mut [u8]) -> Reading
-    requires { (length area.now ≤ usual) × Several (frame Dhcp4 area.now) }
+// The same in a local buffer of N octets.
+fn read_in<const N: usize>(area: &[u8], out: &mut [u8]) -> Reading
+    requires { (length area.now ≤ N) × (N ≤ limit.input) × Several (frame Dhcp4 area.now) }
     ensures { Reads (read_framed Dhcp4 (frame Dhcp4 area.now) (length out.old)) out.old result out.new }
 {
-    let mut buffer = [0u8; USUAL];
-    read_within(&area[..], &mut buffer, out)
-}
-
-// The same for an area of at most half the largest input.
-fn read_half(area: &[u8], out: &mut [u8]) -> Reading
-    requires { (length area.now ≤ half) × Several (frame Dhcp4 area.now) }
-    ensures { Reads (read_framed Dhcp4 (frame Dhcp4 area.now) (length out.old)) out.old result out.new }
-{
-    let mut buffer = [0u8; HALF];
-    read_within(&area[..], &mut buffer, out)
-}
-
-// The same for any area.
-fn read_many(area: &[u8], out: &mut [u8]) -> Reading
-    requires { (length area.now ≤ limit.input) × Several (frame Dhcp4 area.now) }
-    ensures { Reads (read_framed Dhcp4 (frame Dhcp4 area.now) (length out.old)) out.old result out.new }
-{
-    let mut buffer = [0u8; Limit::INPUT];
+    let mut buffer = [0u8; N];
     read_within(&area[..], &mut buffer, out)
 }
 
@@ -311,20 +283,18 @@ fn read_joined(area: &[u8], out: &mut [u8]) -> Reading
     requires { length area.now ≤ limit.input }
     ensures { Reads (read_framed Dhcp4 (frame Dhcp4 area.now) (length out.old)) out.old result out.new }
 {
-    match frames::gather(&area[..]) {
-        Gathered::Broken => refused(Refusal::FRAMING),
+    let gathered = match frames::gather(&area[..]) {
+        Err(why) => return refused(why),
+        Ok(gathered) => gathered,
+    };
+    match gathered {
         Gathered::Absent => {
-            let none = order::empty();
             let counts = Counts {
-                place: 0,
-                size: sheets::FRONT,
-                clean: true,
-                more: false,
                 found: 0,
                 discarded: 0,
-                fault: 0,
+                first: None,
             };
-            settle(out, Carrier::Dhcp4, &area[..], none, counts)
+            settle(out, Carrier::Dhcp4, &area[..], Held::new(), counts)
         }
         Gathered::One { start, end } => read_instances(&area[start..end], out),
         Gathered::Many { from } => {
@@ -332,12 +302,12 @@ fn read_joined(area: &[u8], out: &mut [u8]) -> Reading
                 return read_joined(&area[from..], out);
             }
             if area.len() <= USUAL {
-                return read_few(&area[..], out);
+                return read_in::<USUAL>(&area[..], out);
             }
             if area.len() <= HALF {
-                return read_half(&area[..], out);
+                return read_in::<HALF>(&area[..], out);
             }
-            read_many(&area[..], out)
+            read_in::<{ Limit::INPUT }>(&area[..], out)
         }
     }
 }
@@ -359,11 +329,11 @@ fn read_area(c: Carrier, area: &[u8], out: &mut [u8]) -> Reading
 pub fn read(carrier: usize, area: &[u8], out: &mut [u8]) -> Reading
     ensures { Reads (read_of carrier area.now (length out.old)) out.old result out.new }
 {
-    let Chosen::Known(c) = Carrier::of(carrier) else {
-        return refused(Refusal::CARRIER);
+    let Some(c) = Carrier::of(carrier) else {
+        return refused(Refusal::Carrier);
     };
     if Limit::INPUT < area.len() {
-        return refused(Refusal::INPUT);
+        return refused(Refusal::Input);
     }
     read_area(c, area, out)
 }

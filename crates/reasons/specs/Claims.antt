@@ -5,7 +5,7 @@ use Rattle.names.specs.Names.{last, Ldh, Label}
 use Rattle.svcparams.specs.Key as key
 use Rattle.svcparams.specs.Param.{Param, keys}
 use Rattle.svcparams.specs.Accepted.{put, field_of, Fits, Ordered, Hinted, Allowed}
-use Rattle.reasons.specs.declared.Param as told
+use Rattle.reasons.specs.Params as told
 use Rattle.reasons.specs.Reason as reason
 use Rattle.reasons.specs.Params.{none}
 

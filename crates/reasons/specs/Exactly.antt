@@ -1,9 +1,8 @@
 -- The theorems: the reason given at the first bad place of a name is true there, and the parameter given for a fault is the first that is
 -- at fault, in the terms of `Claims`. Assumes nothing.
-use Rattle.std.specs.Prelude.{◌≡◌, true, false, List, ℕ}
+use Rattle.std.specs.Prelude.{◌≡◌, true, false, List, ℕ, Err}
 use Rattle.octets.specs.Numbers.{Bytes}
 use Rattle.numbers.specs.Fault as fault
-use Rattle.names.specs.declared.Name.TheVariants.{Bad}
 use Rattle.names.specs.Wire.{name_check}
 use Rattle.texts.specs.TextCheck.{text_check}
 use Rattle.svcparams.specs.Params.{params_fault}
@@ -17,10 +16,10 @@ use Rattle.reasons.specs.OrderWhy.{unordered-true}
 
 -- ---- names, in wire form and as text
 
-pub wire-why : (s : List ℕ) (p : ℕ) → name_check s ≡ Bad p → WireWhy s p (name_reason false s p)
+pub wire-why : (s : List ℕ) (p : ℕ) → name_check s ≡ Err p → WireWhy s p (name_reason false s p)
 wire-why s p e = wire-true s p e
 
-pub text-why : (s : List ℕ) (p : ℕ) → text_check s ≡ Bad p → TextWhy s p (name_reason true s p)
+pub text-why : (s : List ℕ) (p : ℕ) → text_check s ≡ Err p → TextWhy s p (name_reason true s p)
 text-why s p e = text-true s p e
 
 -- ---- parameters

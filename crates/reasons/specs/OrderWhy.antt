@@ -16,7 +16,7 @@ use Rattle.svcparams.specs.Params.{size_of, first, params_fault}
 use Rattle.svcparams.specs.Accepted.{Ascending, put, field_of, Fits}
 use Rattle.svcparams.specs.FieldLaws.{put-size, first-laid}
 use Rattle.svcparams.proofs.Exactly.{parameters-exactly}
-use Rattle.reasons.specs.declared.Param as told
+use Rattle.reasons.specs.Params as told
 use Rattle.reasons.specs.Params.{param, none, unordered_from, param_for}
 use Rattle.reasons.specs.ParamsLaws.{short-unordered, whole-unordered}
 use Rattle.reasons.specs.Claims as claims

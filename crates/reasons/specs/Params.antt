@@ -1,11 +1,16 @@
 -- Which service parameter is at fault, and where in their field it begins (RULES R26 to R28, T3). Assumes nothing: these are definitions.
-use Rattle.std.specs.Prelude.{Bool, true, false, cond, not, ◌||◌, List, [], ◌∷◌, ℕ, zero, suc, ◌+◌, ◌-◌, ltb, eqb, take, drop}
+use Rattle.std.specs.Prelude.{Bool, true, false, cond, not, ◌||◌, List, [], ◌∷◌, ℕ, zero, suc, ◌+◌, ◌-◌, ltb, eqb, take, drop, unwrap_or}
 use Rattle.octets.specs.Numbers.{at16}
 use Rattle.numbers.specs.Fault as fault
 use Rattle.svcparams.specs.Key as key
 use Rattle.svcparams.specs.Params.{size_of, is_hint, value_good}
 use Rattle.svcparams.specs.Entries.{keys_in}
-use Rattle.reasons.specs.declared.Param.{Param}
+use Rattle.reasons.specs.declared.Param as code
+
+-- a parameter: where in its field it begins, and its key
+pub record Param : Type 0 where
+  pub at : ℕ
+  pub key : ℕ
 
 -- no key: above every key of 16 bits
 abbrev pub none : ℕ
@@ -13,6 +18,10 @@ none = 65536
 
 abbrev pub param : ℕ → ℕ → Param
 param at k = record { at = at; key = k }
+
+-- a parameter of src/; it has a key below `none`, or no key
+abbrev pub param_of : code.Param → Param
+param_of r = param r.at (unwrap_or r.key none)
 
 -- no parameter
 abbrev pub nothing : Param

@@ -12,17 +12,21 @@ use Rattle.octets.specs.ListsLaws.{take_rest}
 use Rattle.svcparams.specs.Key as key
 use Rattle.svcparams.specs.Params.{size_of}
 use Rattle.svcparams.specs.TilingLaws.{rest, value_at, sized}
-use Rattle.reasons.specs.declared.Param.{Param}
-use Rattle.reasons.specs.Params.{param, nothing, none, on, unordered_from, wrong_of, wrong_from}
+use Rattle.reasons.specs.Params.{Param, param, nothing, none, on, unordered_from, wrong_of, wrong_from}
 
 -- a parameter that stands at a place of the field, its size as the code has it
 module _ (p : List ℕ) (at : ℕ) {n : ℕ} (e : n ≡ size_of (rest p at)) where
   is-size : size_of (drop at p) ≡ n
   is-size = sym (e ∙ ap size_of (take_rest at p))
 
-  size_fits : (n ≡ 0 → ⊥) → n ≤ length p - at
+  some : 4 ≤ n → size_of (drop at p) ≡ 0 → ⊥
+  some z y =
+      let q = is-size in
+      omega arith
+
+  size_fits : 4 ≤ n → n ≤ length p - at
   size_fits z =
-      let h = (sized (drop at p) (λ y. z (sym is-size ∙ y))).room in
+      let h = (sized (drop at p) (some z)).room in
       let q = is-size in
       let l = length-drop at p in
       omega arith
@@ -83,14 +87,14 @@ module _ (p : List ℕ) (at least : ℕ) (i : Ordering p at least) where
   unfolding unordered_from
   ordering-end h = sym (i.left ∙ ap (unordered_from 0 at least) (drop_of_length-le p h))
 
-  module _ {n : ℕ} (e : n ≡ size_of (rest p at)) where
-    pub ordering-short : at < length p → n ≡ 0 → param at none ≡ unordered_from 0 0 0 p
-    ordering-short h z = sym (i.left ∙ short-unordered at least (drop at p) (simp length-drop (omega arith)) (is-size p at e ∙ z))
+  pub ordering-short : 0 ≡ size_of (rest p at) → at < length p → param at none ≡ unordered_from 0 0 0 p
+  ordering-short e h = sym (i.left ∙ short-unordered at least (drop at p) (simp length-drop (omega arith)) (is-size p at e))
 
-    module _ {k : ℕ} (z : n ≡ 0 → ⊥) (q : k ≡ at16 (rest p at) 0) where
+  module _ {n : ℕ} (e : n ≡ size_of (rest p at)) where
+    module _ {k : ℕ} (z : 4 ≤ n) (q : k ≡ at16 (rest p at) 0) where
       onward : unordered_from 0 0 0 p ≡ keyed at least k (unordered_from 0 (at + n) (k + 1) (drop (at + n) p))
       onward =
-          i.left ∙ whole-unordered at least (drop at p) (λ y. z (sym (is-size p at e) ∙ y))
+          i.left ∙ whole-unordered at least (drop at p) (some p at e z)
           ∙ ap₂ (λ (k m : ℕ). keyed at least k (unordered_from 0 (at + m) (k + 1) (drop m (drop at p)))) (key-is p at e q) (is-size p at e)
           ∙ ap (λ (l : List ℕ). keyed at least k (unordered_from 0 (at + n) (k + 1) l)) (drop-drop n at p)
 
@@ -155,11 +159,11 @@ pub record Seeking (hints : Bool) (ks p : List ℕ) (at : ℕ) : Type 0 where
 pub seeking-start : (hints : Bool) (ks p : List ℕ) → Seeking hints ks p 0
 seeking-start hints ks p = record { within = omega arith; left = refl }
 
-module _ (hints : Bool) (ks p : List ℕ) (at : ℕ) (i : Seeking hints ks p at) {n : ℕ} (e : n ≡ size_of (rest p at)) where
-  pub seeking-end : n ≡ 0 → nothing ≡ wrong_from hints ks 0 0 p
-  seeking-end z = sym (i.left ∙ short-wrong hints ks at (drop at p) (is-size p at e ∙ z))
+module _ (hints : Bool) (ks p : List ℕ) (at : ℕ) (i : Seeking hints ks p at) where
+  pub seeking-end : 0 ≡ size_of (rest p at) → nothing ≡ wrong_from hints ks 0 0 p
+  seeking-end e = sym (i.left ∙ short-wrong hints ks at (drop at p) (is-size p at e))
 
-  module _ {k : ℕ} {b : Bool} (z : n ≡ 0 → ⊥) (q : k ≡ at16 (rest p at) 0) (g : b ≡ wrong_of hints ks k (value_at p at n)) where
+  module _ {n k : ℕ} {b : Bool} (e : n ≡ size_of (rest p at)) (z : 4 ≤ n) (q : k ≡ at16 (rest p at) 0) (g : b ≡ wrong_of hints ks k (value_at p at n)) where
     judged-is : (judged hints ks (drop at p) (size_of (drop at p)) ≡ b) × (at16 (drop at p) 0 ≡ k)
     judged-is = (
       ap₂ (λ (l : List ℕ) (m : ℕ). judged hints ks l m) (sym (take_rest at p)) (is-size p at e)
@@ -173,7 +177,7 @@ module _ (hints : Bool) (ks p : List ℕ) (at : ℕ) (i : Seeking hints ks p at)
 
     toward : wrong_from hints ks 0 0 p ≡ cond b (param at k) (wrong_from hints ks 0 (at + n) (drop (at + n) p))
     toward =
-        i.left ∙ whole-wrong hints ks at (drop at p) (λ y. z (sym (is-size p at e) ∙ y))
+        i.left ∙ whole-wrong hints ks at (drop at p) (some p at e z)
         ∙ ap₂ (λ (b : Bool) (k : ℕ). cond b (param at k) (left_after (size_of (drop at p)))) judged-is.0 judged-is.1
         ∙ ap (λ (m : ℕ). cond b (param at k) (left_after m)) (is-size p at e)
         ∙ ap (λ (l : List ℕ). cond b (param at k) (wrong_from hints ks 0 (at + n) l)) (drop-drop n at p)

@@ -1,6 +1,8 @@
 -- Why a name is no host name (RULES N1, N2, N4), more closely than by the number of RULES R22: the same names as in src/.
 -- Assumes nothing: these are definitions.
 use Rattle.std.specs.Prelude.{ℕ}
+use Rattle.reasons.specs.declared.Reason.{Reason}
+use Rattle.reasons.specs.declared.Reason.TheVariants.{Cut, Empty, Pointer, Label, Long, After, Underscore, Hyphen, Dot, Octet}
 
 -- the octets stop before the root octet, or within a label
 abbrev pub cut : ℕ
@@ -40,3 +42,16 @@ dot = 9
 -- an octet that is no letter, digit or hyphen
 abbrev pub octet : ℕ
 octet = 10
+
+-- the number of a reason of src/
+abbrev pub number_of : Reason → ℕ
+number_of Cut = cut
+number_of Empty = empty
+number_of Pointer = pointer
+number_of Label = label
+number_of Long = long
+number_of After = after
+number_of Underscore = underscore
+number_of Hyphen = hyphen
+number_of Dot = dot
+number_of Octet = octet

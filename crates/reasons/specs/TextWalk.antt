@@ -1,14 +1,13 @@
 -- What stands before a place of a text, along the walk of the check. Assumes nothing.
-use Rattle.std.specs.Prelude.{◌≡◌, refl, ◌⊎◌, true, false, ℕ, ◌+◌, ◌-◌, ◌≤◌, ◌<◌, min, leb, eqb, length}
+use Rattle.std.specs.Prelude.{◌≡◌, refl, ◌⊎◌, true, false, ℕ, ◌+◌, ◌-◌, ◌≤◌, ◌<◌, min, leb, eqb, length, Ok, Err}
 use Rattle.std.proofs.Common.{sym, ap, ap₂, ◌∙◌, subst, inl, inr, true≢false, arith, length-append, eqb-true, leb-true, leb-false}
 use Rattle.std.proofs.Math.Bool.{cond}
 use mathlib.Core.List.{List, [], ◌∷◌, ◌++◌, append_assoc}
 use Rattle.std.proofs.lemmas.Bool.{eqb-false}
 use Rattle.octets.specs.Cases.{by-test}
 use Rattle.octets.specs.ListsLaws.{all_append}
-use Rattle.names.specs.declared.Name.TheVariants.{Good, Bad}
 use Rattle.names.specs.Names.{alnum, head, last, Ldh, Label}
-use Rattle.names.specs.Automaton.{Move, stop, go, on, walk}
+use Rattle.names.specs.Automaton.{Move, stop, go, Checked, on, walk}
 use Rattle.names.specs.AutomatonLaws.{not_good}
 use Rattle.names.specs.Complete.{both}
 use Rattle.texts.specs.TextCheck.{State, start, letter, hyphen, step, ended, after, inside, dot, text_automaton, text_check}
@@ -105,13 +104,13 @@ module _ (s : List ℕ) (p : ℕ) where
   abbrev Why : Type 0
   Why = TextWhy s p (text_reason s p)
 
-  there : (at : ℕ) → TextWhy s at (text_reason s at) → Bad at ≡ Bad p → Why
+  there : (at : ℕ) → TextWhy s at (text_reason s at) → ◌≡◌ {A = Checked} (Err at) (Err p) → Why
   there at w e = let q : at ≡ p = cc in subst (λ (i : ℕ). TextWhy s i (text_reason s i)) q w
 
-  module _ (at x : ℕ) (xs : List ℕ) (ih : (st : State) → Before s st (at + 1) xs → walk text_automaton st (at + 1) xs ≡ Bad p → Why) where
+  module _ (at x : ℕ) (xs : List ℕ) (ih : (st : State) → Before s st (at + 1) xs → walk text_automaton st (at + 1) xs ≡ Err p → Why) where
     -- what is shown of each move
     abbrev Moved : Move State → Type 0
-    Moved m = on m (Bad at) (λ st. walk text_automaton st (at + 1) xs) ≡ Bad p → Why
+    Moved m = on m (Err at) (λ st. walk text_automaton st (at + 1) xs) ≡ Err p → Why
 
     start-moved : InText s at [] (x ∷ xs) → Moved (step start at x)
     start-moved i =
@@ -186,15 +185,15 @@ module _ (s : List ℕ) (p : ℕ) where
   at_end (letter k) at v e = absurd (true≢false e)
   at_end (hyphen k) at v e = end-hyphen s at v.0 v.1.is v.1.some v.2
 
-  along : (xs : List ℕ) (st : State) (at : ℕ) → Before s st at xs → walk text_automaton st at xs ≡ Bad p → Why
+  along : (xs : List ℕ) (st : State) (at : ℕ) → Before s st at xs → walk text_automaton st at xs ≡ Err p → Why
   unfolding walk
   along [] st at v e =
-      by-test (ended st) (λ b. cond b Good (Bad at) ≡ Bad p → Why)
+      by-test (ended st) (λ b. cond b (Ok tt) (Err at) ≡ Err p → Why)
       (λ _ g. not_good (sym g))
       (λ t g. there at (at_end st at v t) g)
       e
   along (x ∷ xs) st at v e = moved at x xs (λ st'. along xs st' (at + 1)) st v e
 
-pub text-true : (s : List ℕ) (p : ℕ) → text_check s ≡ Bad p → TextWhy s p (text_reason s p)
+pub text-true : (s : List ℕ) (p : ℕ) → text_check s ≡ Err p → TextWhy s p (text_reason s p)
 unfolding text_check
 text-true s p e = along s p s start 0 (record { labels = []; each = tt; is = refl; place = refl; octets = tt }) e

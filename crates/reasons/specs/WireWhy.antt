@@ -1,5 +1,5 @@
 -- Why a name in wire form is bad at its first bad place: along the walk of the check, what stands before the place. Assumes nothing.
-use Rattle.std.specs.Prelude.{◌≡◌, refl, ◌⊎◌, Bool, false, ◌&&◌, leb, ltb, eqb}
+use Rattle.std.specs.Prelude.{◌≡◌, refl, ◌⊎◌, Bool, false, ◌&&◌, leb, ltb, eqb, Ok, Err}
 use Rattle.std.proofs.Math.Path.{sym, ap}
 use Rattle.std.proofs.Common.{◌∙◌, subst, inl, inr, true≢false, eqb-true, leb-true, leb-false, ltb-true, ltb-false, eq-eqb, le-leb}
 use Rattle.std.proofs.Math.Bool.{true, cond, and-eq-true_iff}
@@ -11,9 +11,8 @@ use Rattle.std.proofs.lemmas.Bool.{eqb-false}
 use Rattle.octets.specs.Cases.{by-test}
 use Rattle.octets.specs.Lists.{All}
 use Rattle.octets.specs.ListsLaws.{all_append, all_map}
-use Rattle.names.specs.declared.Name.TheVariants.{Good, Bad}
 use Rattle.names.specs.Names.{alnum, head, last, Ldh, Label}
-use Rattle.names.specs.Automaton.{Move, stop, go, on, walk}
+use Rattle.names.specs.Automaton.{Move, stop, go, Checked, on, walk}
 use Rattle.names.specs.AutomatonLaws.{not_good}
 use Rattle.names.specs.Wire.{State, letter, hyphen, first, root, step, ended, inside, length_octet, label_fits, hyphen_fits, name_automaton, name_check}
 use Rattle.reasons.specs.Reason as reason
@@ -249,13 +248,13 @@ module _ (s : List ℕ) (p : ℕ) where
   abbrev Why : Type 0
   Why = WireWhy s p (wire_reason s p)
 
-  there : (at : ℕ) → WireWhy s at (wire_reason s at) → Bad at ≡ Bad p → Why
+  there : (at : ℕ) → WireWhy s at (wire_reason s at) → ◌≡◌ {A = Checked} (Err at) (Err p) → Why
   there at w e = let q : at ≡ p = cc in subst (λ (i : ℕ). WireWhy s i (wire_reason s i)) q w
 
-  module _ (at x : ℕ) (xs : List ℕ) (ih : (st : State) → Before s st (at + 1) xs → walk name_automaton st (at + 1) xs ≡ Bad p → Why) where
+  module _ (at x : ℕ) (xs : List ℕ) (ih : (st : State) → Before s st (at + 1) xs → walk name_automaton st (at + 1) xs ≡ Err p → Why) where
     -- what is shown of each move
     abbrev Moved : Move State → Type 0
-    Moved m = on m (Bad at) (λ st. walk name_automaton st (at + 1) xs) ≡ Bad p → Why
+    Moved m = on m (Err at) (λ st. walk name_automaton st (at + 1) xs) ≡ Err p → Why
 
     length_moved : Whole s at (x ∷ xs) → Moved (length_octet at x)
     length_moved w =
@@ -297,16 +296,16 @@ module _ (s : List ℕ) (p : ℕ) where
         (λ a e. there at (octet-why s at x xs [] (k + 1) w (omega arith) a (λ _. inl refl)) e)
     moved root w = λ e. there at (root-why s at x xs w) e
 
-  along : (xs : List ℕ) (st : State) (at : ℕ) → Before s st at xs → walk name_automaton st at xs ≡ Bad p → Why
+  along : (xs : List ℕ) (st : State) (at : ℕ) → Before s st at xs → walk name_automaton st at xs ≡ Err p → Why
   unfolding walk
   along [] st at v e =
-      by-test (ended st) (λ b. cond b Good (Bad at) ≡ Bad p → Why)
+      by-test (ended st) (λ b. cond b (Ok tt) (Err at) ≡ Err p → Why)
       (λ _ g. not_good (sym g))
       (λ t g. there at (cut-why s at (at_end s st at v t)) g)
       e
   along (x ∷ xs) st at v e = moved at x xs (λ st'. along xs st' (at + 1)) st v e
 
-pub wire-true : (s : List ℕ) (p : ℕ) → name_check s ≡ Bad p → WireWhy s p (wire_reason s p)
+pub wire-true : (s : List ℕ) (p : ℕ) → name_check s ≡ Err p → WireWhy s p (wire_reason s p)
 unfolding name_check
 wire-true s p e =
     along s p s (letter 0) 0 (λ _. record { labels = []; each = tt; is = refl; place = refl }, λ n. absurd (n refl)) e

@@ -16,7 +16,7 @@ use Rattle.svcparams.specs.Accepted.{put, field_of, Fits, Ordered, Hinted, Allow
 use Rattle.svcparams.specs.FieldLaws.{put-size, put_first, put_rest, field-octets}
 use Rattle.svcparams.proofs.AcceptedLaws.{means-hint, values-means, means-values}
 use Rattle.svcparams.proofs.Exactly.{tiled-exactly, hint-exactly, value-exactly}
-use Rattle.reasons.specs.declared.Param as told
+use Rattle.reasons.specs.Params as told
 use Rattle.reasons.specs.Params.{param, nothing, wrong_of, wrong_from, param_for}
 use Rattle.reasons.specs.ParamsLaws.{whole-wrong}
 use Rattle.reasons.specs.Claims.{FirstHint, FirstForbidden}

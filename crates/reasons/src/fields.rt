@@ -1,42 +1,34 @@
 // Which service parameter is at fault.
-ghost use Rattle.std.specs.Prelude.{◌≡◌};
+ghost use Rattle.std.specs.Prelude.{◌≡◌, ◌<◌, IfSome};
 ghost use Rattle.svcparams.specs.Params.{is_hint};
 ghost use Rattle.svcparams.specs.Entries.{keys_in};
-ghost use Rattle.reasons.specs.Params.{unordered_from, wrong_of, wrong_from};
+ghost use Rattle.reasons.specs.Params.{param_of, unordered_from, wrong_of, wrong_from};
 
 use crate::Param;
 use octets::get16;
 use svcparams::{Key, size, value};
 
-// The first parameter that is not whole, whose key is not above the keys before it, or whose key is the invalid one.
+// The first parameter that is not whole, whose key is not above the keys before it, or whose key is the invalid one. (Places, not slices of
+// what is left, here and in `wrong`: the place is what is told.)
 pub fn unordered(p: &[u8]) -> Param
-    ensures { result ≡ unordered_from 0 0 0 p.now }
+    ensures value { param_of result ≡ unordered_from 0 0 0 p.now }
+    ensures key { IfSome result.key (λ k. k < 65536) }
 {
-    let mut at: usize = 0;
-    let mut least: usize = 0;
+    let mut at = 0;
+    let mut least = 0;
     while at < p.len() {
         let s = &p[at..];
-        let n = size(s);
-        if n == 0 {
-            return Param {
-                at: at,
-                key: Param::NONE,
-            };
-        }
+        let Some(n) = size(s) else {
+            return Param { at, key: None };
+        };
         let key = get16(s, 0);
-        if key < least {
-            return Param { at: at, key: key };
-        }
-        if key == Key::INVALID {
-            return Param { at: at, key: key };
+        if key < least || key == Key::INVALID {
+            return Param { at, key: Some(key) };
         }
         least = key + 1;
         at += n;
     }
-    Param {
-        at: 0,
-        key: Param::NONE,
-    }
+    Param { at: 0, key: None }
 }
 
 // Whether a key is an address hint.
@@ -58,23 +50,17 @@ fn is_wrong(hints: bool, key: usize, v: &[u8], p: &[u8]) -> bool
 
 // The first parameter that is so.
 pub fn wrong(hints: bool, p: &[u8]) -> Param
-    ensures { result ≡ wrong_from hints (keys_in p.now) 0 0 p.now }
+    ensures value { param_of result ≡ wrong_from hints (keys_in p.now) 0 0 p.now }
+    ensures key { IfSome result.key (λ k. k < 65536) }
 {
-    let mut at: usize = 0;
-    loop {
+    let mut at = 0;
+    while let Some(n) = size(&p[at..]) {
         let s = &p[at..];
-        let n = size(s);
-        if n == 0 {
-            return Param {
-                at: 0,
-                key: Param::NONE,
-            };
-        }
         let key = get16(s, 0);
-        let v = &s[4..n];
-        if is_wrong(hints, key, v, p) {
-            return Param { at: at, key: key };
+        if is_wrong(hints, key, &s[4..n], p) {
+            return Param { at, key: Some(key) };
         }
         at += n;
     }
+    Param { at: 0, key: None }
 }

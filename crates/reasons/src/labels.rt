@@ -1,11 +1,11 @@
 // Why a name is no host name, by the octet at its first bad place and by what stands beside it.
 ghost use Rattle.std.specs.Prelude.{◌≡◌, get_or};
+ghost use Rattle.reasons.specs.Reason as reason;
 ghost use Rattle.reasons.specs.Names.{mark_of, length_reason, octet_reason, wire_reason};
 ghost use Rattle.reasons.specs.Names.{before, dot_reason, hyphen_reason, letter_reason, text_octet, text_reason};
 
 use crate::{Mark, Reason};
 use names::is_alnum;
-use octets::wide;
 
 // ---- wire form
 
@@ -13,71 +13,58 @@ use octets::wide;
 fn mark_at(s: &[u8], at: usize) -> Mark
     ensures { result ≡ mark_of s.now at }
 {
-    let mut i = 0;
     let mut left = 0;
-    while i < s.len() {
+    for (i, x) in s.iter().enumerate() {
         if i == at {
-            if left == 0 {
-                return Mark::Length;
-            }
-            return Mark::Label;
+            return if left == 0 { Mark::Length } else { Mark::Label };
         }
-        let x = wide(s[i]);
-        i += 1;
-        if left == 0 {
-            if x == 0 {
-                return Mark::After;
-            }
-            left = x;
-        } else {
+        if left != 0 {
             left -= 1;
+        } else if *x == 0 {
+            return Mark::After;
+        } else {
+            left = usize::from(*x);
         }
     }
     Mark::Label
 }
 
-fn length_reason(x: usize) -> usize
-    ensures { result ≡ length_reason x }
+fn length_reason(x: u8) -> Reason
+    ensures { reason.number_of result ≡ length_reason x }
 {
-    if x == 0 {
-        return Reason::EMPTY;
+    match x {
+        0 => Reason::Empty,
+        192.. => Reason::Pointer,
+        64.. => Reason::Label,
+        _ => Reason::Long,
     }
-    if 192 <= x {
-        return Reason::POINTER;
-    }
-    if 64 <= x {
-        return Reason::LABEL;
-    }
-    Reason::LONG
 }
 
-fn octet_reason(x: usize) -> usize
-    ensures { result ≡ octet_reason x }
+fn octet_reason(x: u8) -> Reason
+    ensures { reason.number_of result ≡ octet_reason x }
 {
-    if x == 95 {
-        return Reason::UNDERSCORE;
+    match x {
+        b'_' => Reason::Underscore,
+        b'-' => Reason::Hyphen,
+        _ => Reason::Octet,
     }
-    if x == 45 {
-        return Reason::HYPHEN;
-    }
-    Reason::OCTET
 }
 
 // Of a name in wire form that is bad at a place.
-pub fn wire_reason(s: &[u8], at: usize) -> usize
-    ensures { result ≡ wire_reason s.now at }
+pub fn wire_reason(s: &[u8], at: usize) -> Reason
+    ensures { reason.number_of result ≡ wire_reason s.now at }
 {
-    if s.len() == 0 {
-        return Reason::EMPTY;
+    if s.is_empty() {
+        return Reason::Empty;
     }
     if s.len() <= at {
-        return Reason::CUT;
+        return Reason::Cut;
     }
-    let x = wide(s[at]);
+    let x = s[at];
     match mark_at(s, at) {
         Mark::Length => length_reason(x),
         Mark::Label => octet_reason(x),
-        Mark::After => Reason::AFTER,
+        Mark::After => Reason::After,
     }
 }
 
@@ -87,10 +74,10 @@ pub fn wire_reason(s: &[u8], at: usize) -> usize
 fn octet_at(s: &[u8], at: usize) -> u8
     ensures { result ≡ get_or s.now at 46 }
 {
-    if at < s.len() {
-        return s[at];
+    match s.get(at) {
+        Some(x) => *x,
+        None => b'.',
     }
-    b'.'
 }
 
 // The octet before a place, and a dot before the first: there a label begins as after a dot.
@@ -104,79 +91,66 @@ fn octet_before(s: &[u8], at: usize) -> u8
 }
 
 // A dot between two octets.
-fn dot_reason(before: u8, next: u8) -> usize
-    ensures { result ≡ dot_reason before next }
+fn dot_reason(before: u8, next: u8) -> Reason
+    ensures { reason.number_of result ≡ dot_reason before next }
 {
-    if before == b'.' {
-        return Reason::DOT;
+    match (before, next) {
+        (b'.', _) => Reason::Dot,
+        (b'-', _) => Reason::Hyphen,
+        (_, b'.') => Reason::Dot,
+        _ => Reason::Long,
     }
-    if before == b'-' {
-        return Reason::HYPHEN;
-    }
-    if next == b'.' {
-        return Reason::DOT;
-    }
-    Reason::LONG
 }
 
 // A hyphen between two octets, at a place.
-fn hyphen_reason(before: u8, next: u8, at: usize) -> usize
-    ensures { result ≡ hyphen_reason before next at }
+fn hyphen_reason(before: u8, next: u8, at: usize) -> Reason
+    ensures { reason.number_of result ≡ hyphen_reason before next at }
 {
-    if before == b'.' {
-        return Reason::HYPHEN;
-    }
-    if next == b'.' {
-        return Reason::HYPHEN;
+    if before == b'.' || next == b'.' {
+        return Reason::Hyphen;
     }
     if 252 <= at {
-        return Reason::LONG;
+        return Reason::Long;
     }
-    Reason::LABEL
+    Reason::Label
 }
 
 // A letter or a digit at a place.
-fn letter_reason(at: usize) -> usize
-    ensures { result ≡ letter_reason at }
+fn letter_reason(at: usize) -> Reason
+    ensures { reason.number_of result ≡ letter_reason at }
 {
     if 253 <= at {
-        return Reason::LONG;
+        return Reason::Long;
     }
-    Reason::LABEL
+    Reason::Label
 }
 
 // The octet x between two others, at a place.
-fn text_octet(before: u8, next: u8, at: usize, x: u8) -> usize
-    ensures { result ≡ text_octet before next at x }
+fn text_octet(before: u8, next: u8, at: usize, x: u8) -> Reason
+    ensures { reason.number_of result ≡ text_octet before next at x }
 {
-    if x == b'_' {
-        return Reason::UNDERSCORE;
+    match x {
+        b'_' => Reason::Underscore,
+        b'.' => dot_reason(before, next),
+        b'-' => hyphen_reason(before, next, at),
+        _ if is_alnum(x) => letter_reason(at),
+        _ => Reason::Octet,
     }
-    if x == b'.' {
-        return dot_reason(before, next);
-    }
-    if x == b'-' {
-        return hyphen_reason(before, next, at);
-    }
-    if is_alnum(x) {
-        return letter_reason(at);
-    }
-    Reason::OCTET
 }
 
 // Of a name as text that is bad at a place.
-pub fn text_reason(s: &[u8], at: usize) -> usize
-    ensures { result ≡ text_reason s.now at }
+pub fn text_reason(s: &[u8], at: usize) -> Reason
+    ensures { reason.number_of result ≡ text_reason s.now at }
 {
-    if s.len() == 0 {
-        return Reason::EMPTY;
+    if s.is_empty() {
+        return Reason::Empty;
     }
     let before = octet_before(s, at);
     if s.len() <= at {
         if before == b'.' {
-            return Reason::DOT;
+            return Reason::Dot;
         }
-        return Reason::HYPHEN;
+        return Reason::Hyphen;
     }
     text_octet(before, octet_at(s, at + 1), at, s[at])
 }

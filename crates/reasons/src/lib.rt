@@ -3,9 +3,11 @@
 // call of the library asks here, and nothing is judged anew. `Exactly` says that what is given is true.
 #![tactic(auto)]
 
-ghost use Rattle.std.specs.Prelude.{◌≡◌};
+ghost use Rattle.std.specs.Prelude.{◌≡◌, ◌<◌, IfSome};
+ghost use Rattle.numbers.specs.Fault.{number_of};
+ghost use Rattle.reasons.specs.Reason as reason;
 ghost use Rattle.reasons.specs.Names.{name_reason};
-ghost use Rattle.reasons.specs.Params.{param_for};
+ghost use Rattle.reasons.specs.Params.{param_of, param_for};
 
 mod fields;
 mod labels;
@@ -15,38 +17,36 @@ use labels::{text_reason, wire_reason};
 use numbers::Fault;
 
 // Why a name is no host name.
-#[derive(Drop)]
-pub struct Reason();
+#[derive(Clone, Copy, PartialEq, Eq)]
+pub enum Reason {
+    // The octets stop before the root octet, or within a label.
+    Cut = 1,
+    // There is no label.
+    Empty = 2,
+    // A pointer into a message (RFC 1035 §4.1.4) in the place of a length.
+    Pointer = 3,
+    // A label of more than 63 octets.
+    Label = 4,
+    // A name of more than 255 octets, as text of more than 253.
+    Long = 5,
+    // Octets after the root octet.
+    After = 6,
+    Underscore = 7,
+    // A hyphen at the beginning or the end of a label.
+    Hyphen = 8,
+    // A dot at the beginning or the end, or two side by side.
+    Dot = 9,
+    // An octet that is no letter, digit or hyphen.
+    Octet = 10,
+}
 
 impl Reason {
-    // The octets stop before the root octet, or within a label.
-    pub const CUT: usize = 1;
-
-    // There is no label.
-    pub const EMPTY: usize = 2;
-
-    // A pointer into a message (RFC 1035 §4.1.4) in the place of a length.
-    pub const POINTER: usize = 3;
-
-    // A label of more than 63 octets.
-    pub const LABEL: usize = 4;
-
-    // A name of more than 255 octets, as text of more than 253.
-    pub const LONG: usize = 5;
-
-    // Octets after the root octet.
-    pub const AFTER: usize = 6;
-
-    pub const UNDERSCORE: usize = 7;
-
-    // A hyphen at the beginning or the end of a label.
-    pub const HYPHEN: usize = 8;
-
-    // A dot at the beginning or the end, or two side by side.
-    pub const DOT: usize = 9;
-
-    // An octet that is no letter, digit or hyphen.
-    pub const OCTET: usize = 10;
+    // The number under which `words` has its words.
+    pub fn number(self) -> usize
+        ensures { result ≡ reason.number_of self }
+    {
+        self as usize
+    }
 }
 
 // What stands at a place of a name in wire form.
@@ -60,22 +60,17 @@ pub enum Mark {
     After,
 }
 
-// A service parameter: where in its field it begins, and its key. The key is NONE where its octets are not all there, or where there is
-// no parameter.
+// A service parameter: where in its field it begins, and its key, where its octets are all there. Where there is no parameter, the place is 0,
+// without a key: no Option of a parameter, since what is believed (`specs/Params`) has one answer for both.
 #[derive(Clone, Copy)]
 pub struct Param {
     pub at: usize,
-    pub key: usize,
-}
-
-impl Param {
-    // Above every key of 16 bits.
-    pub const NONE: usize = 65536;
+    pub key: Option<usize>,
 }
 
 // Why a name that is bad at a place is no host name, as text (RULES N4) or in wire form (RULES N1).
-pub fn name_reason(text: bool, s: &[u8], at: usize) -> usize
-    ensures { result ≡ name_reason text s.now at }
+pub fn name_reason(text: bool, s: &[u8], at: usize) -> Reason
+    ensures { reason.number_of result ≡ name_reason text s.now at }
 {
     if text {
         return text_reason(s, at);
@@ -84,20 +79,14 @@ pub fn name_reason(text: bool, s: &[u8], at: usize) -> usize
 }
 
 // The parameter that the fault of a field is about: the first that breaks its rule.
-pub fn param_for(fault: usize, p: &[u8]) -> Param
-    ensures { result ≡ param_for fault p.now }
+pub fn param_for(fault: Fault, p: &[u8]) -> Param
+    ensures value { param_of result ≡ param_for (number_of fault) p.now }
+    ensures key { IfSome result.key (λ k. k < 65536) }
 {
-    if fault == Fault::PARAMETERS {
-        return unordered(p);
-    }
-    if fault == Fault::HINT {
-        return wrong(true, p);
-    }
-    if fault == Fault::VALUE {
-        return wrong(false, p);
-    }
-    Param {
-        at: 0,
-        key: Param::NONE,
+    match fault {
+        Fault::Parameters => unordered(p),
+        Fault::Hint => wrong(true, p),
+        Fault::Value => wrong(false, p),
+        _ => Param { at: 0, key: None },
     }
 }

@@ -6,5 +6,5 @@ pub mod RecordsLaws
 pub mod GivenLaws
 pub mod CleanLaws
 pub mod Outcomes
-pub mod PlacesLaws
+pub mod SplitLaws
 pub mod Yielded

@@ -1,17 +1,11 @@
--- What the functions over the parts of a body answer and write. Assumes nothing: these are definitions.
-use Rattle.std.specs.Prelude.{false, List, ◌++◌, ℕ, length}
+-- What the functions over the parts of a body write. Assumes nothing: these are definitions.
+use Rattle.std.specs.Prelude.{List, ◌++◌, ℕ, length}
 use Rattle.octets.specs.Numbers.{be}
 use Rattle.carriers.specs.declared.Carrier.{Carrier}
 use Rattle.carriers.specs.Carriers.{as_text}
 use Rattle.addresses.specs.Addresses.{list_of, kept_of}
 use Rattle.blocks.specs.declared.Head.{Head}
-use Rattle.judge.specs.declared.Judged.{Judged}
-use Rattle.records.specs.declared.Examined.{Examined}
 use Rattle.records.specs.Records.{name_as, staying, mode_of}
-
--- what is answered of a body with a fault
-abbrev pub discarded : Judged → Examined
-discarded j = record { fault = j.fault; place = j.place; priority = 0; size = 0; clean = false }
 
 -- a name of a carrier as a sheet holds it
 abbrev pub name_in : Carrier → List ℕ → List ℕ

@@ -8,7 +8,7 @@ use Rattle.carriers.specs.Carriers.{address_width, as_text}
 use Rattle.texts.specs.Texts.{wire_of}
 use Rattle.addresses.specs.Addresses.{list_of, kept_of}
 use Rattle.blocks.specs.Block.{Fields}
-use Rattle.judge.specs.declared.Judged.{Judged}
+use Rattle.judge.specs.Place.{Judged}
 use Rattle.judge.specs.Place.{from}
 
 -- the addresses that stay, of w octets each (RULES A1, A2)

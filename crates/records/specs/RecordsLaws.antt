@@ -1,5 +1,5 @@
 -- What a body's outcome says of its fields, and how many octets a record has. Assumes nothing.
-use Rattle.std.specs.Prelude.{◌≡◌, refl, Bool, true, false, cond, ◌⊎◌, List, ◌++◌, ℕ, ◌+◌, ◌*◌, ◌/◌, ◌≤◌, ◌<◌, ◌-◌, eqb, length}
+use Rattle.std.specs.Prelude.{◌≡◌, refl, Bool, true, false, cond, ◌⊎◌, List, ◌++◌, ℕ, ◌+◌, ◌*◌, ◌/◌, ◌≤◌, ◌<◌, ◌-◌, eqb, length, Ok}
 use Rattle.std.proofs.Common.{sym, ap, ◌∙◌, inl, inr, arith, mul-div_cancel, mul-pos, pos_of_ne-zero, length-append, eq-eqb, ne_eqb, eqb-true}
 use Rattle.std.proofs.Math.Nat.{mul-mod_left}
 use Rattle.std.proofs.lemmas.Bool.{eqb-false}
@@ -10,7 +10,6 @@ use Rattle.carriers.specs.declared.Carrier.{Carrier}
 use Rattle.carriers.specs.declared.Carrier.TheVariants.{Router}
 use Rattle.carriers.specs.Carriers.{address_width, as_text}
 use Rattle.carriers.proofs.CarriersLaws.{addresses-octets}
-use Rattle.names.specs.declared.Name.TheVariants.{Good}
 use Rattle.names.specs.Wire.{name_check}
 use Rattle.names.specs.Exact as names
 use Rattle.texts.specs.Texts.{wire_of}
@@ -21,7 +20,7 @@ use Rattle.blocks.specs.Block.{Fields, name_at}
 use Rattle.blocks.specs.Parse.{Parsed, bad, fields, parse}
 use Rattle.blocks.specs.Faults.{parse-fault}
 use Rattle.judge.specs.declared.Side.TheVariants.{Reading, Writing}
-use Rattle.judge.specs.declared.Judged.{Judged}
+use Rattle.judge.specs.Place.{Judged}
 use Rattle.judge.specs.Place.{judged, from}
 use Rattle.judge.specs.Judge.{name_of, judged_by, fault_of}
 use Rattle.judge.specs.Passed.{PassedTail, Passed}
@@ -129,7 +128,7 @@ staying-count w a from next p e =
     ap (λ (n : ℕ). n / w) size ∙ mul-div_cancel (length (kept_of w (list_of w a))) p
 
 -- a name that is read has at most 255 octets in wire form
-pub name-small : (c : Carrier) (name : List ℕ) → name_of Reading c name ≡ Good → length (name_in c name) ≤ 255
+pub name-small : (c : Carrier) (name : List ℕ) → name_of Reading c name ≡ Ok tt → length (name_in c name) ≤ 255
 name-small c name e = go (as_text c) refl
   where
     go : (text : Bool) → as_text c ≡ text → length (cond text (wire_of name) name) ≤ 255
@@ -162,10 +161,10 @@ record-small c b r e =
 
 -- ---- what reading keeps, writing takes
 
-kept-named : (c : Carrier) (name : List ℕ) → name_of Reading c name ≡ Good → name_of Writing c (name_in c name) ≡ Good
+kept-named : (c : Carrier) (name : List ℕ) → name_of Reading c name ≡ Ok tt → name_of Writing c (name_in c name) ≡ Ok tt
 kept-named c name e = go (as_text c) refl
   where
-    go : (text : Bool) → as_text c ≡ text → name_check (cond text (wire_of name) name) ≡ Good
+    go : (text : Bool) → as_text c ≡ text → name_check (cond text (wire_of name) name) ≡ Ok tt
     go true t = (names.good (wire_of name)).1 (wire-of-text name (read-text c name t e))
     go false t = (names.good name).1 (read_name c name t e)
 

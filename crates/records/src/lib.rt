@@ -1,31 +1,28 @@
 // One body, in carrier 1 one instance: whether it yields a record, how many octets the record has in a sheet, and writing it there.
-// `put_fields` puts a record's fields into a sheet, and is the one place where unusable addresses are dropped; a name alone is put by its first
-// half, `put_head`.
+// `put_fields` puts a record's fields into a sheet, and is the one place where unusable addresses are dropped.
 #![tactic(auto)]
 
-ghost use Rattle.std.specs.Prelude.{◌≡◌, true, ℕ, ◌+◌, ◌≤◌, ◌<◌, ◌^◌, length};
+ghost use Rattle.std.specs.Prelude.{◌≡◌, true, false, [], ◌+◌, ◌≤◌, ◌<◌, ◌^◌, length, MatchResult, IfOk};
 ghost use Rattle.octets.specs.Over.{Wrote};
 ghost use Rattle.numbers.specs.Limit as limit;
 ghost use Rattle.addresses.specs.Addresses.{Width, list_of, kept_of};
 ghost use Rattle.carriers.specs.Carriers.{address_width};
-ghost use Rattle.blocks.specs.Block.{head_with, fields_of, name_only, whole};
-ghost use Rattle.judge.specs.Place.{judged};
-ghost use Rattle.records.specs.Records.{name_as, staying, head_size, tail_size, mode_of};
+ghost use Rattle.blocks.specs.Block.{head_with, name_at};
+ghost use Rattle.blocks.specs.Parts.{fields_in};
+ghost use Rattle.records.specs.Records.{name_as, staying, head_size, tail_size};
 ghost use Rattle.records.specs.Yielded.{outcome_of, yield_of};
-ghost use Rattle.records.specs.Examined.{examined_of, Clean, Kept, octets_in};
+ghost use Rattle.records.specs.Examined.{verdict_in, examined_of, Clean, Kept, octets_in};
 ghost use Rattle.records.specs.Given.{record_as, Puttable};
-ghost use Rattle.records.specs.Parts.{discarded, name_in, name_part, head_part, tail_part};
+ghost use Rattle.records.specs.Parts.{name_in, name_part, head_part, tail_part};
 
-use blocks::{Head, Places};
+use blocks::Parts;
 use carriers::Carrier;
-use judge::Side;
+use judge::{Flaw, Side};
 
-// A body's fault and, of 22, its place in the body; or 0 with its record's priority and size in a sheet, and whether every address is known
-// to stay, so that the list can be copied as it stands. Of a body with a fault priority and size are 0, and `clean` means nothing.
+// What is known of a body that yields a record: the record's priority and size in a sheet, and whether every address is known to stay, so that
+// the list can be copied as it stands.
 #[derive(Clone, Copy)]
 pub struct Examined {
-    pub fault: usize,
-    pub place: usize,
     pub priority: usize,
     pub size: usize,
     pub clean: bool,
@@ -52,19 +49,6 @@ pub const NAME_LENGTH_AT: usize = 7;
 // Octets that mode 1 adds beside addresses and parameters: address count and parameter length.
 pub const TAIL: usize = 3;
 
-// What is answered of a body with a fault.
-fn faulty(fault: usize, place: usize) -> Examined
-    ensures { result ≡ discarded (judged fault place) }
-{
-    Examined {
-        fault,
-        place,
-        priority: 0,
-        size: 0,
-        clean: false,
-    }
-}
-
 // Octets of a name in wire form.
 fn wire_size(text: bool, name: &[u8]) -> usize
     ensures { result ≡ length (name_as text name.now) }
@@ -82,65 +66,47 @@ fn name_size(c: Carrier, name: &[u8]) -> usize
     wire_size(c.as_text(), name)
 }
 
-// A name-only body, whatever its lifetime; its name stands at `at`.
-fn examine_name_only(c: Carrier, priority: usize, at: usize, name: &[u8]) -> Examined
-    requires { at + length name.now < 2 ^ 63 }
-    ensures { (lifetime : ℕ) → result ≡ examined_of c (yield_of c at (name_only priority lifetime name.now)) result.clean }
+// Whether the parts of a body yield a record.
+fn examine_parts(c: Carrier, parts: Parts<'_>) -> Result<Examined, Flaw>
+    requires named { name_at c (length parts.addresses.now) + length parts.name.now < 2 ^ 63 }
+    requires bare { parts.head.full ≡ false → parts.addresses.now ≡ [] }
+    ensures value { let at = name_at c (length parts.entry.addresses.now) in
+        verdict_in result ≡ examined_of c (yield_of c at (fields_in parts.entry)) (verdict_in result).clean }
+    ensures clean { IfOk result (λ e. e.clean ≡ true → staying (address_width c) parts.entry.addresses.now ≡ parts.entry.addresses.now) }
 {
-    let none = &name[..0];
-    let judged = judge::judge_fields(Side::Reading, c, priority, name, false, none, none);
-    let fault = judged.fault;
-    if fault != 0 {
-        return faulty(fault, judge::place_from(at, fault, judged.place));
-    }
-    let size = HEAD + name_size(c, name);
-    Examined {
-        fault: 0,
-        place: 0,
-        priority,
-        size,
-        clean: true,
-    }
-}
-
-// A body in full form, whatever its lifetime; its name stands at `at`.
-fn examine_full(
-    c: Carrier,
-    priority: usize,
-    at: usize,
-    name: &[u8],
-    addresses: &[u8],
-    parameters: &[u8],
-) -> Examined
-    requires { at + length name.now < 2 ^ 63 }
-    ensures by_index { (lifetime : ℕ) → result ≡ examined_of c (yield_of c at (whole priority lifetime name.now addresses.now parameters.now)) result.clean }
-    ensures addresses_value { result.clean ≡ true → staying (address_width c) addresses.now ≡ addresses.now }
-{
+    let Parts {
+        head,
+        name,
+        addresses,
+        parameters,
+    } = parts;
     let judged = judge::judge_fields(
         Side::Reading,
         c,
-        priority,
+        head.priority,
         name,
-        true,
+        head.full,
         addresses,
         parameters,
     );
-    let fault = judged.fault;
-    if fault != 0 {
-        return faulty(fault, judge::place_from(at, fault, judged.place));
+    if let Err(flaw) = judged {
+        return Err(flaw.back(blocks::name_at(c, addresses.len())));
     }
-    let w = c.address_width();
-    let count = addresses::kept_count(w, addresses);
-    let staying = count * w;
-    let head = HEAD + name_size(c, name);
-    let size = head + TAIL + staying + parameters.len();
-    Examined {
-        fault: 0,
-        place: 0,
-        priority,
-        size,
-        clean: staying == addresses.len(),
+    let bare = HEAD + name_size(c, name);
+    if head.full {
+        let w = c.address_width();
+        let staying = addresses::kept_count(w, addresses) * w;
+        return Ok(Examined {
+            priority: head.priority,
+            size: bare + TAIL + staying + parameters.len(),
+            clean: staying == addresses.len(),
+        });
     }
+    Ok(Examined {
+        priority: head.priority,
+        size: bare,
+        clean: true,
+    })
 }
 
 // Writes a name's length and its wire form.
@@ -155,13 +121,6 @@ fn put_name(out: &mut [u8], at: usize, text: bool, name: &[u8]) -> usize
         return texts::to_wire(out, next, name);
     }
     octets::copy(out, next, name)
-}
-
-// Mode 1 is the full form, 0 a name only.
-fn mode_of(full: bool) -> u8
-    ensures { result ≡ mode_of full }
-{
-    if full { 1 } else { 0 }
 }
 
 // Writes a record to the end of its name. (Numbers one by one: a struct goes through memory to a function that is not inlined.)
@@ -179,10 +138,9 @@ fn put_head(
     requires name_in_bounds { at + head_size + length (name_as text name.now) ≤ length out.old }
     ensures { Wrote at (head_part (head_with priority lifetime full) (name_as text name.now)) out.old result out.new }
 {
-    let mode = mode_of(full);
     let after_priority = octets::put16(out, at, priority);
     let after_lifetime = octets::put32(out, after_priority, lifetime);
-    let after_mode = octets::put8(out, after_lifetime, mode);
+    let after_mode = octets::put8(out, after_lifetime, u8::from(full));
     put_name(out, after_mode, text, name)
 }
 
@@ -222,21 +180,13 @@ fn put_tail(
     octets::copy(out, after_length, parameters)
 }
 
-// Writes the record of these fields at `at`, the name in wire form and the addresses that stay, and returns the index after it.
-pub fn put_fields(
-    out: &mut [u8],
-    at: usize,
-    given: Given,
-    head: Head,
-    name: &[u8],
-    addresses: &[u8],
-    parameters: &[u8],
-) -> usize
-    requires puttable { Puttable given (fields_of head name.now addresses.now parameters.now) }
-    requires parameters_in_bounds { at + length (record_as given (fields_of head name.now addresses.now parameters.now)) ≤ length out.old }
-    ensures { Wrote at (record_as given (fields_of head name.now addresses.now parameters.now))
-        out.old result out.new }
+// Writes the record of these parts at `at`, the name in wire form and the addresses that stay, and returns the index after it.
+pub fn put_fields(out: &mut [u8], at: usize, given: Given, parts: Parts<'_>) -> usize
+    requires puttable { Puttable given (fields_in parts) }
+    requires parameters_in_bounds { at + length (record_as given (fields_in parts)) ≤ length out.old }
+    ensures { Wrote at (record_as given (fields_in parts.entry)) out.old result out.new }
 {
+    let head = parts.head;
     let end = put_head(
         out,
         at,
@@ -244,115 +194,45 @@ pub fn put_fields(
         head.priority,
         head.lifetime,
         head.full,
-        name,
+        parts.name,
     );
     if head.full {
-        return put_tail(out, end, given.width, given.clean, addresses, parameters);
+        return put_tail(
+            out,
+            end,
+            given.width,
+            given.clean,
+            parts.addresses,
+            parts.parameters,
+        );
     }
     end
 }
 
-// Whether a body yields a record. (`&body[..]`: docs/DESIGN.md, Speed.)
-pub fn examine(c: Carrier, body: &[u8]) -> Examined
-    ensures value { result ≡ examined_of c (outcome_of c body.now) result.clean }
-    ensures priority_bound { (result.priority < 65536) × (result.size ≤ limit.record_size) × (result.place ≤ length body.now) }
-    ensures clean { result.clean ≡ true → Clean c body.now }
+// Whether a body yields a record: what is known of it, or the body's fault and its place in the body. (`&body[..]`: docs/DESIGN.md, Speed.)
+pub fn examine(c: Carrier, body: &[u8]) -> Result<Examined, Flaw>
+    ensures value { verdict_in result ≡ examined_of c (outcome_of c body.now) (verdict_in result).clean }
+    ensures bounds { MatchResult result (λ e. (e.priority < 65536) × (e.size ≤ limit.record_size) × (e.clean ≡ true → Clean c body.now))
+        (λ w. w.place ≤ length body.now) }
 {
-    match blocks::split(c, &body[..]) {
-        Places::Bad { fault } => faulty(fault, 0),
-        Places::NameOnly {
-            priority,
-            lifetime: _,
-            name,
-            nlen,
-        } => {
-            let end = name + nlen;
-            examine_name_only(c, priority, name, &body[name..end])
-        }
-        Places::Full {
-            priority,
-            lifetime: _,
-            name,
-            nlen,
-            addresses,
-            alen,
-            parameters,
-            plen,
-        } => {
-            let name_end = name + nlen;
-            let addresses_end = addresses + alen;
-            let parameters_end = parameters + plen;
-            examine_full(
-                c,
-                priority,
-                name,
-                &body[name..name_end],
-                &body[addresses..addresses_end],
-                &body[parameters..parameters_end],
-            )
-        }
-    }
+    let parts = blocks::split(c, &body[..])?;
+    examine_parts(c, parts)
 }
 
-// Writes the record that a body yields at `at`, and returns the index after it. `clean`: every address is known to stay. (A name alone is
-// written by `put_head`, so that `put_fields` has one call here and is inlined.)
+// Writes the record that a body yields at `at`, and returns the index after it. `clean`: every address is known to stay.
 pub fn put_record(out: &mut [u8], at: usize, c: Carrier, clean: bool, body: &[u8]) -> usize
     requires kept { Kept (outcome_of c body.now) }
     requires clean { clean ≡ true → Clean c body.now }
     requires body_in_bounds { at + length (octets_in c (outcome_of c body.now)) ≤ length out.old }
     ensures { Wrote at (octets_in c (outcome_of c body.now)) out.old result out.new }
 {
-    match blocks::split(c, body) {
-        Places::Bad { fault: _ } => at,
-        Places::NameOnly {
-            priority,
-            lifetime,
-            name,
-            nlen,
-        } => {
-            let end = name + nlen;
-            put_head(
-                out,
-                at,
-                c.as_text(),
-                priority,
-                lifetime,
-                false,
-                &body[name..end],
-            )
-        }
-        Places::Full {
-            priority,
-            lifetime,
-            name,
-            nlen,
-            addresses,
-            alen,
-            parameters,
-            plen,
-        } => {
-            let name_end = name + nlen;
-            let addresses_end = addresses + alen;
-            let parameters_end = parameters + plen;
-            let head = Head {
-                priority,
-                lifetime,
-                full: true,
-            };
-            let given = Given {
-                text: c.as_text(),
-                width: c.address_width(),
-                clean,
-            };
-            put_fields(
-                out,
-                at,
-                given,
-                head,
-                &body[name..name_end],
-                &body[addresses..addresses_end],
-                &body[parameters..parameters_end],
-            )
-        }
-    }
+    let Ok(parts) = blocks::split(c, body) else {
+        return at;
+    };
+    let given = Given {
+        text: c.as_text(),
+        width: c.address_width(),
+        clean,
+    };
+    put_fields(out, at, given, parts)
 }

@@ -95,7 +95,7 @@ module _ (c : Carrier) (r : Fields) (s : Sound c r) where
           let t = s.allowed.full_form u in
           let w : ℕ = address_width c in
           none-dropped-flat w r.addresses t.whole.1 ((usable-exactly w (carrier-width c) r.addresses Writing).1 t.usable)
-      go false u = rw ((writable c r s).name_only u).0 (rw (kept-end (address_width c) [] 0 (wide-some (carrier-width c))))
+      go false u = rw ((writable c r s).name_only u).0 (rw (kept-end (address_width c) [] (wide-some (carrier-width c))))
 
   keep-carried : keep_of c (carried_of c r) ≡ r
   keep-carried =

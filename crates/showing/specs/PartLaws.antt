@@ -1,15 +1,13 @@
 -- The laws of what is shown by cases: lifetimes, records and the head of a sheet; and addresses as a loop meets them. Assumes nothing.
-use Rattle.std.specs.Prelude.{◌≡◌, Bool, true, false, cond, List, [], ◌∷◌, ◌++◌, ℕ, ◌+◌, ◌-◌, ◌≤◌, ◌<◌, length, take, drop}
+use Rattle.std.specs.Prelude.{◌≡◌, Bool, true, false, cond, List, [], ◌∷◌, ◌++◌, ℕ, ◌≤◌, ◌<◌, length}
 use Rattle.std.proofs.Math.Path.{refl}
-use Rattle.std.proofs.Common.{sym, ap, ◌∙◌, length-drop, drop-drop, eq-eqb, ne_eqb}
-use Rattle.std.proofs.Math.Nat.{add-sub_cancel_left}
+use Rattle.std.proofs.Common.{sym, ◌∙◌, arith, length-append, take_at, drop_at, eq-eqb, ne_eqb}
 use Rattle.carriers.specs.declared.Carrier.{Carrier}
 use Rattle.carriers.specs.Carriers.{number_of, address_width, lifetime_width}
 use Rattle.addresses.specs.Addresses.{list_of}
 use Rattle.addresses.specs.AddressesLaws.{wide-some, list-cons, list-nil}
 use Rattle.judge.specs.JudgeLaws.{carrier-width}
-use Rattle.taking.specs.declared.Spot.{Spot}
-use Rattle.taking.specs.Spot.{fields_at}
+use Rattle.blocks.specs.Block.{Fields}
 use Rattle.chars.specs.Ascii.{ascii, decimal_of}
 use Rattle.values.specs.Values.{carrier_of, span_of}
 use Rattle.showing.specs.Showing.{line_of, object_of, lifetime_of, common_of, lists_of, rest_of, record_of, count_of}
@@ -43,31 +41,26 @@ module _ (json : Bool) (c : Carrier) (n : ℕ) {w : ℕ} (e : w ≡ lifetime_wid
 pub width_some : (c : Carrier) {w : ℕ} → w ≡ address_width c → 0 < w
 width_some c e = rw e (wide-some (carrier-width c))
 
-module _ (w : ℕ) (s : List ℕ) (i : ℕ) where
-  pub address-next : 0 < w → w ≤ length s - i → list_of w (drop i s) ≡ take (i + w - i) (drop i s) ∷ list_of w (drop (i + w) s)
-  address-next some h =
-      let k : w ≤ length (drop i s) = rw length-drop h in
-      rw add-sub_cancel_left
-      (list-cons w (drop i s) some k ∙ ap (λ (l : List ℕ). take w (drop i s) ∷ list_of w l) (drop-drop w i s))
+module _ {w : ℕ} (some : 0 < w) where
+  pub address-next : (s a rest : List ℕ) → s ≡ a ++ rest → length a ≡ w → list_of w s ≡ a ∷ list_of w rest
+  address-next s a rest e h =
+      let k : w ≤ length (a ++ rest) = omega (arith, length-append a rest) in
+      rw e (list-cons w (a ++ rest) some k ∙ rw (take_at a rest w h, drop_at a rest w h) refl)
 
-  pub address-end : length s - i < w → list_of w (drop i s) ≡ []
-  address-end h = list-nil w (drop i s) (rw length-drop h)
+pub address-end : {w : ℕ} (s : List ℕ) → length s < w → list_of w s ≡ []
+address-end {w} s h = list-nil w s h
 
--- ---- a record, whose parts the code cuts from the sheet
+-- ---- a record
 
-module _ (json : Bool) (c : Carrier) (s : List ℕ) (p : Spot) where
-  pub rest-full : p.full ≡ true
-      → lists_of json c (take (p.addresses + p.alen - p.addresses) (drop p.addresses s))
-      (take (p.parameters + p.plen - p.parameters) (drop p.parameters s))
-      ≡ rest_of json c (fields_at s p)
+module _ (json : Bool) (c : Carrier) (r : Fields) where
+  pub rest-full : r.full ≡ true → lists_of json c r.addresses r.parameters ≡ rest_of json c r
   unfolding rest_of
-  rest-full e = rw (e, add-sub_cancel_left, add-sub_cancel_left) refl
+  rest-full e = rw e refl
 
-  pub rest-short : p.full ≡ false → cond json (ascii ",\"nameOnly\":true}") (ascii "\n    name only") ≡ rest_of json c (fields_at s p)
+  pub rest-short : r.full ≡ false → cond json (ascii ",\"nameOnly\":true}") (ascii "\n    name only") ≡ rest_of json c r
   unfolding rest_of
   rest-short e = rw e refl
 
-  pub record_is : common_of json c p.priority p.lifetime (take (p.name + p.nlen - p.name) (drop p.name s)) ++ rest_of json c (fields_at s p)
-      ≡ record_of json c (fields_at s p)
+  pub record_is : common_of json c r.priority r.lifetime r.name ++ rest_of json c r ≡ record_of json c r
   unfolding record_of
-  record_is = simp add-sub_cancel_left
+  record_is = refl

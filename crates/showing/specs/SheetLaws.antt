@@ -1,57 +1,51 @@
 -- The laws of a sheet as it is shown: its records as a loop meets them, and what taking answers. Assumes nothing.
-use Rattle.std.specs.Prelude.{◌≡◌, Bool, true, cond, not, List, [], ◌∷◌, ◌++◌, map, ℕ, ◌<◌, ◌≤◌, min, eqb, length}
+use Rattle.std.specs.Prelude.{◌≡◌, refl, Bool, true, false, cond, List, [], ◌∷◌, ◌++◌, map, ℕ, min, length}
 use Rattle.std.proofs.Common.{sym, ap, ◌∙◌}
-use Rattle.std.proofs.lemmas.Bool.{false≢true, not-true}
 use Rattle.carriers.specs.declared.Carrier.{Carrier}
 use Rattle.blocks.specs.Block.{Fields}
+use Rattle.blocks.specs.Parts.{fields_in}
 use Rattle.sheets.specs.Sheets.{front_size}
-use Rattle.taking.specs.declared.Spot.{Spot}
-use Rattle.taking.specs.declared.Took.TheVariants.{Refused, Sheet}
+use Rattle.taking.specs.declared.Record.{Record}
 use Rattle.taking.specs.Taking.{take_of}
-use Rattle.taking.specs.Took.{took_of}
-use Rattle.taking.specs.Spot.{spot_of, fields_at}
-use Rattle.taking.specs.Standing.{Standing, Step}
-use Rattle.taking.specs.StandingLaws.{stands-is, standing-step, standing-none, took-refused, took-sheet}
+use Rattle.taking.specs.Took.{Refused, Sheet, took_of}
+use Rattle.taking.specs.Spot.{spot_of}
+use Rattle.taking.specs.Shown.{Shown}
+use Rattle.taking.specs.Standing.{Standing}
+use Rattle.taking.specs.StandingLaws.{took-refused, took-sheet}
+use Rattle.taking.specs.TurnsLaws.{standing-done, shown-step, shown-first, shown-standing}
 use Rattle.chars.specs.Ascii.{ascii}
 use Rattle.chars.specs.Puts.{Puts}
 use Rattle.chars.specs.PutsLaws.{puts_none, puts_then, puts-as}
 use Rattle.values.specs.Values.{list_of, before_of}
-use Rattle.values.specs.ListLaws.{Listed, listed_start, listed-past, listed-end}
+use Rattle.values.specs.ListLaws.{Listed, listed_start, listed_next, listed-end}
 use Rattle.showing.specs.Showing.{head_of, record_of, sheet_of, shown_as, shown_of}
 
 -- ---- records
 
--- of the records rs those before index i are written from `at` on, and the others stand from i on
-pub record Lined (json : Bool) (c : Carrier) (s : List ℕ) (i : ℕ) (rs : List Fields) (at : ℕ) (l : List ℕ) (r : ℕ) (l' : List ℕ) : Type 0 where
+-- of the records rs those before index i are written from `at` on, and the others stand from i on; `first`: none is written yet
+pub record Lined (json : Bool) (c : Carrier) (s : List ℕ) (i : ℕ) (first : Bool) (rs : List Fields) (at : ℕ) (l : List ℕ) (r : ℕ) (l' : List ℕ) : Type 0 where
   pub left : List Fields
   pub standing : Standing c s i left
-  pub listed : Listed json (record_of json c) rs left (before_of json (eqb i front_size)) at l r l'
+  pub listed : Listed json (record_of json c) rs left (before_of json first) at l r l'
 
 module _ (json : Bool) (c : Carrier) (s : List ℕ) {at : ℕ} {l : List ℕ} where
-  pub lined-start : {r : ℕ} → r ≡ min at (length l) → (rs : List Fields) → Standing c s front_size rs → Lined json c s front_size rs at l r l
+  pub lined-start : {r : ℕ} → r ≡ min at (length l) → (rs : List Fields) → Standing c s front_size rs → Lined json c s front_size true rs at l r l
   lined-start e rs h = record { left = rs; standing = h; listed = listed_start json (record_of json c) rs e }
 
-  module _ {i r : ℕ} {rs : List Fields} {l' : List ℕ} (d : Lined json c s i rs at l r l') where
-    module _ {p : Spot} (e : p ≡ spot_of c s i) (h : i < length s) where
-      turn : Step c s i d.left p
-      turn = standing-step e d.standing h
+  module _ {i r : ℕ} {first : Bool} {rs : List Fields} {l' : List ℕ} (d : Lined json c s i first rs at l r l') where
+    pub lined-next : {x : Record} {r' : ℕ} {l'' : List ℕ} → Shown s i (spot_of c s i) x
+        → Puts r (before_of json first ++ record_of json c (fields_in x.parts)) l' r' l'' → Lined json c s x.next false rs at l r' l''
+    lined-next {x} h q =
+        let turn = shown-step c s i h d.standing in
+        let are : d.left ≡ fields_in x.parts ∷ turn.rest = turn.are ∙ ap (λ (f : Fields). f ∷ turn.rest) (sym (shown-first c s i h d.standing)) in
+        record {
+          left = turn.rest;
+          standing = shown-standing c s i h d.standing;
+          listed = listed_next json (record_of json c) d.listed are refl q;
+        }
 
-      -- a record stands wherever the sheet does not end
-      pub lined-good : not p.good ≡ true → ⊥
-      lined-good t = false≢true (sym (not-true _ t) ∙ turn.stands.good)
-
-      pub lined-next : {r' : ℕ} {l'' : List ℕ} → front_size < p.next → Puts r (before_of json (eqb i front_size) ++ record_of json c (fields_at s p)) l' r' l''
-          → Lined json c s p.next rs at l r' l''
-      lined-next n q =
-          let are : d.left ≡ fields_at s p ∷ turn.rest = turn.are ∙ ap (λ (f : Fields). f ∷ turn.rest) (sym (stands-is turn.stands)) in
-          record {
-            left = turn.rest;
-            standing = turn.standing;
-            listed = listed-past json (record_of json c) d.listed front_size p.next n are q;
-          }
-
-    pub lined-end : length s ≤ i → Puts at (list_of json (map (record_of json c) rs)) l r l'
-    lined-end h = listed-end json (record_of json c) d.listed (standing-none d.standing h)
+    pub lined-end : (spot_of c s i).good ≡ false → Puts at (list_of json (map (record_of json c) rs)) l r l'
+    lined-end h = listed-end json (record_of json c) d.listed (standing-done d.standing h)
 
 -- ---- what taking answers
 

@@ -3,21 +3,23 @@
 // line break, so that the last has none after it. Nothing here judges a sheet: what is shown of one that writing refuses means nothing.
 #![tactic(auto)]
 
-ghost use Rattle.std.specs.Prelude.{List, [], ◌∷◌, ◌++◌, map, ◌+◌, ◌≤◌, length};
+ghost use Rattle.std.specs.Prelude.{List, [], ◌∷◌, ◌++◌, map, ◌≤◌, length};
 ghost use Rattle.io.specs.Counts.{IsPrefixLen};
 ghost use Rattle.blocks.specs.Block.{Fields};
+ghost use Rattle.blocks.specs.Parts.{fields_in};
 ghost use Rattle.sheets.specs.Sheets.{front_size};
-ghost use Rattle.taking.specs.Spot.{fields_at};
 ghost use Rattle.taking.specs.Standing.{Standing};
 ghost use Rattle.chars.specs.Puts.{Puts};
 ghost use Rattle.values.specs.Values.{before_of, list_of, longest_name};
-ghost use Rattle.showing.specs.Showing.{value_by, parameter_of, parameters_of, address_item, addresses_of, lifetime_of, common_of, lists_of, rest_of, record_of, count_of, line_of, object_of, head_of, shown_of};
+ghost use Rattle.showing.specs.Showing.{value_by, parameter_of, parameters_of, address_item, addresses_of, lifetime_of, common_of};
+ghost use Rattle.showing.specs.Showing.{lists_of, rest_of, record_of, count_of, line_of, object_of, head_of, shown_of};
 
+use blocks::Parts;
 use carriers::Carrier;
 use chars::{put_all, put_number};
-use octets::{get16, lesser};
+use octets::get16;
 use svcparams::Key;
-use taking::{Spot, Took};
+use taking::Records;
 use values::{
     put_address, put_carrier, put_comma, put_either, put_json, put_keys, put_label, put_mark,
     put_name, put_protocols, put_span, put_string,
@@ -62,16 +64,13 @@ fn put_parameter(out: &mut [u8], at: usize, json: bool, first: bool, key: usize,
 fn put_parameters(out: &mut [u8], at: usize, json: bool, p: &[u8]) -> usize
     ensures { Puts at (parameters_of json p.now) out.old result out.new }
 {
-    let mut o = lesser(at, out.len());
-    let mut i = 0;
-    while 4 <= p.len() - i {
-        let s = &p[i..];
-        let n = 4 + get16(s, 2);
-        if s.len() < n {
-            return o;
-        }
-        o = put_parameter(out, o, json, i == 0, get16(s, 0), &s[4..n]);
-        i += n;
+    let mut o = at.min(out.len());
+    let mut first = true;
+    let mut rest = p;
+    while let Some(n) = svcparams::size(rest) {
+        o = put_parameter(out, o, json, first, get16(rest, 0), &rest[4..n]);
+        first = false;
+        rest = &rest[n..];
     }
     o
 }
@@ -92,13 +91,11 @@ fn put_address_item(out: &mut [u8], at: usize, json: bool, first: bool, a: &[u8]
 fn put_addresses(out: &mut [u8], at: usize, json: bool, c: Carrier, list: &[u8]) -> usize
     ensures { Puts at (addresses_of json c list.now) out.old result out.new }
 {
-    let w = c.address_width();
-    let mut o = lesser(at, out.len());
-    let mut i = 0;
-    while w <= list.len() - i {
-        let next = i + w;
-        o = put_address_item(out, o, json, i == 0, &list[i..next]);
-        i = next;
+    let mut o = at.min(out.len());
+    let mut first = true;
+    for address in list.chunks_exact(c.address_width()) {
+        o = put_address_item(out, o, json, first, address);
+        first = false;
     }
     o
 }
@@ -108,7 +105,7 @@ fn put_lifetime(out: &mut [u8], at: usize, json: bool, c: Carrier, lifetime: usi
     ensures { Puts at (lifetime_of json c lifetime) out.old result out.new }
 {
     if c.lifetime_width() == 0 {
-        return lesser(at, out.len());
+        return at.min(out.len());
     }
     let from = put_either(out, at, json, b",\"lifetime\":", b"\n    lifetime        ");
     put_span(out, from, json, lifetime)
@@ -133,12 +130,12 @@ fn put_lists(
 }
 
 // Writes what every record has: name, priority and, where the carrier has one, lifetime.
-fn put_common(out: &mut [u8], at: usize, json: bool, c: Carrier, name: &[u8], p: Spot) -> usize
-    requires { length name.now ≤ longest_name }
-    ensures { Puts at (common_of json c p.priority p.lifetime name.now) out.old result out.new }
+fn put_common(out: &mut [u8], at: usize, json: bool, c: Carrier, p: &Parts) -> usize
+    requires { length p.now.name.now ≤ longest_name }
+    ensures { Puts at (common_of json c p.now.head.priority p.now.head.lifetime p.now.name.now) out.old result out.new }
 {
     let from = put_either(out, at, json, b"{\"name\":\"", b"\n\n");
-    let named = put_name(out, from, name);
+    let named = put_name(out, from, p.name);
     let ranked = put_either(
         out,
         named,
@@ -146,53 +143,28 @@ fn put_common(out: &mut [u8], at: usize, json: bool, c: Carrier, name: &[u8], p:
         b"\",\"priority\":",
         b"\n    priority        ",
     );
-    let next = put_number(out, ranked, p.priority);
-    put_lifetime(out, next, json, c, p.lifetime)
+    let next = put_number(out, ranked, p.head.priority);
+    put_lifetime(out, next, json, c, p.head.lifetime)
 }
 
 // Writes what a record has by its mode.
-fn put_rest(out: &mut [u8], at: usize, json: bool, c: Carrier, s: &[u8], p: Spot) -> usize
-    requires alen_in_bounds { p.addresses + p.alen ≤ length s.now }
-    requires plen_in_bounds { p.parameters + p.plen ≤ length s.now }
-    ensures { Puts at (rest_of json c (fields_at s.now p)) out.old result out.new }
+fn put_rest(out: &mut [u8], at: usize, json: bool, c: Carrier, p: &Parts) -> usize
+    ensures { Puts at (rest_of json c (fields_in p.now)) out.old result out.new }
 {
-    if p.full {
-        let list = p.addresses;
-        let list_end = list + p.alen;
-        let parameters = p.parameters;
-        let parameters_end = parameters + p.plen;
-        return put_lists(
-            out,
-            at,
-            json,
-            c,
-            &s[list..list_end],
-            &s[parameters..parameters_end],
-        );
+    if p.head.full {
+        return put_lists(out, at, json, c, p.addresses, p.parameters);
     }
     put_either(out, at, json, b",\"nameOnly\":true}", b"\n    name only")
 }
 
 // Writes a record: in JSON an object, in text lines after an empty one.
-fn put_record(
-    out: &mut [u8],
-    at: usize,
-    json: bool,
-    first: bool,
-    c: Carrier,
-    s: &[u8],
-    p: Spot,
-) -> usize
-    requires nlen_in_bounds { (p.name + p.nlen ≤ length s.now) × (p.nlen ≤ longest_name) }
-    requires alen_in_bounds { p.addresses + p.alen ≤ length s.now }
-    requires plen_in_bounds { p.parameters + p.plen ≤ length s.now }
-    ensures { Puts at (before_of json first ++ record_of json c (fields_at s.now p)) out.old result out.new }
+fn put_record(out: &mut [u8], at: usize, json: bool, first: bool, c: Carrier, p: &Parts) -> usize
+    requires { length p.now.name.now ≤ longest_name }
+    ensures { Puts at (before_of json first ++ record_of json c (fields_in p.now)) out.old result out.new }
 {
-    let name = p.name;
-    let name_end = name + p.nlen;
     let from = put_comma(out, at, json, first);
-    let next = put_common(out, from, json, c, &s[name..name_end], p);
-    put_rest(out, next, json, c, s, p)
+    let next = put_common(out, from, json, c, p);
+    put_rest(out, next, json, c, p)
 }
 
 // ---- the sheet
@@ -212,7 +184,7 @@ fn put_line(out: &mut [u8], at: usize, c: Carrier, count: usize) -> usize
 {
     let named = put_carrier(out, at, c);
     let opened = put_all(out, named, b" (carrier ");
-    let numbered = put_number(out, opened, octets::wide(c.number()));
+    let numbered = put_number(out, opened, usize::from(c.number()));
     put_count(out, numbered, count)
 }
 
@@ -221,7 +193,7 @@ fn put_object(out: &mut [u8], at: usize, c: Carrier) -> usize
     ensures { Puts at (object_of c) out.old result out.new }
 {
     let from = put_all(out, at, b"{\"carrier\":");
-    let numbered = put_number(out, from, octets::wide(c.number()));
+    let numbered = put_number(out, from, usize::from(c.number()));
     let name = put_all(out, numbered, b",\"carrierName\":\"");
     let named = put_carrier(out, name, c);
     put_all(out, named, b"\",\"records\":[")
@@ -241,15 +213,11 @@ fn put_head(out: &mut [u8], at: usize, json: bool, c: Carrier, count: usize) -> 
 fn put_records(out: &mut [u8], at: usize, json: bool, c: Carrier, s: &[u8]) -> usize
     ensures { (rs : List Fields) → Standing c s.now front_size rs → Puts at (list_of json (map (record_of json c) rs)) out.old result out.new }
 {
-    let mut o = lesser(at, out.len());
-    let mut i = sheets::FRONT;
-    while i < s.len() {
-        let p = taking::record_at(c, s, i);
-        if !p.good {
-            return o;
-        }
-        o = put_record(out, o, json, i == sheets::FRONT, c, s, p);
-        i = p.next;
+    let mut o = at.min(out.len());
+    let mut first = true;
+    for record in Records::of(c, s) {
+        o = put_record(out, o, json, first, c, &record.parts);
+        first = false;
     }
     o
 }
@@ -258,14 +226,12 @@ fn put_records(out: &mut [u8], at: usize, json: bool, c: Carrier, s: &[u8]) -> u
 pub fn put_sheet(out: &mut [u8], at: usize, s: &[u8], json: bool) -> usize
     ensures { Puts at (shown_of json s.now) out.old result out.new }
 {
-    match taking::take(s) {
-        Took::Refused(_) => lesser(at, out.len()),
-        Took::Sheet { carrier, count } => {
-            let from = put_head(out, at, json, carrier, count);
-            let end = put_records(out, from, json, carrier, s);
-            put_json(out, end, json, b"]}")
-        }
-    }
+    let Ok(sheet) = taking::take(s) else {
+        return at.min(out.len());
+    };
+    let from = put_head(out, at, json, sheet.carrier, sheet.count);
+    let end = put_records(out, from, json, sheet.carrier, s);
+    put_json(out, end, json, b"]}")
 }
 
 // Writes a sheet and a line break at the front of `out`, and returns how many octets that is; of octets that are no sheet the line break alone.

@@ -1,25 +1,23 @@
 -- The turns of the code's walk over a mandatory list and a field are the machine's steps: each return and each turn has a law. Assumes nothing.
-use Rattle.std.specs.Prelude.{◌≡◌, refl, Bool, true, false, cond, ℕ, ◌+◌, ◌-◌, ◌≤◌, ◌<◌, ltb, leb, eqb, length, drop}
+use Rattle.std.specs.Prelude.{◌≡◌, refl, Bool, true, false, cond, ℕ, ◌+◌, ◌-◌, ◌≤◌, ◌<◌, ltb, leb, eqb, length, drop, Option, Some, None}
 use Rattle.std.proofs.Common.{sym, ap, ap₂, ◌∙◌, subst, arith, lt-ltb, le-ltb, eq-eqb, ne_eqb, ltb-true, ltb-false, leb-true, leb-false}
 use mathlib.Core.List.{List, [], ◌∷◌, tail}
 use Rattle.octets.specs.Cases.{by-test}
 use Rattle.octets.specs.ListsLaws.{take_rest}
 use Rattle.octets.specs.Numbers.{at16, words}
 use Rattle.octets.specs.NumbersLaws.{words-cons, words-end, words-length}
-use Rattle.svcparams.specs.declared.walk.Look.{Look}
-use Rattle.svcparams.specs.declared.walk.Look.TheVariants.{End, Next}
 use Rattle.svcparams.specs.declared.walk.Decision.{Decision}
 use Rattle.svcparams.specs.declared.walk.Decision.TheVariants.{AllFound, Refused, Found, Passed}
 use Rattle.svcparams.specs.Params.{size_of}
 use Rattle.svcparams.specs.Entries.{keys_in}
-use Rattle.svcparams.specs.TilingLaws.{size_room, size-head, rest, stop-keys, next_keys, next-room}
+use Rattle.svcparams.specs.TilingLaws.{size_room, rest, left-end, left_keys, stop-keys, next_keys, next-room}
 use Rattle.svcparams.specs.Merge.{decided, done, going, look, carried, step, steps, Ran}
 use Rattle.svcparams.proofs.MergeLaws.{answered, steps-more, steps_next}
 
 -- ---- a decision on two keys
 
-module _ {l r : Look} {w k : ℕ} (el : l ≡ Next w) (er : r ≡ Next k) where
-  decided-both : decided l r ≡ decided (Next w) (Next k)
+module _ {l r : Option ℕ} {w k : ℕ} (el : l ≡ Some w) (er : r ≡ Some k) where
+  decided-both : decided l r ≡ decided (Some w) (Some k)
   decided-both = ap₂ decided el er
 
   pub decided-zero : w ≡ 0 → Refused ≡ decided l r
@@ -42,27 +40,23 @@ module _ {l r : Look} {w k : ℕ} (el : l ≡ Next w) (er : r ≡ Next k) where
 
 -- ---- the next key of each list
 
-pub listed-key : (m : List ℕ) (i : ℕ) {k : ℕ} → i ≤ length m → 2 ≤ length m - i → k ≡ at16 m i → Next k ≡ look (words (drop i m))
-listed-key m i h g q = ap Next q ∙ sym (ap look (words-cons m i (omega arith)))
+pub listed-key : (m : List ℕ) (i : ℕ) {k : ℕ} → i ≤ length m → 2 ≤ length m - i → k ≡ at16 m i → Some k ≡ look (words (drop i m))
+listed-key m i h g q = ap Some q ∙ sym (ap look (words-cons m i (omega arith)))
 
-pub listed-none : (m : List ℕ) (i : ℕ) → i ≤ length m → length m - i < 2 → End ≡ look (words (drop i m))
+pub listed-none : (m : List ℕ) (i : ℕ) → i ≤ length m → length m - i < 2 → None ≡ look (words (drop i m))
 listed-none m i h g = sym (ap look (words-end m i (omega arith)))
 
-module _ (s : List ℕ) {n : ℕ} (e : n ≡ size_of s) where
-  whole : n ≡ size_of (rest s 0)
-  whole = e ∙ sym (ap size_of (take_rest 0 s))
+module _ (s : List ℕ) where
+  pub held_none : 0 ≡ size_of s → None ≡ look (keys_in s)
+  held_none e = sym (ap look (left-end s e))
 
-  pub held-room : (n ≡ 0 → ⊥) → 0 + 1 < length s
-  held-room z =
-      let h = size-head s e z in
+  pub held-room : {n : ℕ} → n ≡ size_of s → 4 ≤ n → 0 + 1 < length s
+  held-room e h =
       let r = size_room s in
       omega arith
 
-  pub held_none : n ≡ 0 → End ≡ look (keys_in s)
-  held_none z = sym (ap look (stop-keys s 0 whole z))
-
-  pub held-key : {k : ℕ} → (n ≡ 0 → ⊥) → k ≡ at16 s 0 → Next k ≡ look (keys_in s)
-  held-key z q = ap Next (q ∙ ap (λ (l : List ℕ). at16 l 0) (sym (take_rest 0 s))) ∙ sym (ap look (next_keys s 0 whole z))
+  pub held-key : {n k : ℕ} → n ≡ size_of s → 4 ≤ n → k ≡ at16 s 0 → Some k ≡ look (keys_in s)
+  held-key e h q = ap Some q ∙ sym (ap look (left_keys s e h))
 
 -- ---- the walk
 
@@ -86,12 +80,12 @@ Moves Refused = ⊥
 Moves Found = Unit
 Moves Passed = Unit
 
-end-answers : (l : Look) → Moves (decided l End) → ⊥
-end-answers End m = m
-end-answers (Next w) m = m
+end-answers : (l : Option ℕ) → Moves (decided l None) → ⊥
+end-answers None m = m
+end-answers (Some w) m = m
 
 -- a turn of the code: its decision t is on the keys a and b that stand at the two places, b that of a parameter of z octets
-module _ (m p : List ℕ) (i at n : ℕ) {z : ℕ} {a b : Look} {t : Decision} (g : Merging m p i at n) (e : z ≡ size_of (rest p at))
+module _ (m p : List ℕ) (i at n : ℕ) {z : ℕ} {a b : Option ℕ} {t : Decision} (g : Merging m p i at n) (e : z ≡ size_of (rest p at))
     (ea : a ≡ look (words (drop i m))) (eb : b ≡ look (keys_in (rest p at))) (et : t ≡ decided a b) where
   decision-is : decided (look (words (drop i m))) (look (keys_in (drop at p))) ≡ t
   decision-is = sym (et ∙ ap₂ decided ea (eb ∙ ap (λ (l : List ℕ). look (keys_in l)) (take_rest at p)))

@@ -1,15 +1,16 @@
 -- The laws of the values' checks, each with the invariant of its loop. Assumes nothing.
-use Rattle.std.specs.Prelude.{◌≡◌, refl, Bool, true, false, not, ◌&&◌, ℕ, suc, ◌+◌, ◌-◌, ◌%◌, ◌≤◌, ◌<◌, length, get_or, drop, eqb}
+use Rattle.std.specs.Prelude.{◌≡◌, refl, Bool, true, false, not, ◌&&◌, ℕ, ◌+◌, ◌%◌, ◌≤◌, ◌<◌, length, get_or, drop, eqb}
 use Rattle.std.proofs.Math.Path.{sym, ap}
-use Rattle.std.proofs.Common.{◌∙◌, arith, length-drop, drop_of_length-le, drop-drop, drop-cons}
-use Rattle.std.proofs.Math.Bool.{and-false}
+use Rattle.std.proofs.Common.{ap₂, ◌∙◌, arith, drop_of_length-le, drop-cons}
+use Rattle.std.proofs.Math.Bool.{and-false, and-true}
 use mathlib.Core.List.{List, ◌∷◌}
-use borrow.Author.Tests.{le-leb, lt-leb, eq-eqb, ne_eqb, not-true, not-false}
-use Rattle.octets.specs.ListsLaws.{skip-within, skip-past}
+use borrow.Author.Tests.{le-leb, lt-leb, eq-eqb, ne_eqb}
+use Rattle.octets.specs.ListsLaws.{take_rest, skip-within, skip-past}
 use Rattle.octets.specs.Numbers.{at16, words}
 use Rattle.octets.specs.NumbersLaws.{words-cons, words-end, words-length}
 use Rattle.svcparams.specs.Key as key
 use Rattle.svcparams.specs.Params.{rising, has, all_in, mandatory_good, strings_from, alpn_good, no_default_alpn_good, value_good}
+use Rattle.svcparams.specs.TilingLaws.{rest}
 use Rattle.svcparams.specs.Merge.{Ran}
 use Rattle.svcparams.proofs.MergeLaws.{ran-answer}
 
@@ -37,36 +38,39 @@ module _ (v ks : List ℕ) where
 -- ---- a mandatory list whose keys are sought one by one
 
 -- what is left of the list decides, its keys from `least` on
-pub record Listing (ks m : List ℕ) (i least : ℕ) : Type 0 where
-  pub within : i ≤ length m
-  pub left : mandatory_good m ks ≡ rising least (words (drop i m)) && all_in (words (drop i m)) ks
+pub record Listing (ks m s : List ℕ) (least : ℕ) : Type 0 where
+  pub left : mandatory_good m ks ≡ rising least (words s) && all_in (words s) ks
 
-pub list-start : (ks m : List ℕ) → (length m ≡ 0 → ⊥) → length m % 2 ≡ 0 → Listing ks m 0 1
-list-start ks m some even = record { within = omega arith; left = mandatory-even m ks some even }
+pub list-start : (ks m : List ℕ) → (length m ≡ 0 → ⊥) → length m % 2 ≡ 0 → Listing ks m m 1
+list-start ks m some even = record { left = mandatory-even m ks some even }
 
-module _ (ks m : List ℕ) (i least : ℕ) (f : Listing ks m i least) where
-  pub list-end : length m ≤ i + 1 → true ≡ mandatory_good m ks
+module _ (ks m s : List ℕ) (least : ℕ) (f : Listing ks m s least) where
+  pub list-end : length s ≤ 0 + 1 → true ≡ mandatory_good m ks
   unfolding rising all_in
-  list-end h = sym (f.left ∙ ap (λ (ws : List ℕ). rising least ws && all_in ws ks) (words-end m i h))
+  list-end h = sym (f.left ∙ ap (λ (ws : List ℕ). rising least ws && all_in ws ks) (words-end s 0 h))
 
-  module _ {k : ℕ} (h : i + 1 < length m) (q : k ≡ at16 m i) where
-    list_at : mandatory_good m ks ≡ rising least (k ∷ words (drop (i + 2) m)) && all_in (k ∷ words (drop (i + 2) m)) ks
+  module _ {k : ℕ} (h : 0 + 1 < length s) (q : k ≡ at16 s 0) where
+    list_at : mandatory_good m ks ≡ rising least (k ∷ words (drop 2 s)) && all_in (k ∷ words (drop 2 s)) ks
     list_at =
         f.left ∙ ap (λ (ws : List ℕ). rising least ws && all_in ws ks)
-        (words-cons m i h ∙ ap (λ (x : ℕ). x ∷ words (drop (i + 2) m)) (sym q))
+        (words-cons s 0 h ∙ ap (λ (x : ℕ). x ∷ words (drop 2 s)) (sym q))
 
     pub list-low : k < least → false ≡ mandatory_good m ks
     unfolding rising
     list-low l = sym (list_at ∙ simp (lt-leb _ _ l))
 
     module _ {b : Bool} (l : least ≤ k) (e : b ≡ has k ks) where
-      pub list-absent : not b ≡ true → false ≡ mandatory_good m ks
+      pub list-absent : b ≡ false → false ≡ mandatory_good m ks
       unfolding all_in
-      list-absent z = sym (list_at ∙ simp (sym e ∙ not-true _ z, and-false))
+      list-absent z = sym (list_at ∙ simp (sym e ∙ z, and-false))
 
-      pub list-next : not b ≡ false → Listing ks m (i + 2) (k + 1)
+      pub list-next : b ≡ true → Listing ks m (rest s 2) (k + 1)
       unfolding rising all_in
-      list-next z = record { within = omega arith; left = list_at ∙ simp (le-leb _ _ l, sym e ∙ not-false _ z) }
+      list-next z =
+          record {
+            left = (list_at ∙ simp (le-leb _ _ l, sym e ∙ z))
+                ∙ ap (λ (t : List ℕ). rising (k + 1) (words t) && all_in (words t) ks) (sym (take_rest 2 s));
+          }
 
 -- ---- strings, each after its length
 
@@ -79,45 +83,43 @@ unfolding strings_from
 strings-past = skip-past strings_from (λ k x xs. refl) (λ k. refl)
 
 -- what is left of the value decides
-pub record Strings (v : List ℕ) (at : ℕ) : Type 0 where
-  pub within : at ≤ length v
-  pub left : alpn_good v ≡ strings_from 0 (drop at v)
+pub record Strings (v s : List ℕ) : Type 0 where
+  pub left : strings_from 0 v ≡ strings_from 0 s
 
-pub alpn-none : (v : List ℕ) → length v ≡ 0 → false ≡ alpn_good v
-unfolding alpn_good
-alpn-none v h = simp (eq-eqb _ _ h)
+pub strings-start : (v : List ℕ) → Strings v v
+strings-start v = record { left = refl }
 
-pub strings-start : (v : List ℕ) → (length v ≡ 0 → ⊥) → Strings v 0
-unfolding alpn_good
-strings-start v h = record { within = omega arith; left = simp (ne_eqb _ _ h) }
+module _ (v s : List ℕ) (i : Strings v s) where
+  pub strings-end : {b : Bool} → length s ≤ 0 → b ≡ eqb (length v) 0 → not b ≡ alpn_good v
+  unfolding alpn_good strings_from
+  strings-end h e = rw (e, i.left ∙ ap (strings_from 0) (drop_of_length-le s {i = 0} h)) (sym (and-true _))
 
-pub strings-end : (v : List ℕ) (at : ℕ) → Strings v at → length v ≤ at → true ≡ alpn_good v
-unfolding strings_from
-strings-end v at i h = sym (i.left ∙ ap (strings_from 0) (drop_of_length-le v h))
+  module _ {n : ℕ} (h : 1 ≤ length s) (e : n ≡ get_or s 0 0) where
+    strings-at : strings_from 0 v ≡ not (eqb (get_or s 0 0) 0) && strings_from (get_or s 0 0) (drop 1 s)
+    unfolding strings_from
+    strings-at = i.left ∙ ap (strings_from 0) (drop-cons s 0 0 h)
 
-module _ (v : List ℕ) (at : ℕ) {n : ℕ} (i : Strings v at) (h : at < length v) (e : n ≡ get_or v at 0) where
-  strings-at : alpn_good v ≡ not (eqb (get_or v at 0) 0) && strings_from (get_or v at 0) (drop (suc at) v)
-  unfolding strings_from
-  strings-at = i.left ∙ ap (strings_from 0) (drop-cons v at 0 h)
+    refused : not (eqb (get_or s 0 0) 0) && strings_from (get_or s 0 0) (drop 1 s) ≡ false → false ≡ alpn_good v
+    unfolding alpn_good
+    refused q = rw (strings-at ∙ q) (sym (and-false _))
 
-  pub strings-empty : n ≡ 0 → false ≡ alpn_good v
-  strings-empty z = sym (strings-at ∙ simp (eq-eqb _ _ (sym e ∙ z)))
+    pub strings-empty : n ≡ 0 → false ≡ alpn_good v
+    strings-empty z = refused (simp (eq-eqb _ _ (sym e ∙ z)))
 
-  pub strings-over : (n ≡ 0 → ⊥) → length v - at ≤ n → false ≡ alpn_good v
-  strings-over z g =
-      let l : length (drop (suc at) v) < get_or v at 0 = simp length-drop (omega arith) in
-      sym (strings-at ∙ (simp (ne_eqb _ _ (λ y. z (e ∙ y)))) ∙ strings-past (get_or v at 0) (drop (suc at) v) l)
+    pub strings-over : (n ≡ 0 → ⊥) → length (rest s 1) < n → false ≡ alpn_good v
+    strings-over z g =
+        let l = ap length (take_rest 1 s) in
+        refused (simp (ne_eqb _ _ (λ y. z (e ∙ y))) (strings-past (get_or s 0 0) (drop 1 s) (omega arith)))
 
-  pub strings-next : (n ≡ 0 → ⊥) → n < length v - at → Strings v (at + (n + 1))
-  strings-next z g =
-      let l : get_or v at 0 ≤ length (drop (suc at) v) = simp length-drop (omega arith) in
-      let s : suc at + get_or v at 0 ≡ at + (n + 1) = omega arith in
-      record {
-        within = omega arith;
-        left = strings-at ∙ (simp (ne_eqb _ _ (λ y. z (e ∙ y))))
-            ∙ strings-skip (get_or v at 0) (drop (suc at) v) l
-            ∙ ap (strings_from 0) (drop-drop (get_or v at 0) (suc at) v ∙ ap (λ (k : ℕ). drop k v) s);
-      }
+    pub strings-next : (n ≡ 0 → ⊥) → n ≤ length (rest s 1) → Strings v (rest (rest s 1) n)
+    strings-next z g =
+        let l = ap length (take_rest 1 s) in
+        record {
+          left = strings-at ∙ (simp (ne_eqb _ _ (λ y. z (e ∙ y))))
+              ∙ strings-skip (get_or s 0 0) (drop 1 s) (omega arith)
+              ∙ ap₂ (λ (k : ℕ) (t : List ℕ). strings_from 0 (drop k t)) (sym e) (sym (take_rest 1 s))
+              ∙ ap (strings_from 0) (sym (take_rest n (rest s 1)));
+        }
 
 -- ---- one value
 

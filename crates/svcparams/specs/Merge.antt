@@ -1,12 +1,10 @@
 -- Whether a mandatory list rises without 0 and each of its keys is among the parameters' keys, by one walk over the two, where the parameters'
 -- keys rise (RULES P4, P9). Each step's decision depends only on the next key of each list, or on there being none. That the walk's answer is
 -- that of the rule, and how soon: `MergeExactly`. Assumes nothing: these are definitions.
-use Rattle.std.specs.Prelude.{◌≡◌, Bool, true, false, cond, ℕ, zero, suc, ◌+◌, ◌≤◌, ◌<◌, ltb, eqb, length}
+use Rattle.std.specs.Prelude.{◌≡◌, Bool, true, false, cond, ℕ, zero, suc, ◌+◌, ◌≤◌, ◌<◌, ltb, eqb, length, Option, Some, None}
 use mathlib.Core.List.{List, [], ◌∷◌, tail}
 use Rattle.octets.specs.Lists.{All}
 use Rattle.svcparams.specs.Accepted.{Ascending, In}
-use Rattle.svcparams.specs.declared.walk.Look.{Look}
-use Rattle.svcparams.specs.declared.walk.Look.TheVariants.{End, Next}
 use Rattle.svcparams.specs.declared.walk.Decision.{Decision}
 use Rattle.svcparams.specs.declared.walk.Decision.TheVariants.{AllFound, Refused, Found, Passed}
 
@@ -21,10 +19,10 @@ pub record Listed (ks ws : List ℕ) : Type 0 where
 
 -- on the next key w of the list and the next key k of the parameters. No w is left: all were found. w is 0, no k is left, or w is below k:
 -- refused, since w is 0, absent, or not above the list's key before it. w is k: found, both lists go on. w is above k: the parameters go on
-abbrev pub decided : Look → Look → Decision
-decided End k = AllFound
-decided (Next w) End = Refused
-decided (Next w) (Next k) = cond (eqb w 0) Refused (cond (ltb w k) Refused (cond (eqb w k) Found Passed))
+abbrev pub decided : Option ℕ → Option ℕ → Decision
+decided None k = AllFound
+decided (Some w) None = Refused
+decided (Some w) (Some k) = cond (eqb w 0) Refused (cond (ltb w k) Refused (cond (eqb w k) Found Passed))
 
 -- ---- the walk
 
@@ -34,9 +32,9 @@ pub data State : Type 0 where
   going : (ws ks : List ℕ) → State
 
 -- the next key of a list, or that there is none
-abbrev pub look : List ℕ → Look
-look [] = End
-look (x ∷ xs) = Next x
+abbrev pub look : List ℕ → Option ℕ
+look [] = None
+look (x ∷ xs) = Some x
 
 -- a decision carried out: neither list goes on by more than one key
 abbrev pub carried : Decision → List ℕ → List ℕ → State

@@ -140,11 +140,46 @@ same_from (suc k) (x ∷ xs) kvs e = same_from k xs kvs e
 pub entries-tiled : (s : List ℕ) (kvs : List Param) → pairs s ≡ tiled kvs → entries s ≡ kvs
 entries-tiled s kvs e = same_from 0 s kvs e
 
--- ---- the same steps at a place of the field
+-- ---- the same steps of what is left of the field
 
--- the rest of the field, as `&p[at..]` has it
+-- the octets from a place on, as `&s[n..]` has them
 abbrev pub rest : List ℕ → ℕ → List ℕ
-rest p at = take (length p - at) (drop at p)
+rest s n = take (length s - n) (drop n s)
+
+-- the parameter of n octets that stands first, its value as `&s[4..n]` has it
+abbrev pub first_of : List ℕ → ℕ → Param
+first_of s n = record { key = at16 s 0; value = take (n - 4) (drop 4 s) }
+
+module _ (s : List ℕ) where
+  pub left-bad : 0 < length s → 0 ≡ size_of s → pairs s ≡ bad
+  left-bad h e = pairs-bad s h (sym e)
+
+  pub left-none : 0 ≡ size_of s → entries s ≡ []
+  left-none e = entries-bad s (sym e)
+
+  pub left-end : 0 ≡ size_of s → keys_in s ≡ []
+  unfolding keys
+  left-end e = ap keys (left-none e)
+
+  module _ {n : ℕ} (e : n ≡ size_of s) (h : 4 ≤ n) where
+    some : size_of s ≡ 0 → ⊥
+    some z = omega arith
+
+    pub left-pairs : pairs s ≡ onto (first_of s n) (pairs (rest s n))
+    left-pairs =
+        pairs-cons s some ∙ ap (λ (m : ℕ). onto (first_of s m) (pairs (drop m s))) (sym e)
+        ∙ ap (λ (l : List ℕ). onto (first_of s n) (pairs l)) (sym (take_rest n s))
+
+    pub left-entries : entries s ≡ first_of s n ∷ entries (rest s n)
+    left-entries =
+        entries-cons s some ∙ ap (λ (m : ℕ). first_of s m ∷ entries (drop m s)) (sym e)
+        ∙ ap (λ (l : List ℕ). first_of s n ∷ entries l) (sym (take_rest n s))
+
+    pub left_keys : keys_in s ≡ at16 s 0 ∷ keys_in (rest s n)
+    unfolding keys
+    left_keys = ap keys left-entries
+
+-- ---- the same steps at a place of the field
 
 -- the value of the parameter of n octets that stands at a place, as `&s[4..n]` has it
 abbrev pub value_at : List ℕ → ℕ → ℕ → List ℕ
@@ -156,9 +191,6 @@ param_at p at n = record { key = at16 (rest p at) 0; value = value_at p at n }
 module _ (p : List ℕ) (at : ℕ) {n : ℕ} (e : n ≡ size_of (rest p at)) where
   is-size : size_of (drop at p) ≡ n
   is-size = sym (e ∙ ap size_of (take_rest at p))
-
-  pub stop-pairs : at < length p → n ≡ 0 → pairs (drop at p) ≡ bad
-  stop-pairs h z = pairs-bad (drop at p) (simp length-drop (omega arith)) (is-size ∙ z)
 
   pub stop-entries : n ≡ 0 → entries (drop at p) ≡ []
   stop-entries z = entries-bad (drop at p) (is-size ∙ z)
@@ -175,9 +207,6 @@ module _ (p : List ℕ) (at : ℕ) {n : ℕ} (e : n ≡ size_of (rest p at)) whe
 
   left_is : drop (size_of (drop at p)) (drop at p) ≡ drop (at + n) p
   left_is = ap (λ (m : ℕ). drop m (drop at p)) is-size ∙ drop-drop n at p
-
-  pub next-pairs : (n ≡ 0 → ⊥) → pairs (drop at p) ≡ onto (param_at p at n) (pairs (drop (at + n) p))
-  next-pairs z = pairs-cons (drop at p) (λ y. z (sym is-size ∙ y)) ∙ ap₂ (λ (kv : Param) (l : List ℕ). onto kv (pairs l)) first-is left_is
 
   pub next-entries : (n ≡ 0 → ⊥) → entries (drop at p) ≡ param_at p at n ∷ entries (drop (at + n) p)
   next-entries z = entries-cons (drop at p) (λ y. z (sym is-size ∙ y)) ∙ ap₂ (λ (kv : Param) (l : List ℕ). kv ∷ entries l) first-is left_is

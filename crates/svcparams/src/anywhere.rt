@@ -6,70 +6,55 @@ ghost use Rattle.svcparams.specs.Params.{rising, has, mandatory_good};
 ghost use Rattle.svcparams.specs.Entries.{keys_in};
 
 use crate::size;
-use octets::get16;
+use octets::{get16, wide16};
 
 // Whether the keys of a field rise.
 pub fn rises(p: &[u8]) -> bool
     ensures { result ≡ rising 0 (keys_in p.now) }
 {
-    let mut at: usize = 0;
-    let mut least: usize = 0;
-    loop {
-        let s = &p[at..];
-        let n = size(s);
-        if n == 0 {
-            return true;
-        }
-        let key = get16(s, 0);
+    let mut left = p;
+    let mut least = 0;
+    while let Some(n) = size(left) {
+        let key = get16(left, 0);
         if key < least {
             return false;
         }
         least = key + 1;
-        at += n;
+        left = &left[n..];
     }
+    true
 }
 
 // Whether a parameter has the key.
 pub fn has_key(p: &[u8], key: usize) -> bool
     ensures { result ≡ has key (keys_in p.now) }
 {
-    let mut at: usize = 0;
-    loop {
-        let s = &p[at..];
-        let n = size(s);
-        if n == 0 {
-            return false;
-        }
-        let k = get16(s, 0);
-        if k == key {
+    let mut left = p;
+    while let Some(n) = size(left) {
+        if get16(left, 0) == key {
             return true;
         }
-        at += n;
+        left = &left[n..];
     }
+    false
 }
 
 // Whether a mandatory list is not empty and whole, its keys rise without 0, and each is a parameter's.
 pub fn mandatory_anywhere(m: &[u8], p: &[u8]) -> bool
     ensures { result ≡ mandatory_good m.now (keys_in p.now) }
 {
-    if m.len() == 0 {
+    if m.is_empty() || m.len() % 2 != 0 {
         return false;
     }
-    if m.len() % 2 != 0 {
-        return false;
-    }
-    let mut i: usize = 0;
-    let mut least: usize = 1;
-    while i + 1 < m.len() {
-        let key = get16(m, i);
-        if key < least {
-            return false;
-        }
-        if !has_key(p, key) {
+    let mut left = m;
+    let mut least = 1;
+    while let [upper, lower, rest @ ..] = left {
+        let key = wide16(*upper, *lower);
+        if key < least || !has_key(p, key) {
             return false;
         }
         least = key + 1;
-        i += 2;
+        left = rest;
     }
     true
 }

@@ -4,20 +4,21 @@
 // Nothing here changes or writes parameters.
 #![tactic(auto)]
 
-ghost use Rattle.std.specs.Prelude.{◌≡◌, ℕ, ◌≤◌, length, true, List};
+ghost use Rattle.std.specs.Prelude.{◌≡◌, ℕ, ◌≤◌, length, true, List, IfSome, unwrap_or};
+ghost use Rattle.numbers.specs.Fault as fault;
 ghost use Rattle.svcparams.specs.Key as keys;
 ghost use Rattle.svcparams.specs.Params.{size_of, rising, has, mandatory_good, alpn_good, value_good, all_good, params_fault};
 ghost use Rattle.svcparams.specs.Entries.{entries, keys_in};
 
 use anywhere::{has_key, mandatory_anywhere, rises};
 use numbers::Fault;
-use octets::{get16, wide};
+use octets::get16;
 use walk::all_present;
 
 mod anywhere;
 mod walk;
 
-// The keys that have rules here (RFC 9460 §14.3.2).
+// The keys that have rules here (RFC 9460 §14.3.2). Numbers and no enum: any of 65,536 keys may stand in a field, those without a rule too.
 #[derive(Drop)]
 pub struct Key();
 
@@ -39,27 +40,27 @@ impl Key {
     pub const INVALID: usize = 65535;
 }
 
-// How many octets the parameter that stands first has, its key and length among them; 0 if none stands there whole. A length below 256 is
-// its lower octet alone: the next parameter's place then depends on one octet, not on two put together (docs/BENCHMARKS.md).
-pub fn size(s: &[u8]) -> usize
-    ensures value { result ≡ size_of s.now }
-    ensures upper_bound { result ≤ length s.now }
+// How many octets the parameter that stands first has, its key and length among them, if one stands there whole. A length below 256 is its
+// lower octet alone: the next parameter's place then depends on one octet, not on two put together (docs/BENCHMARKS.md).
+pub fn size(s: &[u8]) -> Option<usize>
+    ensures value { unwrap_or result 0 ≡ size_of s.now }
+    ensures bounds { IfSome result (λ n. (4 ≤ n) × (n ≤ length s.now)) }
 {
     if s.len() < 4 {
-        return 0;
+        return None;
     }
     if s[2] == 0 {
-        let low = 4 + wide(s[3]);
+        let low = 4 + usize::from(s[3]);
         if s.len() < low {
-            return 0;
+            return None;
         }
-        return low;
+        return Some(low);
     }
     let n = 4 + get16(s, 2);
     if s.len() < n {
-        return 0;
+        return None;
     }
-    n
+    Some(n)
 }
 
 // Whether a mandatory list is not empty and whole, its keys rise without 0, and each is a parameter's, in a field whose keys rise.
@@ -67,35 +68,25 @@ fn mandatory(m: &[u8], p: &[u8]) -> bool
     requires { rising 0 (keys_in p.now) ≡ true }
     ensures { result ≡ mandatory_good m.now (keys_in p.now) }
 {
-    if m.len() == 0 {
+    if m.is_empty() || m.len() % 2 != 0 {
         return false;
     }
-    if m.len() % 2 != 0 {
-        return false;
-    }
-    let walked = all_present(m, p);
-    walked.present
+    all_present(m, p).present
 }
 
 // Whether strings, none of them empty, tile the value, and there is one.
 fn alpn(v: &[u8]) -> bool
     ensures { result ≡ alpn_good v.now }
 {
-    if v.len() == 0 {
-        return false;
-    }
-    let mut at: usize = 0;
-    while at < v.len() {
-        let long = wide(v[at]);
-        if long == 0 {
+    let mut left = v;
+    while let [long, rest @ ..] = left {
+        let long = usize::from(*long);
+        if long == 0 || rest.len() < long {
             return false;
         }
-        if v.len() - at <= long {
-            return false;
-        }
-        at += long + 1;
+        left = &rest[long..];
     }
-    true
+    !v.is_empty()
 }
 
 // Whether the value v is one that its key allows, for keys other than mandatory. Of the other parameters these rules ask only whether alpn is
@@ -108,7 +99,7 @@ fn plain(key: usize, v: &[u8], beside: bool) -> bool
         return alpn(v);
     }
     if key == Key::NO_DEFAULT_ALPN {
-        return (v.len() == 0) & beside;
+        return v.is_empty() & beside;
     }
     if key == Key::PORT {
         return v.len() == 2;
@@ -150,56 +141,46 @@ fn values(p: &[u8]) -> bool
     requires { rising 0 (keys_in p.now) ≡ true }
     ensures { result ≡ all_good (entries p.now) (keys_in p.now) }
 {
-    let mut at: usize = 0;
+    let mut left = p;
     let mut beside = false;
-    loop {
-        let s = &p[at..];
-        let n = size(s);
-        if n == 0 {
-            return true;
-        }
-        let key = get16(s, 0);
+    while let Some(n) = size(left) {
+        let key = get16(left, 0);
         if Key::PORT < key {
             return true;
         }
-        let v = &s[4..n];
-        if !allowed(key, v, p, beside) {
+        if !allowed(key, &left[4..n], p, beside) {
             return false;
         }
-        beside = beside | (key == Key::ALPN);
-        at += n;
+        beside |= key == Key::ALPN;
+        left = &left[n..];
     }
+    true
 }
 
-// The first fault of the field, or 0. Tiling and keys go before hints over the whole field: a hint is remembered, and answered at the end.
-pub fn params_fault(p: &[u8]) -> usize
-    ensures { result ≡ params_fault p.now }
+// The first fault of the field, if it has one. Tiling and keys go before hints over the whole field: a hint is remembered, and answered at the end.
+pub fn params_fault(p: &[u8]) -> Result<(), Fault>
+    ensures { fault.number_in result ≡ params_fault p.now }
 {
-    let mut at: usize = 0;
-    let mut least: usize = 0;
+    let mut left = p;
+    let mut least = 0;
     let mut hinted = false;
-    while at < p.len() {
-        let s = &p[at..];
-        let n = size(s);
-        if n == 0 {
-            return Fault::PARAMETERS;
+    while !left.is_empty() {
+        let Some(n) = size(left) else {
+            return Err(Fault::Parameters);
+        };
+        let key = get16(left, 0);
+        if key < least || key == Key::INVALID {
+            return Err(Fault::Parameters);
         }
-        let key = get16(s, 0);
-        if key < least {
-            return Fault::PARAMETERS;
-        }
-        if key == Key::INVALID {
-            return Fault::PARAMETERS;
-        }
-        hinted = hinted | (key == Key::IPV4HINT) | (key == Key::IPV6HINT);
+        hinted |= (key == Key::IPV4HINT) | (key == Key::IPV6HINT);
         least = key + 1;
-        at += n;
+        left = &left[n..];
     }
     if hinted {
-        return Fault::HINT;
+        return Err(Fault::Hint);
     }
     if !values(p) {
-        return Fault::VALUE;
+        return Err(Fault::Value);
     }
-    0
+    Ok(())
 }

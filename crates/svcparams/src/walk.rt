@@ -1,5 +1,5 @@
 // One walk over a mandatory list and the keys of the parameters (RULES P4, P9).
-ghost use Rattle.std.specs.Prelude.{◌≡◌, ◌≤◌, ◌<◌, length, drop};
+ghost use Rattle.std.specs.Prelude.{◌≡◌, ◌≤◌, ◌<◌, length, drop, IfSome, unwrap_or};
 ghost use Rattle.octets.specs.Numbers.{words};
 ghost use Rattle.svcparams.specs.Params.{size_of};
 ghost use Rattle.svcparams.specs.Entries.{keys_in};
@@ -7,13 +7,6 @@ ghost use Rattle.svcparams.specs.Merge.{look, decided, Ran};
 
 use crate::size;
 use octets::get16;
-
-// The next key of a list, or that there is none.
-#[derive(Clone, Copy)]
-pub enum Look {
-    End,
-    Next(usize),
-}
 
 // A step's decision.
 #[derive(Clone, Copy)]
@@ -36,13 +29,13 @@ pub struct Walked {
 }
 
 // One step's decision. It is given at most one key of each list, and no list.
-fn decide(listed: Look, held: Look) -> Decision
+fn decide(listed: Option<usize>, held: Option<usize>) -> Decision
     ensures { result ≡ decided listed held }
 {
-    let Look::Next(w) = listed else {
+    let Some(w) = listed else {
         return Decision::AllFound;
     };
-    let Look::Next(k) = held else {
+    let Some(k) = held else {
         return Decision::Refused;
     };
     if w == 0 {
@@ -57,30 +50,30 @@ fn decide(listed: Look, held: Look) -> Decision
     Decision::Passed
 }
 
-// The mandatory key at octet i, or that none is left.
-fn listed_at(m: &[u8], i: usize) -> Look
+// The mandatory key at octet i, if one is left.
+fn listed_at(m: &[u8], i: usize) -> Option<usize>
     requires { i ≤ length m.now }
     ensures { result ≡ look (words (drop i m.now)) }
 {
     if m.len() - i < 2 {
-        return Look::End;
+        return None;
     }
-    Look::Next(get16(m, i))
+    Some(get16(m, i))
 }
 
-// The key of the first parameter in s, which has n octets; with n 0 there is none.
-fn held_in(s: &[u8], n: usize) -> Look
-    requires { n ≡ size_of s.now }
+// The key of the first parameter in s, if it has one, of n octets.
+fn held_in(s: &[u8], n: Option<usize>) -> Option<usize>
+    requires { (unwrap_or n 0 ≡ size_of s.now) × IfSome n (λ k. 4 ≤ k) }
     ensures { result ≡ look (keys_in s.now) }
 {
-    if n == 0 {
-        return Look::End;
-    }
-    Look::Next(get16(s, 0))
+    let Some(_) = n else {
+        return None;
+    };
+    Some(get16(s, 0))
 }
 
 // Whether the mandatory list m, which has a key, rises without 0 and each of its keys is a parameter's in p, where the keys of p rise. Each
-// turn of the inner loop is one step; i and at never go back.
+// turn of the inner loop is one step; i and at never go back (RULES P9; places, so that this is seen).
 pub fn all_present(m: &[u8], p: &[u8]) -> Walked
     requires { 1 < length m.now }
     ensures { Ran (words m.now) (keys_in p.now) result.present result.steps }
@@ -95,7 +88,7 @@ pub fn all_present(m: &[u8], p: &[u8]) -> Walked
             let s = &p[at..];
             let n = size(s);
             let held = held_in(s, n);
-            let next = at + n;
+            let next = at + n.unwrap_or(0);
             steps += 1;
             match decide(listed, held) {
                 Decision::AllFound => {
@@ -116,8 +109,5 @@ pub fn all_present(m: &[u8], p: &[u8]) -> Walked
         }
         i += 2;
     }
-    Walked {
-        present: present,
-        steps: steps,
-    }
+    Walked { present, steps }
 }

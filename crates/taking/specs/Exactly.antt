@@ -1,6 +1,6 @@
 -- What a head says, and that a sheet is taken exactly where it is one: `take_of` gives carrier c and records rs of s where s is their sheet, and nowhere else; a
 -- sheet is one of one carrier and one list of records only; and which number refuses what is none. Assumes nothing.
-use Rattle.std.specs.Prelude.{◌≡◌, ◌↔◌, Bool, List, [], ◌∷◌, ◌++◌, ℕ, zero, suc, ◌+◌, ◌*◌, ◌%◌, ◌≤◌, ◌<◌, length, get_or, take, drop}
+use Rattle.std.specs.Prelude.{◌≡◌, ◌↔◌, Bool, List, [], ◌∷◌, ◌++◌, ℕ, zero, suc, ◌+◌, ◌*◌, ◌%◌, ◌≤◌, ◌<◌, length, get_or, take, drop, Option}
 use Rattle.std.proofs.Math.Path.{refl, ap}
 use Rattle.std.proofs.Common.{sym, ap₂, ◌∙◌, arith, take-append-drop}
 use Rattle.std.proofs.Math.Bool.{true, false}
@@ -12,7 +12,6 @@ use Rattle.octets.specs.ListsLaws.{all_drop}
 use Rattle.numbers.specs.Refusal as refusal
 use Rattle.numbers.specs.Limit as limit
 use Rattle.carriers.specs.declared.Carrier.{Carrier}
-use Rattle.carriers.specs.declared.Chosen.{Chosen}
 use Rattle.carriers.specs.Carriers.{chosen_of, number_of}
 use Rattle.carriers.proofs.CarriersLaws.{chosen-number, number-room, number-chosen, chosen-unknown}
 use Rattle.blocks.specs.Block.{Fields}
@@ -182,11 +181,11 @@ module _ (s : List ℕ) where
   head-taken {k} {n} i = rw ((head-exactly s k n).1 i)
 
   pub take-carrier : {k n : ℕ} → IsHead s k n → ((c : Carrier) → number_of c ≡ k → ⊥) → take_of s ≡ refuse refusal.sheet_carrier
-  take-carrier {k} {n} i never = head-taken i ∙ ap (λ (o : Chosen). take_carrier o n (drop front_size s)) (chosen-unknown k never)
+  take-carrier {k} {n} i never = head-taken i ∙ ap (λ (o : Option Carrier). take_carrier o n (drop front_size s)) (chosen-unknown k never)
 
   module _ (c : Carrier) {n : ℕ} (i : IsHead s (number_of c) n) where
     carrier-taken : take_of s ≡ take_records c n (drop front_size s)
-    carrier-taken = head-taken i ∙ ap (λ (o : Chosen). take_carrier o n (drop front_size s)) (chosen-number c)
+    carrier-taken = head-taken i ∙ ap (λ (o : Option Carrier). take_carrier o n (drop front_size s)) (chosen-number c)
 
     pub take-many : limit.records < n → take_of s ≡ refuse refusal.records
     take-many h = carrier-taken ∙ rw (lt-ltb limit.records n h)

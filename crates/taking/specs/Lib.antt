@@ -2,11 +2,15 @@ pub mod Taking
 pub mod Sheet
 pub mod Took
 pub mod Spot
+pub mod Shown
+pub mod Turns
 pub mod SpotLaws
+pub mod ShownLaws
 pub mod WalkLaws
 pub mod TakenLaws
 pub mod Standing
 pub mod StandingLaws
+pub mod TurnsLaws
 pub mod TookLaws
 pub mod RecordLaws
 pub mod Exactly

@@ -1,12 +1,25 @@
 -- Where the fields of one record stand in a sheet, by its lengths and its mode alone (RULES S2: priority 2, lifetime 4, mode 1, name length 1,
 -- name; in mode 1 also address count 1, addresses, parameter length 2, parameters). Assumes nothing: these are definitions.
-use Rattle.std.specs.Prelude.{◌≡◌, true, false, cond, List, ℕ, ◌+◌, ◌-◌, ◌*◌, ◌≤◌, ◌<◌, ltb, eqb, length, get_or, take, drop}
+use Rattle.std.specs.Prelude.{◌≡◌, Bool, true, false, cond, List, ℕ, ◌+◌, ◌-◌, ◌*◌, ◌≤◌, ◌<◌, ltb, eqb, length, get_or, take, drop}
 use Rattle.octets.specs.Numbers.{at16, at32}
 use Rattle.carriers.specs.declared.Carrier.{Carrier}
 use Rattle.carriers.specs.Carriers.{address_width}
 use Rattle.blocks.specs.Block.{Fields}
 use Rattle.records.specs.Records.{head_size, lifetime_at, mode_at, name_length_at}
-use Rattle.taking.specs.declared.Spot.{Spot}
+
+-- each part as its first index and its length, and the index after the record
+pub record Spot : Type 0 where
+  pub good : Bool  -- whether a whole record with mode 0 or 1 stands there; else all numbers are 0
+  pub priority : ℕ
+  pub lifetime : ℕ
+  pub full : Bool  -- mode 1; in mode 0 there are no addresses and no parameters
+  pub name : ℕ
+  pub nlen : ℕ
+  pub addresses : ℕ
+  pub alen : ℕ
+  pub parameters : ℕ
+  pub plen : ℕ
+  pub next : ℕ
 
 -- no record: a field runs past the sheet's end, or the mode is not 0 or 1
 abbrev pub nowhere : Spot

@@ -5,18 +5,17 @@ use Rattle.std.proofs.Math.Path.{refl, subst⁻¹}
 use Rattle.std.proofs.Common.{sym, ap, ◌∙◌, mul-le-mul, arith, length-drop, length-take-le}
 use Rattle.std.proofs.lemmas.Bool.{false≢true}
 use Prim.Native.Nat.{ℕ, ◌+◌, ◌-◌, ◌*◌, ◌≤◌, ◌<◌}
-use borrow.Author.Tests.{lt-ltb, le-ltb, eq-eqb, ne_eqb}
+use borrow.Author.Tests.{lt-ltb, le-ltb}
 use Rattle.std.proofs.Math.ListN.{get_or}
 use Rattle.octets.specs.Cases.{by_less, by_equal}
 use Rattle.octets.specs.Numbers.{at16, at32, Bytes}
-use Rattle.octets.specs.NumbersLaws.{bytes-at, bytes-get_or}
+use Rattle.octets.specs.NumbersLaws.{bytes-get_or}
 use Rattle.carriers.specs.declared.Carrier.{Carrier}
 use Rattle.carriers.specs.Carriers.{address_width}
 use Rattle.carriers.proofs.CarriersLaws.{address-width}
 use Rattle.records.specs.Records.{head_size, lifetime_at, mode_at, name_length_at, tail_size, record_of}
 use Rattle.records.specs.RecordsLaws.{length-record}
-use Rattle.taking.specs.declared.Spot.{Spot}
-use Rattle.taking.specs.Spot.{nowhere, named_at, with_parts, parameters_at, addresses_at, full_at, by_mode, spot_of, fields_at, Inside, Sized}
+use Rattle.taking.specs.Spot.{Spot, nowhere, named_at, with_parts, parameters_at, addresses_at, full_at, by_mode, spot_of, fields_at, Inside, Sized}
 
 -- ---- what holds of every spot: of none, of a name, of a name with parts, and so of `spot_of`
 
@@ -147,12 +146,7 @@ module _ (s : List ℕ) (bytes : Bytes s) where
       }) k)
       h
 
--- what `record_at` ensures
-pub spot-ensures : (c : Carrier) (s : List ℕ) (at : ℕ) {r : Spot} → ((i : ℕ) → get_or s i 0 < 256) → at ≤ length s → r ≡ spot_of c s at
-    → (r ≡ spot_of c s at) × (Inside (length s) at r × Sized r)
-spot-ensures c s at b h e = (e, (rw e (spot-inside c s at h), rw e (spot-sized s (bytes-at s b) c at h)))
-
--- ---- the ways out of `full_at`
+-- ---- the tests of `full_at`
 
 module _ (c : Carrier) (s : List ℕ) (p : Spot) {r : Spot} where
   pub full-1 : length s - p.next < 1 → r ≡ nowhere → r ≡ full_at c s p
@@ -179,7 +173,7 @@ module _ (c : Carrier) (s : List ℕ) (p : Spot) {r : Spot} where
         full-5 l e =
             rw (le-ltb _ _ h, le-ltb _ _ (rw (ex, ew) at k), le-ltb _ _ (rw (ex, ew) at j), le-ltb _ _ (rw (em, ex, ew) at l)) (rw (em, ex, ew) at e)
 
--- ---- the ways out of `record_at`
+-- ---- the first tests of `spot_of`
 
 module _ (c : Carrier) (s : List ℕ) (at : ℕ) {r : Spot} where
   pub spot-1 : length s - at < head_size → r ≡ nowhere → r ≡ spot_of c s at
@@ -190,16 +184,3 @@ module _ (c : Carrier) (s : List ℕ) (at : ℕ) {r : Spot} where
     pub spot-2 : length s - at - head_size < n → r ≡ nowhere → r ≡ spot_of c s at
     unfolding spot_of
     spot-2 k e = rw (le-ltb _ _ h, lt-ltb _ _ (rw en at k)) e
-
-    module _ (k : n ≤ length s - at - head_size) where
-      pub spot-3 : get_or s (at + mode_at) 0 ≡ 0 → r ≡ named_at s at n → r ≡ spot_of c s at
-      unfolding spot_of
-      spot-3 z e = rw (le-ltb _ _ h, le-ltb _ _ (rw en at k), eq-eqb _ _ z) (rw en at e)
-
-      pub spot-4 : {p : Spot} → (get_or s (at + mode_at) 0 ≡ 0 → ⊥) → get_or s (at + mode_at) 0 ≡ 1 → p ≡ named_at s at n → r ≡ full_at c s p → r ≡ spot_of c s at
-      unfolding spot_of
-      spot-4 z o ep e = rw (le-ltb _ _ h, le-ltb _ _ (rw en at k), ne_eqb _ _ z, eq-eqb _ _ o) (rw en at (rw ep at e))
-
-      pub spot-5 : (get_or s (at + mode_at) 0 ≡ 0 → ⊥) → (get_or s (at + mode_at) 0 ≡ 1 → ⊥) → r ≡ nowhere → r ≡ spot_of c s at
-      unfolding spot_of
-      spot-5 z o e = rw (le-ltb _ _ h, le-ltb _ _ (rw en at k), ne_eqb _ _ z, ne_eqb _ _ o) e

@@ -2,8 +2,7 @@
 use Rattle.std.specs.Prelude.{◌≡◌, true, List, [], ◌∷◌, ℕ, length, take, drop}
 use Rattle.carriers.specs.declared.Carrier.{Carrier}
 use Rattle.blocks.specs.Block.{Fields}
-use Rattle.taking.specs.declared.Spot.{Spot}
-use Rattle.taking.specs.Spot.{spot_of, fields_at, Inside}
+use Rattle.taking.specs.Spot.{Spot, spot_of, fields_at, Inside}
 
 -- from index `at` on stand exactly the records rs, to the end of s
 pub data Standing (c : Carrier) (s : List ℕ) : ℕ → List Fields → Type 0 where

@@ -1,6 +1,5 @@
--- A loop over a sheet's records with `record_at`: its invariant is `Standing c s at rest`. A taken sheet gives it at its head's end (`took-sheet`,
--- `taken-standing`), each turn moves it to the index after a record (`standing-step`), and at the sheet's end no record is left
--- (`standing-none`). Assumes nothing.
+-- The records of a sheet from an index on (`Standing c s at rest`): those of a taken sheet stand at its head's end (`took-sheet`, `taken-standing`), and
+-- the first of them is followed by the others (`standing-step`). Assumes nothing.
 use Rattle.std.specs.Prelude.{◌≡◌, refl, Bool, true, false, List, [], ◌∷◌, ℕ, zero, suc, ◌-◌, ◌≤◌, ◌<◌, ltb, length, get_or, drop}
 use Rattle.std.proofs.Common.{sym, ap, ◌∙◌, arith, lt-ltb, ltb-true, ltb-false, length-drop}
 use Rattle.std.proofs.lemmas.Bool.{false≢true}
@@ -9,12 +8,10 @@ use Rattle.carriers.specs.declared.Carrier.{Carrier}
 use Rattle.blocks.specs.Block.{Fields}
 use Rattle.records.specs.Records.{head_size}
 use Rattle.sheets.specs.Sheets.{front_size, count_at}
-use Rattle.taking.specs.declared.Spot.{Spot}
-use Rattle.taking.specs.declared.Took.TheVariants.{Refused, Sheet}
 use Rattle.taking.specs.Taking.{Records, records, onto, records_from, Taken, refuse, sheet, take_of}
 use Rattle.taking.specs.Taking as taking
-use Rattle.taking.specs.Took.{took_of}
-use Rattle.taking.specs.Spot.{spot_of, fields_at}
+use Rattle.taking.specs.Took.{Refused, Sheet, took_of}
+use Rattle.taking.specs.Spot.{Spot, spot_of, fields_at}
 use Rattle.taking.specs.SpotLaws.{spot-inside}
 use Rattle.taking.specs.TakenLaws.{Passed, taken-passed}
 use Rattle.taking.specs.WalkLaws.{by-record, records-at}
@@ -23,7 +20,7 @@ use Rattle.taking.specs.Standing.{Standing, none, one, Stands, Step}
 -- ---- one record and the rest
 
 -- past the end no record stands
-past : (c : Carrier) (s : List ℕ) (at : ℕ) → length s ≤ at → (spot_of c s at).good ≡ false
+pub past : (c : Carrier) (s : List ℕ) (at : ℕ) → length s ≤ at → (spot_of c s at).good ≡ false
 unfolding spot_of
 past c s at h =
     let k : length s - at < head_size = omega arith in

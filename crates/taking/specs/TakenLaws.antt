@@ -1,5 +1,5 @@
 -- What a sheet's head and taking a sheet may say: one of six refusals, or that every test is passed. Assumes nothing.
-use Rattle.std.specs.Prelude.{◌≡◌, ◌⊎◌, Bool, true, false, cond, not, List, ℕ, ◌≤◌, ltb, eqb, length, get_or, take, drop}
+use Rattle.std.specs.Prelude.{◌≡◌, ◌⊎◌, Bool, true, false, cond, not, List, ℕ, ◌≤◌, ltb, eqb, length, get_or, take, drop, Option, Some, None}
 use Rattle.std.proofs.Math.Path.{refl}
 use Rattle.std.proofs.Common.{inl, inr, arith}
 use borrow.Author.Tests.{eqb-true, eq-eqb, le-ltb}
@@ -9,8 +9,6 @@ use Rattle.octets.specs.Numbers.{at16}
 use Rattle.numbers.specs.Refusal as refusal
 use Rattle.numbers.specs.Limit as limit
 use Rattle.carriers.specs.declared.Carrier.{Carrier}
-use Rattle.carriers.specs.declared.Chosen.{Chosen}
-use Rattle.carriers.specs.declared.Chosen.TheVariants.{Known, Unknown}
 use Rattle.carriers.specs.Carriers.{chosen_of}
 use Rattle.blocks.specs.Block.{Fields}
 use Rattle.sheets.specs.Sheets.{letters, edition, front_size, version_at, carrier_at, count_at}
@@ -84,7 +82,7 @@ module _ (s : List ℕ) where
 -- s passed every test, with carrier c and records rs
 pub record Passed (s : List ℕ) (c : Carrier) (rs : List Fields) : Type 0 where
   pub front : Front s
-  pub carrier : chosen_of (get_or s carrier_at 0) ≡ Known c
+  pub carrier : chosen_of (get_or s carrier_at 0) ≡ Some c
   pub few : get_or s count_at 0 ≤ limit.records
   pub found : records_from c (get_or s count_at 0) 0 (drop front_size s) ≡ records rs
 
@@ -102,11 +100,11 @@ module _ (s : List ℕ) (P : Taken → Type 0)
       records-next c (records_from c (get_or s count_at 0) 0 (drop front_size s)) refl (λ rs found.
       passed c rs record { front = front; carrier = known; few = few; found = found }))))
     where
-      carrier-next : (o : Chosen) → chosen_of (get_or s carrier_at 0) ≡ o
-          → ((c : Carrier) → chosen_of (get_or s carrier_at 0) ≡ Known c → P (take_records c (get_or s count_at 0) (drop front_size s)))
+      carrier-next : (o : Option Carrier) → chosen_of (get_or s carrier_at 0) ≡ o
+          → ((c : Carrier) → chosen_of (get_or s carrier_at 0) ≡ Some c → P (take_records c (get_or s count_at 0) (drop front_size s)))
           → P (take_carrier o (get_or s count_at 0) (drop front_size s))
-      carrier-next Unknown e k = carrier
-      carrier-next (Known c) e k = k c e
+      carrier-next None e k = carrier
+      carrier-next (Some c) e k = k c e
 
       records-next : (c : Carrier) (x : Records) → records_from c (get_or s count_at 0) 0 (drop front_size s) ≡ x
           → ((rs : List Fields) → records_from c (get_or s count_at 0) 0 (drop front_size s) ≡ records rs → P (sheet c rs)) → P (take_found c x)

@@ -1,14 +1,12 @@
 -- Taking a sheet (RULES S1 to S5; the tests 2, 40, 41, 42, 4, 43 of RULES T5): any octets are refused by number, or are a carrier and its
 -- records. Assumes nothing: these are definitions.
-use Rattle.std.specs.Prelude.{Bool, cond, not, ◌&&◌, List, [], ◌∷◌, ℕ, zero, suc, ◌*◌, ltb, eqb, length, get_or, take, drop}
+use Rattle.std.specs.Prelude.{Bool, cond, not, ◌&&◌, List, [], ◌∷◌, ℕ, zero, suc, ◌*◌, ltb, eqb, length, get_or, take, drop, Option, Some, None}
 use Rattle.octets.specs.Lists.{same}
 use Rattle.octets.specs.Numbers.{at16}
 use Rattle.octets.specs.Fields.{part, number, counted}
 use Rattle.numbers.specs.Refusal as refusal
 use Rattle.numbers.specs.Limit as limit
 use Rattle.carriers.specs.declared.Carrier.{Carrier}
-use Rattle.carriers.specs.declared.Chosen.{Chosen}
-use Rattle.carriers.specs.declared.Chosen.TheVariants.{Known, Unknown}
 use Rattle.carriers.specs.Carriers.{chosen_of, address_width, lifetime_width}
 use Rattle.carriers.specs.Told.{sheet_number}
 use Rattle.blocks.specs.Block.{Fields, name_only, whole}
@@ -87,9 +85,9 @@ abbrev pub take_records : Carrier → ℕ → List ℕ → Taken
 take_records c count l = cond (ltb limit.records count) (refuse refusal.records) (take_found c (records_from c count 0 l))
 
 -- 42
-abbrev pub take_carrier : Chosen → ℕ → List ℕ → Taken
-take_carrier Unknown count l = refuse (sheet_number Unknown)
-take_carrier (Known c) count l = take_records c count l
+abbrev pub take_carrier : Option Carrier → ℕ → List ℕ → Taken
+take_carrier None count l = refuse (sheet_number None)
+take_carrier (Some c) count l = take_records c count l
 
 -- 2, 40, 41
 abbrev pub take_headed : Headed → List ℕ → Taken

@@ -1,35 +1,33 @@
 -- The ways out of the code that takes a sheet agree with `take_of`. Assumes nothing.
-use Rattle.std.specs.Prelude.{◌≡◌, refl, true, false, not, List, ℕ, ◌≤◌, ◌<◌, eqb, length, get_or, take, drop}
+use Rattle.std.specs.Prelude.{◌≡◌, refl, Bool, true, false, ◌&&◌, eqb, nat_eq, List, [], ◌∷◌, ℕ, ◌≤◌, ◌<◌, length, get_or, take, drop, Option, Some, None, Result, Ok, Err, ok_or}
+use Rattle.std.specs.Cmp.Lexicographic.{pointwise}
 use Rattle.std.proofs.Common.{sym, ap, ◌∙◌, arith}
 use Rattle.std.proofs.lemmas.Bool.{false≢true}
 use borrow.Author.Tests.{lt-ltb, le-ltb, eq-eqb, ne_eqb}
 use Rattle.octets.specs.Numbers.{at16}
+use Rattle.numbers.specs.declared.Refusal as numbers
+use Rattle.numbers.specs.declared.Refusal.TheVariants.{SheetCarrier}
 use Rattle.numbers.specs.Refusal as refusal
+use Rattle.numbers.specs.Refusal.{number_of}
 use Rattle.numbers.specs.Limit as limit
 use Rattle.carriers.specs.declared.Carrier.{Carrier}
-use Rattle.carriers.specs.declared.Chosen.{Chosen}
-use Rattle.carriers.specs.declared.Chosen.TheVariants.{Known, Unknown}
-use Rattle.carriers.specs.Carriers.{chosen_of, lifetime_width}
+use Rattle.carriers.specs.Carriers.{chosen_of}
 use Rattle.sheets.specs.Sheets.{letters, edition, front_size, version_at, carrier_at, count_at}
-use Rattle.taking.specs.declared.Said.TheVariants.{Unfit, Head}
-use Rattle.taking.specs.declared.Took.{Took}
-use Rattle.taking.specs.declared.Took.TheVariants.{Refused, Sheet}
 use Rattle.octets.specs.Lists.{same}
-use Rattle.taking.specs.Taking.{Headed, refuse, head, head_of, misplaced, Records, none, records, records_from, take_found, take_records, take_carrier, take_of}
-use Rattle.taking.specs.Took.{said_of, took_of, some}
+use Rattle.taking.specs.Taking.{Headed, refuse, head, head_of, Records, none, records, records_from, take_found, take_records, take_carrier, take_of}
+use Rattle.taking.specs.Took.{Unfit, Head, Took, Refused, Sheet, said_of, took_of, some}
 use Rattle.taking.specs.TakenLaws.{headed-front}
 use Rattle.taking.specs.StandingLaws.{Found, found}
 
--- ---- a lifetime where none belongs
-
-module _ (c : Carrier) (t : ℕ) {w : ℕ} (e : w ≡ lifetime_width c) where
-  pub misplaced-1 : w ≡ 0 → not (eqb t 0) ≡ misplaced c t
-  misplaced-1 z = rw (eq-eqb (lifetime_width c) 0 (sym e ∙ z))
-
-  pub misplaced-2 : (w ≡ 0 → ⊥) → false ≡ misplaced c t
-  misplaced-2 z = rw (ne_eqb (lifetime_width c) 0 (λ i. z (e ∙ i)))
-
 -- ---- 2, 40, 41
+
+-- what `==` of two slices answers
+pub equal-same : (a b : List ℕ) → pointwise nat_eq a b ≡ same a b
+unfolding same
+equal-same [] [] = refl
+equal-same [] (y ∷ ys) = refl
+equal-same (x ∷ xs) [] = refl
+equal-same (x ∷ xs) (y ∷ ys) = ap (λ (b : Bool). eqb x y && b) (equal-same xs ys)
 
 module _ (s : List ℕ) where
   pub head-1 : limit.input < length s → Unfit refusal.input ≡ said_of (head_of s)
@@ -79,13 +77,21 @@ module _ (c : Carrier) (s : List ℕ) (n : ℕ) where
 -- ---- 42, and the whole
 
 module _ (s : List ℕ) where
-  module _ (x n : ℕ) {o : Chosen} (e : o ≡ chosen_of x) where
-    pub carrier-1 : o ≡ Unknown → Refused refusal.sheet_carrier ≡ took_of (take_carrier (chosen_of x) n (drop front_size s))
-    carrier-1 u = let i : chosen_of x ≡ Unknown = sym e ∙ u in rw i
+  module _ (x n : ℕ) {o : Option Carrier} (e : o ≡ chosen_of x) where
+    pub carrier-1 : {f : numbers.Refusal} → ok_or o SheetCarrier ≡ Err f → Refused (number_of f) ≡ took_of (take_carrier (chosen_of x) n (drop front_size s))
+    carrier-1 {f} u = rw (← e) (go o u)
+      where
+        go : (o : Option Carrier) → ok_or o SheetCarrier ≡ Err f → Refused (number_of f) ≡ took_of (take_carrier o n (drop front_size s))
+        go None u = let i : SheetCarrier ≡ f = cc in rw (← i)
+        go (Some c) u = absurd cc
 
-    pub carrier-2 : {c : Carrier} {r : Took} → o ≡ Known c → r ≡ took_of (take_records c n (drop front_size s))
+    pub carrier-2 : {c : Carrier} {r : Took} → ok_or o SheetCarrier ≡ Ok c → r ≡ took_of (take_records c n (drop front_size s))
         → r ≡ took_of (take_carrier (chosen_of x) n (drop front_size s))
-    carrier-2 {c} u i = let j : chosen_of x ≡ Known c = sym e ∙ u in rw j i
+    carrier-2 {c} {r} u i = rw (← e) (go o u)
+      where
+        go : (o : Option Carrier) → ok_or o SheetCarrier ≡ Ok c → r ≡ took_of (take_carrier o n (drop front_size s))
+        go None u = absurd cc
+        go (Some d) u = let j : d ≡ c = cc in rw j i
 
   said-unfit : (h : Headed) {k : ℕ} → Unfit k ≡ said_of h → h ≡ refuse k
   said-unfit (refuse j) e = cc

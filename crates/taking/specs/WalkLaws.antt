@@ -18,10 +18,9 @@ use Rattle.carriers.specs.declared.Carrier.{Carrier}
 use Rattle.carriers.specs.Carriers.{address_width}
 use Rattle.blocks.specs.Block.{Fields, name_only, whole}
 use Rattle.records.specs.Records.{head_size, lifetime_at, mode_at, name_length_at}
-use Rattle.taking.specs.declared.Spot.{Spot}
 use Rattle.taking.specs.Taking.{Records, none, records, onto, misplaced, full_fields, one_record, records_from}
 use Rattle.taking.specs.Took.{some}
-use Rattle.taking.specs.Spot.{nowhere, named_at, with_parts, parameters_at, addresses_at, full_at, by_mode, spot_of, fields_at}
+use Rattle.taking.specs.Spot.{Spot, nowhere, named_at, with_parts, parameters_at, addresses_at, full_at, by_mode, spot_of, fields_at}
 use Rattle.taking.specs.SpotLaws.{by-full}
 
 -- ---- fields of what is left of s from an index on

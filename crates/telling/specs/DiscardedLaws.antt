@@ -1,5 +1,5 @@
 -- A block is discarded where a trouble is found; and how the blocks of an area are counted one after another. Assumes nothing.
-use Rattle.std.specs.Prelude.{◌≡◌, refl, Bool, true, false, cond, List, [], ◌∷◌, ◌++◌, map, ℕ, zero, suc, ◌+◌, ◌-◌, ◌≤◌, ltb, eqb, length, take, drop}
+use Rattle.std.specs.Prelude.{◌≡◌, refl, Bool, true, false, cond, List, [], ◌∷◌, ◌++◌, map, ℕ, zero, suc, ◌+◌, ◌-◌, ◌≤◌, ltb, eqb, length, take, drop, Result, Ok, Err}
 use Rattle.std.proofs.Common.{sym, ap₂, ◌∙◌, subst, arith}
 use Rattle.std.proofs.Math.Path.{ap, subst⁻¹}
 use Rattle.std.proofs.lemmas.List.{map-append}
@@ -7,6 +7,7 @@ use Rattle.std.proofs.Math.Seq.{take_at}
 use Rattle.octets.specs.Lists.{flat}
 use Rattle.octets.specs.Numbers.{at16}
 use Rattle.octets.specs.Over.{over, Wrote}
+use Rattle.numbers.specs.declared.Refusal.{Refusal}
 use Rattle.carriers.specs.declared.Carrier.{Carrier}
 use Rattle.carriers.specs.declared.Carrier.TheVariants.{Dhcp4}
 use Rattle.carriers.specs.Carriers.{is_joined, header_of}
@@ -14,11 +15,11 @@ use Rattle.carriers.proofs.CarriersLaws.{by-joined}
 use Rattle.numbers.specs.Fault as number
 use Rattle.frames.specs.declared.Step.{Step}
 use Rattle.frames.specs.declared.Gathered.{Gathered}
-use Rattle.frames.specs.declared.Gathered.TheVariants.{Broken, Absent, One, Many}
-use Rattle.frames.specs.declared.Joined.{Joined}
+use Rattle.frames.specs.declared.Gathered.TheVariants.{Absent, One, Many}
 use Rattle.frames.specs.Frame.{Framed, fault, framed, frame}
 use Rattle.frames.specs.Area.{joined}
 use Rattle.frames.specs.Step.{part, step_at}
+use Rattle.frames.specs.ToldLaws.{refusal-some}
 use Rattle.frames.specs.Walk.{Walked}
 use Rattle.frames.specs.Gather.{Tells, Joins}
 use Rattle.frames.specs.Laws.{step_block, step-skipped}
@@ -31,7 +32,7 @@ use Rattle.records.specs.RecordsLaws.{fault-some}
 use Rattle.reading.specs.Result.{Yield, discarded, yields, single, discards, discarded_in}
 use Rattle.reading.specs.Reading.{ahead, instances_from, joined_yield, alone, yield_of}
 use Rattle.reading.specs.YieldLaws.{discarded-more, discarded-few}
-use Rattle.findings.specs.declared.Trouble.{Trouble}
+use Rattle.findings.specs.Troubles.{Trouble}
 use Rattle.findings.specs.Troubles.{trouble_of, joined_trouble}
 use Rattle.findings.specs.Told.{fault_in, block_fault}
 use Rattle.findings.proofs.Exactly.{trouble-fault, joined-fault}
@@ -139,7 +140,7 @@ module _ (c : Carrier) (area : List ℕ) where
   counting-start = record { bodies = []; walked = walked_start c area; counted = refl; few = omega arith }
 
   module _ {at n : ℕ} (g : Counting c area at n) where
-    pub counting-block : {start end k : ℕ} → step_at c area at ≡ Step.Block start end → k ≡ discards_body c (part start end area)
+    pub counting-block : {start end k : ℕ} → step_at c area at ≡ Ok (Step.Block start end) → k ≡ discards_body c (part start end area)
         → Counting c area end (n + k)
     counting-block {start} {end} {k} e q =
         let f : List ℕ → Yield = alone c in
@@ -152,7 +153,7 @@ module _ (c : Carrier) (area : List ℕ) where
           few = omega (arith, g.few, step_block c area at e, q, discarded-few (f b ∷ []));
         }
 
-    pub counting-skipped : {end : ℕ} → step_at c area at ≡ Step.Skipped end → Counting c area end n
+    pub counting-skipped : {end : ℕ} → step_at c area at ≡ Ok (Step.Skipped end) → Counting c area end n
     counting-skipped e =
         record {
           bodies = g.bodies;
@@ -161,13 +162,13 @@ module _ (c : Carrier) (area : List ℕ) where
           few = omega (arith, g.few, step-skipped c area at e);
         }
 
-    pub counting-end : is_joined c ≡ false → step_at c area at ≡ Step.End → Counted c (frame c area) n
+    pub counting-end : is_joined c ≡ false → step_at c area at ≡ Ok Step.End → Counted c (frame c area) n
     counting-end j e =
         let of : Bool → List ℕ → Yield = λ t b. cond t (joined_yield b) (alone c b) in
         subst⁻¹ (λ (f : Framed). Counted c f n) (walked_end c area g.walked e)
         (subst⁻¹ (λ (t : Bool). n ≡ discarded_in (map (of t) (cond t (joined g.bodies) g.bodies))) j g.counted)
 
-    pub counting-fault : step_at c area at ≡ Step.Fault → Counted c (frame c area) n
+    pub counting-fault : {r : Refusal} → step_at c area at ≡ Err r → Counted c (frame c area) n
     counting-fault e = subst⁻¹ (λ (f : Framed). Counted c f n) (walked-fault c area g.walked e) tt
 
 -- ---- carrier 1
@@ -179,22 +180,22 @@ counted-joined c area n =
     (λ t h. h) (λ c e t h. let z : ◌≡◌ {A = ℕ} 0 1 = cc in absurd (omega arith)) c
 
 -- what is found is an own option, or an area that cannot be framed
-pub found_some : (area : List ℕ) (f : Framed) (found : Gathered) → (found ≡ Absent → ⊥) → Tells area f found → Some f
-found_some area f Broken n t = λ z. absurd (omega (arith, t.0))
-found_some area f Absent n t = absurd (n refl)
-found_some area f (One start end) n t = λ _. omega (arith, ap length t.2.1)
-found_some area f (Many from) n t = λ z. omega (arith, t.2 z)
+pub found_some : (area : List ℕ) (f : Framed) (found : Result Gathered Refusal) → (found ≡ Ok Absent → ⊥) → Tells area f found → Some f
+found_some area f (Err r) n t = λ z. absurd (omega (arith, t.0, z, refusal-some r))
+found_some area f (Ok Absent) n t = absurd (n refl)
+found_some area f (Ok (One start end)) n t = λ _. omega (arith, ap length t.2.1)
+found_some area f (Ok (Many from)) n t = λ z. omega (arith, t.2 z)
 
 -- without an own option there is no block
-pub counted-absent : (area : List ℕ) (f : Framed) → Tells area f Absent → Counted Dhcp4 f 0
+pub counted-absent : (area : List ℕ) (f : Framed) → Tells area f (Ok Absent) → Counted Dhcp4 f 0
 counted-absent area fault t = tt
 counted-absent area (framed bs) t = ap (λ (l : List (List ℕ)). discarded_in (map (yield_of Dhcp4) (joined l))) (sym t.1)
 
 module _ (area l l' : List ℕ) where
-  pub counted-broken : (n : ℕ) → Joins (frame Dhcp4 area) l Joined.Broken l' → Counted Dhcp4 (frame Dhcp4 area) n
-  counted-broken n j = subst⁻¹ (λ (f : Framed). Counted Dhcp4 f n) (joins-broken (frame Dhcp4 area) l l' j) tt
+  pub counted-broken : (n : ℕ) {r : Refusal} → Joins (frame Dhcp4 area) l (Err r) l' → Counted Dhcp4 (frame Dhcp4 area) n
+  counted-broken n j = subst⁻¹ (λ (f : Framed). Counted Dhcp4 f n) (joins-broken (frame Dhcp4 area) l l' j).0 tt
 
-  module _ {k : ℕ} (j : Joins (frame Dhcp4 area) l (Joined.Whole k) l') where
+  module _ {k : ℕ} (j : Joins (frame Dhcp4 area) l (Ok k) l') where
     wrote : (bs : List (List ℕ)) × (frame Dhcp4 area ≡ framed bs) × Wrote 0 (flat bs) l k l'
     wrote = joins-whole (frame Dhcp4 area) l l' k j
 

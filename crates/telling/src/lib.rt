@@ -10,203 +10,165 @@ ghost use Rattle.carriers.specs.Carriers.{is_joined};
 ghost use Rattle.frames.specs.Frame.{frame};
 ghost use Rattle.telling.specs.Discarded.{discards_body, discards_joined, Counted, Some};
 
-use blocks::Places;
 use carriers::Carrier;
-use files::{System, messages};
-use findings::Trouble;
-use frames::{Gathered, Joined, Step};
+use files::{System, Voice};
+use findings::{Finding, Lengths};
+use frames::{Gathered, Step};
 use lines::listed::Discard;
 use numbers::Limit;
 use octets::get16;
 
-// Where in the area octet i of the blocks' octets stands: in carrier 1, of the joined data, else of the area itself.
-fn octet(c: Carrier, area: &[u8], i: usize) -> usize
-    requires { i ≤ length area.now }
-{
-    let f = c.facts();
-    if f.joined {
-        return findings::place(area, i);
-    }
-    i
+// Tells what is left out of an area under a carrier.
+#[derive(Drop)]
+struct Teller<'a, R> {
+    voice: Voice<'a, R>,
+    carrier: Carrier,
+    area: &'a [u8],
 }
 
-// Says that block k is discarded.
-fn tell_discarded<R: System>(rt: &R, json: bool, name: &[u8], k: usize, octet: usize, t: Trouble) {
-    let d = Discard {
-        block: k,
-        octet,
-        fault: t.fault,
-        reason: t.reason,
-        key: t.key,
-    };
-    messages::discarded(rt, json, name, d);
-}
-
-// Says which of some addresses are dropped. They are of block k, and begin at `start`.
-fn tell_addresses<R: System>(
-    rt: &R,
-    json: bool,
-    name: &[u8],
-    c: Carrier,
-    area: &[u8],
-    k: usize,
-    start: usize,
-    s: &[u8],
-)
-    requires { start + length s.now ≤ length area.now }
-{
-    let w = c.address_width();
-    let mut at: usize = 0;
-    while w <= s.len() - at {
-        let next = at + w;
-        let a = &s[at..next];
-        if addresses::dropped(w, a) {
-            messages::dropped(rt, json, name, k, octet(c, area, start + at), a);
+impl<R: System> Teller<'_, R> {
+    // Where in the area octet i of the blocks' octets stands: in carrier 1, of the joined data, else of the area itself.
+    fn octet(&self, i: usize) -> usize
+        requires { i ≤ length self.now.area.now }
+    {
+        let f = self.carrier.facts();
+        if f.joined {
+            return findings::place(self.area, i);
         }
-        at = next;
+        i
     }
-}
 
-// Says which addresses of a body are dropped. The body is of block k, and begins at `start`.
-fn tell_dropped<R: System>(
-    rt: &R,
-    json: bool,
-    name: &[u8],
-    c: Carrier,
-    area: &[u8],
-    k: usize,
-    start: usize,
-    body: &[u8],
-)
-    requires { start + length body.now ≤ length area.now }
-{
-    match blocks::split(c, body) {
-        Places::Full {
-            addresses,
-            alen,
-            ..
-        } => {
-            let end = addresses + alen;
-            let from = start + addresses;
-            tell_addresses(rt, json, name, c, area, k, from, &body[addresses..end]);
+    // That block k is discarded.
+    fn discarded(&self, k: usize, octet: usize, t: Finding) {
+        self.voice.discarded(Discard {
+            block: k,
+            octet,
+            fault: t.fault,
+            reason: t.reason,
+            key: t.key,
+        });
+    }
+
+    // Which of some addresses are dropped. They are of block k, and begin at `start`.
+    fn addresses(&self, k: usize, start: usize, s: &[u8])
+        requires { start + length s.now ≤ length self.now.area.now }
+    {
+        let w = self.carrier.address_width();
+        let mut rest = s;
+        while let Some((a, more)) = rest.split_at_checked(w) {
+            if addresses::dropped(w, a) {
+                let octet = self.octet(start + (s.len() - rest.len()));
+                self.voice.dropped(k, octet, a);
+            }
+            rest = more;
         }
-        Places::NameOnly { .. } => {}
-        Places::Bad { .. } => {}
     }
-}
 
-// Carriers 2 to 5: the body of block k, which begins at `start`. Returns 1 where it is discarded, else 0.
-fn tell_block<R: System>(
-    rt: &R,
-    json: bool,
-    name: &[u8],
-    c: Carrier,
-    area: &[u8],
-    k: usize,
-    start: usize,
-    body: &[u8],
-) -> usize
-    requires { start + length body.now ≤ length area.now }
-    ensures { result ≡ discards_body c body.now }
-{
-    let t = findings::examine(c, body);
-    if t.fault != 0 {
-        tell_discarded(rt, json, name, k, start + t.at, t);
-        return 1;
-    }
-    tell_dropped(rt, json, name, c, area, k, start, body);
-    0
-}
-
-// Carriers 2 to 5: the blocks one after another. Returns how many are discarded.
-fn list_blocks<R: System>(rt: &R, json: bool, name: &[u8], c: Carrier, area: &[u8]) -> usize
-    requires { is_joined c ≡ false }
-    ensures { Counted c (frame c area.now) result }
-{
-    let mut at: usize = 0;
-    let mut k: usize = 0;
-    let mut n: usize = 0;
-    loop {
-        match frames::next_block(c, area, at) {
-            Step::Block { start, end } => {
-                k += 1;
-                n += tell_block(rt, json, name, c, area, k, start, &area[start..end]);
-                at = end;
-            }
-            Step::Skipped { end } => {
-                at = end;
-            }
-            Step::End => {
-                return n;
-            }
-            Step::Fault => {
-                return n;
+    // Which addresses of a body are dropped. The body is of block k, and begins at `start`.
+    fn dropped(&self, k: usize, start: usize, body: &[u8])
+        requires { start + length body.now ≤ length self.now.area.now }
+    {
+        if let Ok(parts) = blocks::split(self.carrier, body) {
+            if parts.head.full {
+                let at = Lengths::of(self.carrier, parts).addresses_at();
+                self.addresses(k, start + at, parts.addresses);
             }
         }
     }
-}
 
-// Carrier 1: the instances of joined data without a fault.
-fn list_instances<R: System>(rt: &R, json: bool, name: &[u8], area: &[u8], joined: &[u8])
-    requires { length joined.now ≤ length area.now }
-{
-    let mut at: usize = 0;
-    while 2 <= joined.len() - at {
-        let start = at + 2;
-        let long = get16(joined, at);
-        if joined.len() - start < long {
-            return;
+    // Carriers 2 to 5: the body of block k, which begins at `start`. Returns 1 where it is discarded, else 0.
+    fn block(&self, k: usize, start: usize, body: &[u8]) -> usize
+        requires { start + length body.now ≤ length self.now.area.now }
+        ensures { result ≡ discards_body self.now.carrier body.now }
+    {
+        if let Err(t) = findings::examine(self.carrier, body) {
+            self.discarded(k, start + t.at, t);
+            return 1;
         }
-        let end = start + long;
-        tell_dropped(
-            rt,
-            json,
-            name,
-            Carrier::Dhcp4,
-            area,
-            1,
-            start,
-            &joined[start..end],
-        );
-        at = end;
+        self.dropped(k, start, body);
+        0
     }
-}
 
-// Carrier 1: the one block of joined data. Returns 1 where it is discarded, else 0.
-fn tell_joined<R: System>(rt: &R, json: bool, name: &[u8], area: &[u8], joined: &[u8]) -> usize
-    requires { length joined.now ≤ length area.now }
-    ensures { result ≡ discards_joined joined.now }
-{
-    let t = findings::examine_joined(joined);
-    if t.fault != 0 {
-        tell_discarded(rt, json, name, 1, findings::place(area, t.at), t);
-        return 1;
+    // Carriers 2 to 5: the blocks one after another. Returns how many are discarded.
+    fn blocks(&self) -> usize
+        requires { is_joined self.now.carrier ≡ false }
+        ensures { Counted self.now.carrier (frame self.now.carrier self.now.area.now) result }
+    {
+        let mut at: usize = 0;
+        let mut k: usize = 0;
+        let mut n: usize = 0;
+        loop {
+            match frames::next_block(self.carrier, self.area, at) {
+                Ok(Step::Block { start, end }) => {
+                    k += 1;
+                    n += self.block(k, start, &self.area[start..end]);
+                    at = end;
+                }
+                Ok(Step::Skipped { end }) => {
+                    at = end;
+                }
+                Ok(Step::End) => {
+                    return n;
+                }
+                Err(_) => {
+                    return n;
+                }
+            }
+        }
     }
-    list_instances(rt, json, name, area, joined);
-    0
-}
 
-// Carrier 1, of an area with an own option, with room for the joined data. Returns how many blocks are discarded.
-fn list_within<R: System>(rt: &R, json: bool, name: &[u8], area: &[u8], buffer: &mut [u8]) -> usize
-    requires { (length area.now ≤ length buffer.old) × Some (frame Dhcp4 area.now) }
-    ensures { Counted Dhcp4 (frame Dhcp4 area.now) result }
-{
-    match frames::join(area, buffer) {
-        Joined::Broken => 0,
-        Joined::Whole(n) => tell_joined(rt, json, name, area, &buffer[..n]),
+    // Carrier 1: the instances of joined data without a fault. (By an index, as an instance says where the next begins, and its place is told.)
+    fn instances(&self, joined: &[u8])
+        requires { length joined.now ≤ length self.now.area.now }
+    {
+        let mut at: usize = 0;
+        while 2 <= joined.len() - at {
+            let start = at + 2;
+            let long = get16(joined, at);
+            if joined.len() - start < long {
+                return;
+            }
+            let end = start + long;
+            self.dropped(1, start, &joined[start..end]);
+            at = end;
+        }
     }
-}
 
-// Carrier 1: without an own option there is no block, and else one. Returns how many blocks are discarded.
-fn list_joined<R: System>(rt: &R, json: bool, name: &[u8], area: &[u8]) -> usize
-    requires { length area.now ≤ limit.input }
-    ensures { Counted Dhcp4 (frame Dhcp4 area.now) result }
-{
-    if let Gathered::Absent = frames::gather(area) {
-        return 0;
+    // Carrier 1: the one block of joined data. Returns 1 where it is discarded, else 0.
+    fn joined(&self, joined: &[u8]) -> usize
+        requires { length joined.now ≤ length self.now.area.now }
+        ensures { result ≡ discards_joined joined.now }
+    {
+        if let Err(t) = findings::examine_joined(joined) {
+            self.discarded(1, findings::place(self.area, t.at), t);
+            return 1;
+        }
+        self.instances(joined);
+        0
     }
-    let mut buffer = [0u8; Limit::INPUT];
-    list_within(rt, json, name, area, &mut buffer)
+
+    // Carrier 1, of an area with an own option, with room for the joined data. Returns how many blocks are discarded.
+    fn within(&self, buffer: &mut [u8]) -> usize
+        requires { (length self.now.area.now ≤ length buffer.old) × Some (frame Dhcp4 self.now.area.now) }
+        ensures { Counted Dhcp4 (frame Dhcp4 self.now.area.now) result }
+    {
+        match frames::join(self.area, buffer) {
+            Ok(n) => self.joined(&buffer[..n]),
+            Err(_) => 0,
+        }
+    }
+
+    // Carrier 1: without an own option there is no block, and else one. Returns how many blocks are discarded.
+    fn gathered(&self) -> usize
+        requires { length self.now.area.now ≤ limit.input }
+        ensures { Counted Dhcp4 (frame Dhcp4 self.now.area.now) result }
+    {
+        if let Ok(Gathered::Absent) = frames::gather(self.area) {
+            return 0;
+        }
+        let mut buffer = [0u8; Limit::INPUT];
+        self.within(&mut buffer)
+    }
 }
 
 // Lists what is left out of an area that can be read. Returns how many blocks are discarded.
@@ -216,9 +178,14 @@ pub fn list<R: System>(rt: &R, json: bool, name: &[u8], c: Carrier, area: &[u8])
     if Limit::INPUT < area.len() {
         return 0;
     }
+    let teller = Teller {
+        voice: Voice { rt, json, name },
+        carrier: c,
+        area,
+    };
     let f = c.facts();
     if f.joined {
-        return list_joined(rt, json, name, area);
+        return teller.gathered();
     }
-    list_blocks(rt, json, name, c, area)
+    teller.blocks()
 }

@@ -1,7 +1,6 @@
 -- `text_check` takes each text. Assumes nothing.
-use Rattle.std.specs.Prelude.{◌≡◌, refl, List, [], ◌∷◌, ◌++◌, true, false, ℕ, suc, ◌+◌, ◌-◌, ◌≤◌, length}
+use Rattle.std.specs.Prelude.{◌≡◌, refl, List, [], ◌∷◌, ◌++◌, true, false, ℕ, suc, ◌+◌, ◌-◌, ◌≤◌, length, Ok}
 use Rattle.std.proofs.Common.{sym, ap, ◌∙◌, inl, inr, append-nil, arith, length-append}
-use Rattle.names.specs.declared.Name.TheVariants.{Good}
 use Rattle.octets.specs.Lists.{All}
 use Rattle.names.specs.Names.{alnum, last, Ldh, Label}
 use Rattle.names.specs.Complete.{hyphen-not-alnum, both, not_last}
@@ -75,7 +74,7 @@ dotted-some l [] o = o.some
 dotted-some l (m ∷ ms) o = let a = length-append l (46 ∷ dotted m ms) in omega arith
 
 dotted-good : (ms : List (List ℕ)) (l : List ℕ) (at : ℕ) → Label l → All Label ms → at + length (dotted l ms) ≤ 253
-    → walk text_automaton start at (dotted l ms) ≡ Good
+    → walk text_automaton start at (dotted l ms) ≡ Ok tt
 dotted-good [] l at o p h = ap (walk text_automaton start at) (sym (append-nil l)) ∙ one_label l at [] o h ∙ ends-good text_automaton (letter _) _ refl
 dotted-good (m ∷ ms) l at o p h =
     let a = length-append l (46 ∷ dotted m ms) in
@@ -86,11 +85,11 @@ dotted-good (m ∷ ms) l at o p h =
     ∙ goes text_automaton (letter k) j 46 (dotted m ms) (inside-other k 46 (dot j 46) dot-not-alnum (λ q. omega arith) ∙ dot-goes j 46 refl (omega arith))
     ∙ dotted-good ms m (j + 1) p.0 p.1 (omega arith)
 
-text-good : (ls : List (List ℕ)) → 1 ≤ length ls → All Label ls → length (text ls) ≤ 253 → walk text_automaton start 0 (text ls) ≡ Good
+text-good : (ls : List (List ℕ)) → 1 ≤ length ls → All Label ls → length (text ls) ≤ 253 → walk text_automaton start 0 (text ls) ≡ Ok tt
 text-good [] n o h = absurd (omega arith)
 text-good (l ∷ ls) n o h = dotted-good ls l 0 o.0 o.1 (omega arith)
 
-pub good-complete : (s : List ℕ) → IsText s → text_check s ≡ Good
+pub good-complete : (s : List ℕ) → IsText s → text_check s ≡ Ok tt
 unfolding text_check
 good-complete s o =
     let h = o.short in

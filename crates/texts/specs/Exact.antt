@@ -1,9 +1,8 @@
--- `text_check` says `Good` of the texts and of nothing else, and `Bad p` exactly where p is the first bad place; and it never looks past
+-- `text_check` says `Ok` of the texts and of nothing else, and `Err p` exactly where p is the first bad place; and it never looks past
 -- the first 254 octets. Assumes nothing.
-use Rattle.std.specs.Prelude.{◌≡◌, ◌↔◌, List, ℕ, ◌≤◌, ◌<◌, min, leb, length, take}
+use Rattle.std.specs.Prelude.{◌≡◌, ◌↔◌, List, ℕ, ◌≤◌, ◌<◌, min, leb, length, take, Ok, Err}
 use Rattle.std.proofs.Common.{ap, arith, take_all, leb-true, leb-false}
 use Rattle.octets.specs.Cases.{by-test}
-use Rattle.names.specs.declared.Name.TheVariants.{Good, Bad}
 use Rattle.names.specs.Names.{FirstBad}
 use Rattle.names.specs.Exactness as exactness
 use Rattle.texts.specs.Texts.{IsText}
@@ -13,14 +12,14 @@ use Rattle.texts.specs.Complete.{good-complete}
 use Rattle.texts.specs.Place.{bad-stops}
 
 module _ (s : List ℕ) where
-  pub good : (text_check s ≡ Good) ↔ IsText s
+  pub good : (text_check s ≡ Ok tt) ↔ IsText s
   good = (good-sound s, good-complete s)
 
-  pub bad : (p : ℕ) → (text_check s ≡ Bad p) ↔ FirstBad IsText s p
+  pub bad : (p : ℕ) → (text_check s ≡ Err p) ↔ FirstBad IsText s p
   unfolding text_check
   bad = exactness.bad text_automaton start IsText good-sound good-complete bad-stops s
 
-  pub place-small : (p : ℕ) → text_check s ≡ Bad p → p ≤ 253
+  pub place-small : (p : ℕ) → text_check s ≡ Err p → p ≤ 253
   unfolding text_check
   place-small = exactness.place-small text_automaton start IsText good-sound good-complete bad-stops 253 (λ _ o. o.short) s
 

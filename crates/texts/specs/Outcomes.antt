@@ -1,11 +1,9 @@
 -- What the walk answers with so many of the first n octets of l left, one law for each way through a step, in the form in which the code's
 -- returns ask it. Assumes nothing.
-use Rattle.std.specs.Prelude.{◌≡◌, refl, List, [], ◌∷◌, true, false, ℕ, ◌+◌, ◌-◌, ◌≤◌, ◌<◌, min, length, get_or}
+use Rattle.std.specs.Prelude.{◌≡◌, refl, List, [], ◌∷◌, true, false, ℕ, ◌+◌, ◌-◌, ◌≤◌, ◌<◌, min, length, get_or, Err}
 use Rattle.std.proofs.Common.{sym, ap, ◌∙◌, arith}
-use Rattle.names.specs.declared.Name.{Name}
-use Rattle.names.specs.declared.Name.TheVariants.{Bad}
 use Rattle.names.specs.Names.{alnum}
-use Rattle.names.specs.Automaton.{stop}
+use Rattle.names.specs.Automaton.{stop, Checked}
 use Rattle.names.specs.AutomatonLaws as laws
 use Rattle.names.specs.Answered.{past, placed, named, answer_in}
 use Rattle.names.specs.AnsweredLaws.{cut_short, ends_there, stops, goes, whole, named_back}
@@ -90,18 +88,18 @@ module _ (l : List ℕ) (n : ℕ) (f : n ≤ length l) (left label : ℕ) where
 
 -- ---- the whole check
 
-pub no-octet : (s : List ℕ) → length s ≡ 0 → Bad 0 ≡ text_check s
+pub no-octet : (s : List ℕ) → length s ≡ 0 → Err 0 ≡ text_check s
 unfolding text_check
 no-octet [] e = sym (laws.ends-bad text_automaton start 0 refl)
 no-octet (y ∷ ys) e = absurd (omega arith)
 
-pub first-other : (s : List ℕ) → (length s ≡ 0 → ⊥) → alnum (get_or s 0 0) ≡ false → Bad 0 ≡ text_check s
+pub first-other : (s : List ℕ) → (length s ≡ 0 → ⊥) → alnum (get_or s 0 0) ≡ false → Err 0 ≡ text_check s
 unfolding text_check
 first-other [] n a = absurd (n refl)
 first-other (y ∷ ys) n a = sym (laws.stops text_automaton start 0 y ys (start-other 0 y a))
 
 -- the walk from the second octet on, of the octets that decide
-pub by_first : (s : List ℕ) (n : ℕ) {r : ℕ} {a : Name} → (length s ≡ 0 → ⊥) → alnum (get_or s 0 0) ≡ true → n ≡ min 254 (length s)
+pub by_first : (s : List ℕ) (n : ℕ) {r : ℕ} {a : Checked} → (length s ≡ 0 → ⊥) → alnum (get_or s 0 0) ≡ true → n ≡ min 254 (length s)
     → r ≡ answer_in text_automaton s n (letter 62) (n - 1) → a ≡ named r → a ≡ text_check s
 unfolding text_check
 by_first s n h b e g q =
@@ -109,5 +107,5 @@ by_first s n h b e g q =
     let first = goes text_automaton s n (omega arith) n start (omega arith) (omega arith) {st' = letter 62} (rw z (start-letter 0 (get_or s 0 0) b)) in
     q
     ∙ ap named (g ∙ sym first ∙ whole text_automaton s n start)
-    ∙ ap (λ (w : Name). named (placed w)) (decided s n e)
+    ∙ ap (λ (w : Checked). named (placed w)) (decided s n e)
     ∙ named_back (text_check s) (λ p k. let m = place-small s p k in omega arith)

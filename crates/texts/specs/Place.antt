@@ -1,7 +1,6 @@
 -- Wherever the check of a text stops, something else could follow: nothing after a letter or a digit, else the letter a. Assumes nothing.
-use Rattle.std.specs.Prelude.{◌≡◌, refl, List, [], ◌∷◌, ℕ, ◌+◌, ◌-◌}
+use Rattle.std.specs.Prelude.{◌≡◌, refl, List, [], ◌∷◌, ℕ, ◌+◌, ◌-◌, Err}
 use Rattle.std.proofs.Common.{◌∙◌, arith}
-use Rattle.names.specs.declared.Name.TheVariants.{Bad}
 use Rattle.names.specs.Place.{a-alnum}
 use Rattle.names.specs.Automaton.{stop}
 use Rattle.names.specs.AutomatonLaws.{goes, ends-good, Ending, StopsAt, stopped}
@@ -17,6 +16,6 @@ ending (hyphen k) y at v = (
   goes text_automaton (hyphen k) at 97 [] (inside-letter k 97 stop a-alnum (omega arith)) ∙ ends-good text_automaton (letter (k - 1)) (at + 1) refl,
 )
 
-pub bad-stops : (s : List ℕ) (p : ℕ) → text_check s ≡ Bad p → StopsAt text_automaton start 0 s p
+pub bad-stops : (s : List ℕ) (p : ℕ) → text_check s ≡ Err p → StopsAt text_automaton start 0 s p
 unfolding text_check
 bad-stops s p e = stopped text_automaton Valid Claim stepped ending s start 0 0 p (omega arith) e

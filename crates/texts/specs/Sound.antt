@@ -1,7 +1,6 @@
 -- What `text_check` takes is a text. Assumes nothing.
-use Rattle.std.specs.Prelude.{◌≡◌, refl, List, [], ◌∷◌, true, ℕ, ◌+◌, ◌-◌, ◌≤◌, length}
+use Rattle.std.specs.Prelude.{◌≡◌, refl, List, [], ◌∷◌, true, ℕ, ◌+◌, ◌-◌, ◌≤◌, length, Ok}
 use Rattle.std.proofs.Common.{ap, ◌∙◌, inl, inr, arith}
-use Rattle.names.specs.declared.Name.TheVariants.{Good}
 use Rattle.octets.specs.Lists.{All}
 use Rattle.names.specs.Names.{alnum, last, Ldh, Label}
 use Rattle.texts.specs.Texts.{dotted, IsText}
@@ -123,7 +122,7 @@ at_end start y at v e = let z : ◌≡◌ {A = ℕ} 0 1 = cc in absurd (omega ar
 at_end (letter k) y at v e = ending y k at v.0 (omega arith)
 at_end (hyphen k) y at v e = let z : ◌≡◌ {A = ℕ} 0 1 = cc in absurd (omega arith)
 
-pub good-sound : (s : List ℕ) → text_check s ≡ Good → IsText s
+pub good-sound : (s : List ℕ) → text_check s ≡ Ok tt → IsText s
 unfolding text_check
 good-sound s e =
     let r : Labels 0 s = taken text_automaton Valid Claim stepped at_end s start 0 0 (omega arith) e in

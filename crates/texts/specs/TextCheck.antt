@@ -1,8 +1,7 @@
 -- The check of a name as text (RULES N2, N4). Assumes nothing: these are definitions.
 use Rattle.std.specs.Prelude.{Bool, true, false, cond, List, ℕ, ◌-◌, min, leb, eqb}
-use Rattle.names.specs.declared.Name.{Name}
 use Rattle.names.specs.Names.{alnum}
-use Rattle.names.specs.Automaton.{Move, stop, go, Automaton, walk}
+use Rattle.names.specs.Automaton.{Move, stop, go, Automaton, walk, Checked}
 
 -- where in a text the next octet stands
 pub data State : Type 0 where
@@ -41,5 +40,5 @@ ended (hyphen left) = false
 abbrev pub text_automaton : Automaton State
 text_automaton = record { ends = ended; step = step }
 
-unfoldable pub text_check : List ℕ → Name
+unfoldable pub text_check : List ℕ → Checked
 text_check s = walk text_automaton start 0 s

@@ -11,18 +11,20 @@ ghost use Rattle.texts.specs.Texts.{wire_of, text_of};
 ghost use Rattle.texts.specs.TextCheck.{text_check, text_automaton, letter, hyphen, after};
 ghost use Rattle.texts.specs.Right.{Right};
 
-use names::{GOOD, Name};
-use octets::lesser;
+use names::GOOD;
 
 // A label has at most 63 octets: so many after its first.
 const REST: usize = 62;
+
+// So many octets decide: the 254th is never good, whatever follows.
+const DECIDING: usize = 254;
 
 // How many octets a label may have after its first at `at`, within the text's 253.
 fn left_after(at: usize) -> usize
     requires { at ≤ 252 }
     ensures { result ≡ after at }
 {
-    lesser(REST, 252 - at)
+    REST.min(252 - at)
 }
 
 // The place at which the first n octets of `text` stop being a name, or GOOD: after a letter or a digit of a label that may have `label`
@@ -92,18 +94,17 @@ fn after_hyphen(text: &&[u8], n: usize, left: usize, label: usize) -> usize
 }
 
 // Whether s is a name as text, filling s exactly, and the first bad place if it is not.
-pub fn check_text(s: &[u8]) -> Name
+pub fn check_text(s: &[u8]) -> Result<(), usize>
     ensures value { result ≡ text_check s.now }
     ensures right { Right s.now result }
 {
-    if s.len() == 0 {
-        return Name::Bad(0);
+    let [first, ..] = s else {
+        return Err(0);
+    };
+    if !names::is_alnum(*first) {
+        return Err(0);
     }
-    if !names::is_alnum(s[0]) {
-        return Name::Bad(0);
-    }
-    // the 254th octet is never good, whatever follows
-    let n = lesser(254, s.len());
+    let n = DECIDING.min(s.len());
     let text = &s[..];
     names::name_of(after_letter(&text, n, n - 1, REST))
 }
@@ -116,11 +117,9 @@ pub fn to_wire(out: &mut [u8], at: usize, text: &[u8]) -> usize
 {
     let n = text.len();
     let first = at + 1;
-    let mut i = n;
     let mut label: u8 = 0;
     out[first + n] = 0;
-    while 0 < i {
-        i -= 1;
+    for i in (0..n).rev() {
         let b = text[i];
         if b == b'.' {
             out[first + i] = label;
@@ -140,12 +139,10 @@ pub fn to_text(out: &mut [u8], at: usize, wire: &[u8]) -> usize
     ensures { Wrote at (text_of wire.now) out.old result out.new }
 {
     let n = wire.len() - 2;
-    let mut i = 0;
     let mut left = wire[0];
-    while i < n {
+    for i in 0..n {
         let place = at + i;
-        i += 1;
-        let b = wire[i];
+        let b = wire[i + 1];
         if left == 0 {
             out[place] = b'.';
             left = b;

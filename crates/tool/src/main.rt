@@ -3,17 +3,19 @@
 
 ghost use Rattle.std.specs.Prelude.{◌≡◌, pos};
 ghost use Rattle.std.specs.Process.{exit_status};
-ghost use Rattle.files.specs.Status.{Exited};
+ghost use Rattle.files.specs.Status.{Exited, status_of};
 
-use files::System;
+use files::{Stop, System};
 use std::process::ExitCode;
 
-// An answer of the command as an exit status.
-fn status(answer: i32) -> ExitCode
-    requires { Exited answer }
-    ensures { pos (exit_status result) ≡ answer }
+// How the command ends as an exit status.
+fn status(answer: Result<(), Stop>) -> ExitCode
+    ensures { pos (exit_status result) ≡ status_of answer }
 {
-    ExitCode::from(answer as u8)
+    match answer {
+        Ok(()) => ExitCode::SUCCESS,
+        Err(stop) => ExitCode::from(stop.number()),
+    }
 }
 
 // Runs the command.

@@ -1,36 +1,33 @@
--- The strings of a value, each after its length octet, as a loop meets them from an index on. Assumes nothing.
+-- The strings of a value, each after its length octet, as a loop meets them at the front of what is left. Assumes nothing.
 use Rattle.std.specs.Prelude.{◌≡◌, refl, Bool, get_or}
 use Rattle.std.proofs.Math.Path.{ap}
-use Rattle.std.proofs.Common.{◌∙◌, add-one, drop_of_length-le, drop-cons, drop-drop}
+use Rattle.std.proofs.Common.{◌∙◌, arith, drop_of_length-le, drop-cons}
 use Rattle.std.proofs.Math.Bool.{cond}
 use mathlib.Core.List.{List, [], ◌∷◌}
-use Prim.Native.Nat.{ℕ, ◌+◌, ◌-◌, ◌≤◌, ◌<◌}
-use Rattle.std.proofs.Math.Nat.{add-sub_cancel_left}
-use Rattle.std.proofs.Math.ListN.{length, take, drop, length-drop}
+use Prim.Native.Nat.{ℕ, ◌-◌, ◌≤◌, ◌<◌}
+use Rattle.std.proofs.Math.ListN.{length, take, drop}
 use borrow.Author.Tests.{lt-ltb, le-ltb}
-use Rattle.octets.specs.ListsLaws.{skip-any}
+use Rattle.octets.specs.ListsLaws.{skip-any, take_rest}
 use Rattle.values.specs.Values.{strings_from}
 
-pub strings-end : (s : List ℕ) (i : ℕ) → i ≤ length s → length s ≤ i → strings_from 0 (drop i s) ≡ []
+pub strings-end : (s : List ℕ) → length s < 1 → strings_from 0 s ≡ []
 unfolding strings_from
-strings-end s i h k = ap (strings_from 0) (drop_of_length-le s k)
+strings-end s h = ap (strings_from 0) (drop_of_length-le s {i = 0} (omega arith))
 
-module _ (s : List ℕ) (i : ℕ) {n : ℕ} (h : i < length s) (e : n ≡ get_or s i 0) where
-  -- what stands at an index, and after it
-  here : strings_from 0 (drop i s) ≡ strings_from 0 (n ∷ drop (i + 1) s)
-  here = ap (strings_from 0) (rw (add-one, e) (drop-cons s i 0 h))
+-- t is what follows the length octet
+module _ (s : List ℕ) {n : ℕ} {t : List ℕ} (h : 1 ≤ length s) (e : n ≡ get_or s 0 0) (r : t ≡ take (length s - 1) (drop 1 s)) where
+  here : strings_from 0 s ≡ strings_from 0 (n ∷ t)
+  here = ap (strings_from 0) (rw (e, r, take_rest 1 s) (drop-cons s 0 0 h))
 
   -- the string does not stand whole
-  pub strings-short : length s - (i + 1) < n → strings_from 0 (drop i s) ≡ []
+  pub strings-short : length t < n → strings_from 0 s ≡ []
   unfolding strings_from
-  strings-short k = here ∙ simp (length-drop, lt-ltb _ _ k)
+  strings-short k = here ∙ simp (lt-ltb _ _ k)
 
-  pub strings-next : n ≤ length s - (i + 1) → strings_from 0 (drop i s) ≡ take (i + 1 + n - (i + 1)) (drop (i + 1) s) ∷ strings_from 0 (drop (i + 1 + n) s)
+  pub strings-next : {id others : List ℕ} → n ≤ length t → id ≡ take n t → others ≡ drop n t → strings_from 0 s ≡ id ∷ strings_from 0 others
   unfolding strings_from
-  strings-next k =
-      let t : List ℕ = drop (i + 1) s in
-      let fits : n ≤ length t = rw length-drop k in
-      rw add-sub_cancel_left
+  strings-next k p q =
+      rw (p, q)
       (here
-      ∙ ap (λ (b : Bool). cond b [] (take n t ∷ strings_from n t)) (le-ltb _ _ fits)
-      ∙ ap (λ (l : List (List ℕ)). take n t ∷ l) (skip-any strings_from (λ k x xs. refl) (λ k. refl) n t ∙ ap (strings_from 0) (drop-drop n (i + 1) s)))
+      ∙ ap (λ (b : Bool). cond b [] (take n t ∷ strings_from n t)) (le-ltb _ _ k)
+      ∙ ap (λ (l : List (List ℕ)). take n t ∷ l) (skip-any strings_from (λ k x xs. refl) (λ k. refl) n t))

@@ -9,7 +9,7 @@ ghost use Rattle.values.specs.Values.{code_of, escaped_of, value_of, quoted, bra
 
 use carriers::Carrier;
 use chars::{put, put_all, put_number};
-use octets::{get16, lesser, wide};
+use octets::wide16;
 use svcparams::Key;
 
 // The key of the template of DNS over HTTPS (RFC 9461 §5).
@@ -38,7 +38,7 @@ pub fn put_json(out: &mut [u8], at: usize, json: bool, a: &[u8]) -> usize
     if json {
         return put_all(out, at, a);
     }
-    lesser(at, out.len())
+    at.min(out.len())
 }
 
 // Writes the octet `b` in JSON, and else nothing.
@@ -48,7 +48,7 @@ pub fn put_mark(out: &mut [u8], at: usize, json: bool, b: u8) -> usize
     if json {
         return put(out, at, b);
     }
-    lesser(at, out.len())
+    at.min(out.len())
 }
 
 // ---- octets of a value
@@ -67,33 +67,22 @@ fn put_code(out: &mut [u8], at: usize, json: bool, b: u8) -> usize
 fn put_escaped(out: &mut [u8], at: usize, json: bool, b: u8) -> usize
     ensures { Puts at (escaped_of json b) out.old result out.new }
 {
-    if b <= b' ' {
-        return put_code(out, at, json, b);
+    match b {
+        b'\\' => put_either(out, at, json, b"\\\\\\\\", b"\\\\"),
+        b'"' => put_either(out, at, json, b"\\\\\\\"", b"\\\""),
+        b',' => put_either(out, at, json, b"\\\\,", b"\\,"),
+        _ if b.is_ascii_graphic() => put(out, at, b),
+        _ => put_code(out, at, json, b),
     }
-    if b'~' < b {
-        return put_code(out, at, json, b);
-    }
-    if b == b'\\' {
-        return put_either(out, at, json, b"\\\\\\\\", b"\\\\");
-    }
-    if b == b'"' {
-        return put_either(out, at, json, b"\\\\\\\"", b"\\\"");
-    }
-    if b == b',' {
-        return put_either(out, at, json, b"\\\\,", b"\\,");
-    }
-    put(out, at, b)
 }
 
 // Writes the octets of a value.
 fn put_value(out: &mut [u8], at: usize, json: bool, s: &[u8]) -> usize
     ensures { Puts at (value_of json s.now) out.old result out.new }
 {
-    let mut o = lesser(at, out.len());
-    let mut i = 0;
-    while i < s.len() {
-        o = put_escaped(out, o, json, s[i]);
-        i += 1;
+    let mut o = at.min(out.len());
+    for &b in s {
+        o = put_escaped(out, o, json, b);
     }
     o
 }
@@ -114,7 +103,7 @@ pub fn put_comma(out: &mut [u8], at: usize, commas: bool, first: bool) -> usize
     ensures { Puts at (before_of commas first) out.old result out.new }
 {
     if first {
-        return lesser(at, out.len());
+        return at.min(out.len());
     }
     put_mark(out, at, commas, b',')
 }
@@ -123,23 +112,17 @@ pub fn put_comma(out: &mut [u8], at: usize, commas: bool, first: bool) -> usize
 pub fn put_key(out: &mut [u8], at: usize, key: usize) -> usize
     ensures { Puts at (key_of key) out.old result out.new }
 {
-    if key == Key::MANDATORY {
-        return put_all(out, at, b"mandatory");
+    match key {
+        Key::MANDATORY => put_all(out, at, b"mandatory"),
+        Key::ALPN => put_all(out, at, b"alpn"),
+        Key::NO_DEFAULT_ALPN => put_all(out, at, b"no-default-alpn"),
+        Key::PORT => put_all(out, at, b"port"),
+        DOHPATH => put_all(out, at, b"dohpath"),
+        _ => {
+            let next = put_all(out, at, b"key");
+            put_number(out, next, key)
+        }
     }
-    if key == Key::ALPN {
-        return put_all(out, at, b"alpn");
-    }
-    if key == Key::NO_DEFAULT_ALPN {
-        return put_all(out, at, b"no-default-alpn");
-    }
-    if key == Key::PORT {
-        return put_all(out, at, b"port");
-    }
-    if key == DOHPATH {
-        return put_all(out, at, b"dohpath");
-    }
-    let next = put_all(out, at, b"key");
-    put_number(out, next, key)
 }
 
 // Fills up the label of a key to its columns, with one blank at least; where no value follows, not. (How long the label is, is found in a buffer
@@ -148,7 +131,7 @@ fn put_gap(out: &mut [u8], at: usize, key: usize, size: usize) -> usize
     ensures { Puts at (gap_of key size) out.old result out.new }
 {
     if size == 0 {
-        return lesser(at, out.len());
+        return at.min(out.len());
     }
     let mut label = [0u8; COLUMNS - 1];
     let n = put_key(&mut label, 0, key);
@@ -187,11 +170,13 @@ fn put_key_item(out: &mut [u8], at: usize, json: bool, first: bool, key: usize) 
 fn put_key_items(out: &mut [u8], at: usize, json: bool, s: &[u8]) -> usize
     ensures { Puts at (keys_of json s.now) out.old result out.new }
 {
-    let mut o = lesser(at, out.len());
-    let mut i = 0;
-    while 2 <= s.len() - i {
-        o = put_key_item(out, o, json, i == 0, get16(s, i));
-        i += 2;
+    let mut o = at.min(out.len());
+    let mut first = true;
+    let mut left = s;
+    while let [upper, lower, rest @ ..] = left {
+        o = put_key_item(out, o, json, first, wide16(*upper, *lower));
+        first = false;
+        left = rest;
     }
     o
 }
@@ -217,17 +202,16 @@ fn put_protocol(out: &mut [u8], at: usize, json: bool, first: bool, id: &[u8]) -
 fn put_protocol_items(out: &mut [u8], at: usize, json: bool, s: &[u8]) -> usize
     ensures { Puts at (protocols_of json s.now) out.old result out.new }
 {
-    let mut o = lesser(at, out.len());
-    let mut i = 0;
-    while i < s.len() {
-        let start = i + 1;
-        let n = wide(s[i]);
-        if s.len() - start < n {
+    let mut o = at.min(out.len());
+    let mut first = true;
+    let mut left = s;
+    while let [n, rest @ ..] = left {
+        let Some((id, others)) = rest.split_at_checked(usize::from(*n)) else {
             return o;
-        }
-        let end = start + n;
-        o = put_protocol(out, o, json, i == 0, &s[start..end]);
-        i = end;
+        };
+        o = put_protocol(out, o, json, first, id);
+        first = false;
+        left = others;
     }
     o
 }
@@ -262,7 +246,7 @@ pub fn put_name(out: &mut [u8], at: usize, wire: &[u8]) -> usize
     ensures { Puts at (name_of wire.now) out.old result out.new }
 {
     if wire.len() < 2 {
-        return lesser(at, out.len());
+        return at.min(out.len());
     }
     let mut text = [0u8; 256];
     let n = texts::to_text(&mut text, 0, wire);
@@ -276,14 +260,14 @@ pub fn put_span(out: &mut [u8], at: usize, json: bool, lifetime: usize) -> usize
     if json {
         return put_number(out, at, lifetime);
     }
-    if lifetime == FOREVER {
-        return put_all(out, at, b"never expires");
+    match lifetime {
+        FOREVER => put_all(out, at, b"never expires"),
+        0 => put_all(out, at, b"0 s, no longer to be used"),
+        _ => {
+            let next = put_number(out, at, lifetime);
+            put_all(out, next, b" s")
+        }
     }
-    if lifetime == 0 {
-        return put_all(out, at, b"0 s, no longer to be used");
-    }
-    let next = put_number(out, at, lifetime);
-    put_all(out, next, b" s")
 }
 
 // Writes an address by its length.
@@ -299,5 +283,5 @@ pub fn put_address(out: &mut [u8], at: usize, a: &[u8]) -> usize
         let n = ips::put6(&mut text, 0, a);
         return put_all(out, at, &text[..n]);
     }
-    lesser(at, out.len())
+    at.min(out.len())
 }

@@ -1,8 +1,7 @@
 -- What the program answers to a line (host/README.md), as text. Assumes nothing: these are definitions.
-use Rattle.std.specs.Prelude.{cond, List, [], ◌∷◌, ◌++◌, ℕ, zero, suc, ltb, leb, eqb, length, get_or, take, drop}
+use Rattle.std.specs.Prelude.{cond, List, [], ◌∷◌, ◌++◌, ℕ, zero, suc, ltb, leb, eqb, length, get_or, take, drop, Ok, Err}
 use Rattle.octets.specs.Lists.{flat}
-use Rattle.names.specs.declared.Name.{Name}
-use Rattle.names.specs.declared.Name.TheVariants.{Good, Bad}
+use Rattle.names.specs.Automaton.{Checked}
 use Rattle.names.specs.Wire.{name_check}
 use Rattle.texts.specs.Texts.{text_of, wire_of}
 use Rattle.texts.specs.TextCheck.{text_check}
@@ -28,9 +27,9 @@ good_text form = ascii " ok" ++ hex_text form
 abbrev pub bad_text : ℕ → List ℕ
 bad_text place = ascii " bad" ++ number_text place
 
-abbrev pub name_text : List ℕ → Name → List ℕ
-name_text form Good = good_text form
-name_text form (Bad place) = bad_text place
+abbrev pub name_text : List ℕ → Checked → List ℕ
+name_text form (Ok tt) = good_text form
+name_text form (Err place) = bad_text place
 
 -- how many addresses of w octets are kept, whether one is dropped, and those that are kept
 abbrev pub drops_of : ℕ → List ℕ → ℕ

@@ -7,6 +7,7 @@
 ghost use Rattle.std.specs.Prelude.{◌≡◌, ◌+◌, ◌≤◌, length, drop, IfOk};
 ghost use Rattle.io.specs.Counts.{IsPrefixLen};
 ghost use Rattle.chars.specs.Puts.{Puts};
+ghost use Rattle.numbers.specs.Fault as fault;
 ghost use Rattle.names.specs.Names.{IsName};
 ghost use Rattle.names.specs.Wire.{name_check};
 ghost use Rattle.texts.specs.Texts.{IsText, text_of, wire_of};
@@ -18,8 +19,7 @@ ghost use Rattle.vectors.specs.Answers.{answer_text, case_text, letter_of, decod
 ghost use Rattle.vectors.specs.Answers as answers;
 
 use chars::{put, put_all, put_number};
-use hexes::Hex;
-use names::Name;
+use numbers::Fault;
 use std::io::Read;
 
 // Writes x in decimal, after a space.
@@ -34,8 +34,8 @@ fn put_decimal(out: &mut [u8], at: usize, x: usize) -> usize
 fn put_hex(out: &mut [u8], at: usize, s: &[u8]) -> usize
     ensures { Puts at (hex_text s.now) out.old result out.new }
 {
-    if s.len() == 0 {
-        return put_all(out, at, &s[..0]);
+    if s.is_empty() {
+        return put_all(out, at, b"");
     }
     let next = put(out, at, b' ');
     hexes::put_octets(out, next, s)
@@ -82,8 +82,8 @@ fn answer_wire(out: &mut [u8], at: usize, wire: &[u8]) -> usize
     ensures { Puts at (name_text (text_of wire.now) (name_check wire.now)) out.old result out.new }
 {
     match names::check_wire(wire) {
-        Name::Good => put_text(out, at, wire),
-        Name::Bad(place) => put_bad(out, at, place),
+        Ok(()) => put_text(out, at, wire),
+        Err(place) => put_bad(out, at, place),
     }
 }
 
@@ -92,8 +92,8 @@ fn answer_text(out: &mut [u8], at: usize, text: &[u8]) -> usize
     ensures { Puts at (name_text (wire_of text.now) (text_check text.now)) out.old result out.new }
 {
     match texts::check_text(text) {
-        Name::Good => put_wire(out, at, text),
-        Name::Bad(place) => put_bad(out, at, place),
+        Ok(()) => put_wire(out, at, text),
+        Err(place) => put_bad(out, at, place),
     }
 }
 
@@ -113,10 +113,7 @@ fn drops(w: usize, s: &[u8]) -> usize
     requires { Width w }
     ensures { result ≡ drops_of w s.now }
 {
-    if addresses::any_unusable(w, s) {
-        return 1;
-    }
-    0
+    usize::from(addresses::any_unusable(w, s))
 }
 
 // Writes the answer of a list of addresses of w octets: how many are kept, whether one is dropped, and those that are kept.
@@ -130,62 +127,50 @@ fn answer_addresses(out: &mut [u8], at: usize, w: usize, s: &[u8]) -> usize
     put_kept(out, from, w, s)
 }
 
+// The number of a field's fault, or 0.
+fn number_of(answer: Result<(), Fault>) -> usize
+    ensures { result ≡ fault.number_in answer }
+{
+    match answer {
+        Ok(()) => 0,
+        Err(fault) => fault.number(),
+    }
+}
+
 // Writes what follows the letter in the answer of a case; nothing after `?`.
+#[tactic(auto, unfolding(crate::specs::Answers::answer_text))]
 fn answer(out: &mut [u8], at: usize, letter: u8, s: &[u8]) -> usize
     requires { length s.now ≤ 4096 }
     ensures { Puts at (answer_text letter s.now) out.old result out.new }
 {
-    if letter == b'w' {
-        return answer_wire(out, at, s);
+    match letter {
+        b'w' => answer_wire(out, at, s),
+        b't' => answer_text(out, at, s),
+        b'a' => answer_addresses(out, at, 4, s),
+        b'b' => answer_addresses(out, at, 16, s),
+        b'p' => put_decimal(out, at, number_of(svcparams::params_fault(s))),
+        _ => put_all(out, at, b""),
     }
-    if letter == b't' {
-        return answer_text(out, at, s);
-    }
-    if letter == b'a' {
-        return answer_addresses(out, at, 4, s);
-    }
-    if letter == b'b' {
-        return answer_addresses(out, at, 16, s);
-    }
-    if letter == b'p' {
-        return put_decimal(out, at, svcparams::params_fault(s));
-    }
-    put_all(out, at, &s[..0])
 }
 
 // A letter of a case as it is, and `?` for any other.
 fn known(x: u8) -> u8
     ensures { result ≡ answers.known x }
 {
-    if x == b'w' {
-        return x;
+    match x {
+        b'w' | b't' | b'a' | b'b' | b'p' => x,
+        _ => b'?',
     }
-    if x == b't' {
-        return x;
-    }
-    if x == b'a' {
-        return x;
-    }
-    if x == b'b' {
-        return x;
-    }
-    if x == b'p' {
-        return x;
-    }
-    b'?'
 }
 
 // The letter of a line that begins as a case does, and `?` for any other.
 fn letter_of(line: &[u8]) -> u8
     ensures { result ≡ letter_of line.now }
 {
-    if line.len() < 2 {
-        return b'?';
+    match line {
+        [letter, b' ', ..] => known(*letter),
+        _ => b'?',
     }
-    if line[1] == b' ' {
-        return known(line[0]);
-    }
-    b'?'
 }
 
 // Writes the answer of a case.
@@ -203,9 +188,8 @@ fn put_decoded(out: &mut [u8], at: usize, letter: u8, digits: &[u8]) -> usize
 {
     let mut octets = io::buffer();
     match hexes::decode(digits, &mut octets) {
-        Hex::Octets(n) => put_case(out, at, letter, &octets[..n]),
-        Hex::NoRoom => put(out, at, b'?'),
-        Hex::Other => put(out, at, b'?'),
+        Ok(n) => put_case(out, at, letter, &octets[..n]),
+        Err(_) => put(out, at, b'?'),
     }
 }
 
@@ -220,7 +204,7 @@ fn put_line(out: &mut [u8], at: usize, line: &[u8]) -> usize
     put_decoded(out, at, letter, &line[2..])
 }
 
-// Writes the answer of each line of s, and returns how many octets that is.
+// Writes the answer of each line of s, and returns how many octets that is. (No `split` at breaks: the last one begins no line.)
 fn run(s: &[u8], out: &mut [u8]) -> usize
     ensures prefix_len { IsPrefixLen result out.new }
     ensures puts { Puts 0 (answers_text s.now) out.old result out.new }
@@ -236,7 +220,7 @@ fn run(s: &[u8], out: &mut [u8]) -> usize
     o
 }
 
-// Reads until `buf` is full or the input ends.
+// Reads until `buf` is full or the input ends. (`boundaries` has the same: no crate below the two reads input, and one for this alone is no plainer.)
 fn fill<F: Read>(from: &mut F, buf: &mut [u8]) -> std::io::Result<usize>
     ensures { IfOk result (λ n. IsPrefixLen n buf.new) }
 {

@@ -17,8 +17,8 @@ use Rattle.carriers.specs.declared.Carrier.{Carrier}
 use Rattle.carriers.specs.Carriers.{address_width}
 use Rattle.blocks.specs.Block.{Fields}
 use Rattle.judge.specs.declared.Side.TheVariants.{Writing}
-use Rattle.judge.specs.declared.Judged.{Judged}
-use Rattle.judge.specs.Place.{from}
+use Rattle.judge.specs.declared.Flaw.{Flaw}
+use Rattle.judge.specs.Place.{Judged, from, flawed}
 use Rattle.judge.specs.Judge.{judged_by, fault_of}
 use Rattle.judge.specs.Allowed.{Allowed}
 use Rattle.judge.proofs.AllowedLaws as judge
@@ -28,21 +28,18 @@ use Rattle.judge.proofs.PlaceLaws.{place_none}
 use Rattle.records.specs.Records.{head_size, mode_of, tail_of, record_of}
 use Rattle.sheets.specs.Sheets.{front_size, front_of, sheet_of}
 use Rattle.sheets.specs.Sheets as sheets
-use Rattle.taking.specs.declared.Took.TheVariants as took
 use Rattle.taking.specs.Taking.{Taken, take_of}
 use Rattle.taking.specs.Taking as taking
 use Rattle.taking.specs.Took.{took_of}
+use Rattle.taking.specs.Took as took
 use Rattle.taking.specs.Sheet.{IsSheet}
 use Rattle.taking.specs.TakenLaws.{Refusing, refused-by}
 use Rattle.taking.specs.StandingLaws.{took-refused, took-sheet}
 use Rattle.taking.specs.Exactly.{taken-sheet, sheet-taken}
-use Rattle.vetting.specs.declared.Vetted as returned
-use Rattle.vetting.specs.declared.Vetted.TheVariants.{Refused, Sheet}
-use Rattle.vetting.specs.declared.Weighed.{Weighed}
-use Rattle.vetting.specs.Vetting.{Vetted, refuse, sheet, first_fault, vet_records, vet_taken, vet_of, any_large, told}
+use Rattle.vetting.specs.Vetting.{Vetted, refuse, sheet, first_fault, vet_records, vet_taken, vet_of, any_large, Refused, Sheet, told}
 use Rattle.layouts.specs.Layouts.{stream_of}
-use Rattle.vetting.specs.Weighing.{records_in, records_of, TakenAs, most, Weighs}
-use Rattle.vetting.proofs.WeighingLaws.{stream-small, first-faultless}
+use Rattle.vetting.specs.Weighing.{records_in, records_of, TakenAs, most, fault_alone, Weighs}
+use Rattle.vetting.proofs.WeighingLaws.{stream-small, first-faultless, fault-some}
 
 -- ---- a sheet of octets has parameters of octets
 
@@ -169,14 +166,15 @@ module _ (s : List ℕ) where
 
 -- ---- the ways out of the code
 
-module _ {c : Carrier} {rs : List Fields} {w : Weighed} (g : Weighs c rs w) where
-  pub vet-faulty : (w.fault ≡ 0 → ⊥) → Refused w.fault w.place ≡ told (vet_records c rs)
-  vet-faulty n = rw (← g.first, ne_eqb w.fault 0 n)
+module _ {c : Carrier} {rs : List Fields} where
+  vet-faulty : (f : Flaw) → Weighs c rs (fault_alone (flawed f)) → Refused (fault.number_of f.fault) f.place ≡ told (vet_records c rs)
+  vet-faulty f g = rw (← g.first, ne_eqb (fault.number_of f.fault) 0 (fault-some f.fault))
 
-  pub vet-passed : {n : ℕ} → w.fault ≡ 0 → n ≡ length rs → Sheet c n w.large w.size ≡ told (vet_records c rs)
-  vet-passed z e =
-      let f : (first_fault c front_size rs).fault ≡ 0 = ap (λ (j : Judged). j.fault) (sym g.first) ∙ z in
-      rw (f, e, g.large_is z, g.size_is z)
+  vet-passed : {n size : ℕ} {big : Bool} → Weighs c rs (record { fault = 0; place = 0; large = big; size = size }) → n ≡ length rs
+      → Sheet c n big size ≡ told (vet_records c rs)
+  vet-passed g e =
+      let f : (first_fault c front_size rs).fault ≡ 0 = ap (λ (j : Judged). j.fault) (sym g.first) in
+      rw (f, e, g.large_is refl, g.size_is refl)
 
 module _ (s : List ℕ) where
   pub vet-refused : {k : ℕ} → took.Refused k ≡ took_of (take_of s) → Refused k 0 ≡ told (vet_of s)
@@ -190,9 +188,16 @@ module _ (s : List ℕ) where
         let i : records_of s ≡ k.0 = ap records_in k.1 in
         (k.1 ∙ ap (taking.sheet c) (sym i), sym k.2 ∙ ap length (sym i))
 
-    pub vet-sheet : {r : returned.Vetted} → r ≡ told (vet_records c (records_of s)) → r ≡ told (vet_of s)
+    vet-records : told (vet_records c (records_of s)) ≡ told (vet_of s)
     unfolding vet_of
-    vet-sheet i = i ∙ ap (λ (t : Taken). told (vet_taken t)) (sym vet-taken.0)
+    vet-records = ap (λ (t : Taken). told (vet_taken t)) (sym vet-taken.0)
+
+    pub vet-wrong : (f : Flaw) → Weighs c (records_of s) (fault_alone (flawed f)) → Refused (fault.number_of f.fault) f.place ≡ told (vet_of s)
+    vet-wrong f g = vet-faulty f g ∙ vet-records
+
+    pub vet-right : {size : ℕ} {big : Bool} → Weighs c (records_of s) (record { fault = 0; place = 0; large = big; size = size })
+        → Sheet c n big size ≡ told (vet_of s)
+    vet-right g = vet-passed g vet-taken.1 ∙ vet-records
 
 -- ---- what the answer of `vet` says
 

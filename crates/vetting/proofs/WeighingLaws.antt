@@ -1,9 +1,12 @@
 -- The octets of a record and of records, and each turn of the pass that weighs them. Assumes nothing.
-use Rattle.std.specs.Prelude.{◌≡◌, refl, Bool, true, false, cond, ◌||◌, List, [], ◌∷◌, ◌++◌, map, ℕ, suc, ◌+◌, ◌-◌, ◌*◌, ◌≤◌, ◌<◌, length, take, drop, ltb}
-use Rattle.std.proofs.Common.{sym, ap, ◌∙◌, subst, arith, eq-eqb, ne_eqb, length-append}
+use Rattle.std.specs.Prelude.{◌≡◌, refl, Bool, true, false, cond, ◌||◌, List, [], ◌∷◌, ◌++◌, map, ℕ, suc, ◌+◌, ◌*◌, ◌≤◌, length, ltb}
+use Rattle.std.proofs.Common.{sym, ap, ap₂, ◌∙◌, subst, arith, eq-eqb, ne_eqb, length-append}
 use Rattle.std.proofs.Math.Path.{subst⁻¹}
 use Rattle.std.proofs.Math.Bool.{or_assoc, or-false}
 use Rattle.numbers.specs.Limit as limit
+use Rattle.numbers.specs.Fault as fault
+use Rattle.numbers.specs.declared.Fault.{Fault}
+use Rattle.numbers.specs.declared.Fault.TheVariants.{Field, Priority, Name, Addresses, Limit, Dropped, Parameters, Hint, Value, Padding}
 use Rattle.octets.specs.Cases.{by_equal}
 use Rattle.octets.specs.Lists.{All, flat}
 use Rattle.octets.specs.Numbers.{Bytes}
@@ -14,9 +17,10 @@ use Rattle.carriers.specs.Carriers.{facts_of, address_width, in_eights, is_joine
 use Rattle.carriers.proofs.CarriersLaws.{few-addresses, eights-router}
 use Rattle.names.specs.Right.{three}
 use Rattle.blocks.specs.Block.{Fields, option_size}
+use Rattle.blocks.specs.Parts.{fields_in}
 use Rattle.judge.specs.declared.Side.TheVariants.{Writing}
-use Rattle.judge.specs.declared.Judged.{Judged}
-use Rattle.judge.specs.Place.{judged, place_from, from}
+use Rattle.judge.specs.declared.Flaw.{Flaw}
+use Rattle.judge.specs.Place.{Judged, judged, from, flawed}
 use Rattle.judge.specs.Judge.{judged_by, fault_of}
 use Rattle.judge.specs.Passed.{Passed}
 use Rattle.judge.specs.JudgeLaws.{fault-passed, written-name}
@@ -26,16 +30,16 @@ use Rattle.layouts.specs.Layouts.{own_option, instance_of, joined_of, stream_of}
 use Rattle.layouts.specs.LayoutsLaws.{header-small, own-length, instance-length, body-small}
 use Rattle.records.specs.Records.{head_size, record_of}
 use Rattle.sheets.specs.Sheets.{front_size}
-use Rattle.taking.specs.declared.Spot.{Spot}
+use Rattle.taking.specs.declared.Record.{Record}
 use Rattle.taking.specs.Sheet.{FitsTail, FitsRecord, IsSheet}
-use Rattle.taking.specs.Spot.{spot_of, fields_at, Inside}
-use Rattle.taking.specs.SpotLaws.{name-length, addresses-length, parameters-length, spot-name, spot-next}
+use Rattle.taking.specs.Spot.{spot_of}
+use Rattle.taking.specs.Shown.{Shown}
 use Rattle.taking.specs.Standing.{Step}
-use Rattle.taking.specs.StandingLaws.{stands-is, standing-none, standing-step, taken-standing}
+use Rattle.taking.specs.StandingLaws.{taken-standing}
+use Rattle.taking.specs.TurnsLaws.{standing-done, shown-name, shown-next, shown-step, shown-first, shown-standing}
 use Rattle.taking.specs.Exactly.{taken-sheet}
-use Rattle.vetting.specs.declared.Weighed.{Weighed}
 use Rattle.vetting.specs.Vetting.{first_fault, large, any_large, large_by}
-use Rattle.vetting.specs.Weighing.{records_of, TakenAs, cut_at, share_of, share_octets, weight_of, Light, most, fault_alone, found_by, WeighsOne, Weighs, Weighing}
+use Rattle.vetting.specs.Weighing.{records_of, TakenAs, share_of, share_octets, weight_of, Light, most, Weighed, fault_alone, found_by, WeighsOne, Weighs, Weighing}
 
 -- ---- octets
 
@@ -120,76 +124,53 @@ stream-small c (r ∷ rs) f e =
     let k = share-small c r.full (length r.name) (length r.addresses) (length r.parameters) in
     omega (arith, stream-length c r rs, share-length c r, k, l, stream-small c rs f.1 e.1)
 
--- ---- the fields that stand at a spot, as the code cuts them out
-
-cut_out : (s : List ℕ) (a n : ℕ) → take (a + n - a) (drop a s) ≡ take n (drop a s)
-cut_out s a n =
-    let e : a + n - a ≡ n = omega arith in
-    ap (λ (m : ℕ). take m (drop a s)) e
-
--- whatever the index of the record is
-pub inside-any : {n at : ℕ} {p : Spot} → Inside n at p → Inside n 0 p
-inside-any {n} {at} {p} i = record {
-  name = i.name;
-  addresses = i.addresses;
-  parameters = i.parameters;
-  next = i.next;
-  further = λ g. let k : at + head_size ≤ p.next = i.further g in omega arith;
-}
-
-module _ (s : List ℕ) (p : Spot) where
-  pub fields-cut : cut_at p.lifetime s p ≡ fields_at s p
-  fields-cut = rw (cut_out s p.name p.nlen, cut_out s p.addresses p.alen, cut_out s p.parameters p.plen)
-
-  module _ (i : Inside (length s) 0 p) (c : Carrier) where
-    pub light-at : FitsRecord c (fields_at s p) → fault_of Writing c (fields_at s p) ≡ 0 → Light p.nlen p.alen p.plen
-    light-at f e = rw (name-length s p i, addresses-length s p i, parameters-length s p i) at (passed-light c (fields_at s p) f e)
-
-    weight-at : weight_of c (fields_at s p) ≡ share_octets c p.full p.nlen p.alen p.plen
-    weight-at = rw (name-length s p i, addresses-length s p i, parameters-length s p i)
-
 -- ---- one record
 
 -- where there is no fault there is no place
 none_from : (n : ℕ) (j : Judged) → j.fault ≡ 0 → from n j ≡ judged 0 0
 none_from n j z = rw z
 
-module _ (c : Carrier) (s : List ℕ) (p : Spot) {j : Judged} (is : j ≡ judged_by Writing c (cut_at p.lifetime s p)) where
-  same-judged : j ≡ judged_by Writing c (fields_at s p)
-  same-judged = is ∙ ap (judged_by Writing c) (fields-cut s p)
+-- a fault has a number
+pub fault-some : (f : Fault) → fault.number_of f ≡ 0 → ⊥
+fault-some Field z = omega arith
+fault-some Priority z = omega arith
+fault-some Name z = omega arith
+fault-some Addresses z = omega arith
+fault-some Limit z = omega arith
+fault-some Dropped z = omega arith
+fault-some Parameters z = omega arith
+fault-some Hint z = omega arith
+fault-some Value z = omega arith
+fault-some Padding z = omega arith
 
-  pub judged-at : j.fault ≡ fault_of Writing c (fields_at s p)
-  judged-at = ap (λ (j : Judged). j.fault) same-judged
+module _ (c : Carrier) (at : ℕ) (r : Fields) where
+  -- the place is in the name
+  pub place_inside : (w : Flaw) → flawed w ≡ judged_by Writing c r → w.place ≤ length r.name
+  place_inside w e = let h = place-within Writing c r in omega (arith, h, ap (λ (j : Judged). j.place) e)
 
-  -- the place is in the sheet
-  pub place_inside : Inside (length s) 0 p → p.name + j.place ≤ length s
-  place_inside i =
-      let h : j.place ≤ length (fields_at s p).name = rw same-judged (place-within Writing c (fields_at s p)) in
-      omega (arith, h, name-length s p i, i.name)
+  pub weighs-faulty : (w v : Flaw) → flawed w ≡ judged_by Writing c r → flawed v ≡ from at (flawed w) → WeighsOne c at r (fault_alone (flawed v))
+  weighs-faulty w v e q = record {
+    first = q ∙ ap (from at) e;
+    large_is = λ o. absurd (fault-some v.fault o);
+    size_is = λ o. absurd (fault-some v.fault o);
+    small = omega arith;
+  }
 
-  pub weighs-faulty : {place : ℕ} {w : Weighed} → (j.fault ≡ 0 → ⊥) → place ≡ place_from p.name j.fault j.place
-      → w ≡ fault_alone (judged j.fault place) → WeighsOne c p.name (fields_at s p) w
-  weighs-faulty n q e =
-      let k = ap (λ (x : Weighed). x.fault) e in
-      record {
-        first = ap found_by e ∙ ap (judged j.fault) q ∙ ap (from p.name) same-judged;
-        large_is = λ o. absurd (n (sym k ∙ o));
-        size_is = λ o. absurd (n (sym k ∙ o));
-        small = omega (arith, ap (λ (x : Weighed). x.size) e);
-      }
+  module _ (f : FitsRecord c r) (e : judged 0 0 ≡ judged_by Writing c r) where
+    none : fault_of Writing c r ≡ 0
+    none = ap (λ (j : Judged). j.fault) (sym e)
 
-  pub weighs-passed : {w : Weighed} → Inside (length s) 0 p → FitsRecord c (fields_at s p) → j.fault ≡ 0 → found_by w ≡ judged 0 0
-      → w.large ≡ large_by c w.size → w.size ≡ share_octets c p.full p.nlen p.alen p.plen → WeighsOne c p.name (fields_at s p) w
-  weighs-passed {w} i f z e l k =
-      let n : fault_of Writing c (fields_at s p) ≡ 0 = sym judged-at ∙ z in
-      let m : w.size ≡ weight_of c (fields_at s p) = k ∙ sym (weight-at s p i c) in
-      let h : Light p.nlen p.alen p.plen = light-at s p i c f n in
-      record {
-        first = e ∙ sym (none_from p.name (judged_by Writing c (fields_at s p)) n);
-        large_is = λ _. l ∙ ap (large_by c) m ∙ large-by c (fields_at s p);
-        size_is = λ _. m ∙ sym (share-length c (fields_at s p));
-        small = omega (arith, k, share-small c p.full p.nlen p.alen p.plen, h);
-      }
+    pub light : Light (length r.name) (length r.addresses) (length r.parameters)
+    light = passed-light c r f none
+
+    pub weighs-passed : {big : Bool} {size : ℕ} → big ≡ large_by c size → size ≡ weight_of c r
+        → WeighsOne c at r (record { fault = 0; place = 0; large = big; size = size })
+    weighs-passed l k = record {
+      first = sym (none_from at (judged_by Writing c r) none);
+      large_is = λ _. l ∙ ap (large_by c) k ∙ large-by c r;
+      size_is = λ _. k ∙ sym (share-length c r);
+      small = omega (arith, k, share-small c r.full (length r.name) (length r.addresses) (length r.parameters), light);
+    }
 
 -- ---- the pass
 
@@ -239,61 +220,56 @@ weighing-start c s octets e =
       small = omega (arith, t.1);
     }
 
-module _ {c : Carrier} {s : List ℕ} {rs : List Fields} {at size : ℕ} {big : Bool} {p : Spot} (w : Weighing c s rs at big size) (e : p ≡ spot_of c s at)
-    (h : at < length s) where
-  abbrev weighing_step : Step c s at w.rest p
-  weighing_step = standing-step e w.standing h
+module _ {c : Carrier} {s : List ℕ} {rs : List Fields} {at size : ℕ} {big : Bool} {x : Record} (w : Weighing c s rs at big size)
+    (h : Shown s at (spot_of c s at) x) where
+  abbrev weighing_step : Step c s at w.rest (spot_of c s at)
+  weighing_step = shown-step c s at h w.standing
+
+  first-is : fields_in x.parts ≡ weighing_step.first
+  first-is = shown-first c s at h w.standing
 
   rest-fits : All (FitsRecord c) (weighing_step.first ∷ weighing_step.rest)
   rest-fits = subst (All (FitsRecord c)) weighing_step.are w.fits
 
-  pub weighing-fits : FitsRecord c (fields_at s p)
-  weighing-fits = subst⁻¹ (FitsRecord c) (stands-is weighing_step.stands) rest-fits.0
+  pub weighing-fits : FitsRecord c (fields_in x.parts)
+  weighing-fits = subst⁻¹ (FitsRecord c) first-is rest-fits.0
 
-  pub weighing-inside : Inside (length s) at p
-  weighing-inside = weighing_step.stands.inside
+  next-at : x.next ≡ at + length (record_of c weighing_step.first)
+  next-at = shown-next c s at h ∙ ap (λ (r : Fields). at + length (record_of c r)) first-is
 
-  pub weighing-further : at + head_size ≤ p.next
-  weighing-further = weighing-inside.further weighing_step.stands.good
-
-  name-at : p.name ≡ at + head_size
-  name-at = spot-name c s at e (omega arith) weighing_step.stands.good
-
-  next-at : p.next ≡ at + length (record_of c weighing_step.first)
-  next-at = spot-next c s at e (omega arith) weighing_step.stands.good ∙ ap (λ (r : Fields). at + length (record_of c r)) (stands-is weighing_step.stands)
-
-  module _ {one : Weighed} (o : WeighsOne c p.name (fields_at s p) one) where
-    first-is : found_by one ≡ from (at + head_size) (judged_by Writing c weighing_step.first)
-    first-is =
-        o.first
-        ∙ ap (λ (n : ℕ). from n (judged_by Writing c (fields_at s p))) name-at
-        ∙ ap (λ (r : Fields). from (at + head_size) (judged_by Writing c r)) (stands-is weighing_step.stands)
+  module _ {one : Weighed} (o : WeighsOne c x.name (fields_in x.parts) one) where
+    found-is : found_by one ≡ from (at + head_size) (judged_by Writing c weighing_step.first)
+    found-is = o.first ∙ ap₂ (λ (n : ℕ) (r : Fields). from n (judged_by Writing c r)) (shown-name c s at h) first-is
 
     fault-is : one.fault ≡ fault_of Writing c weighing_step.first
-    fault-is = ap (λ (j : Judged). j.fault) first-is
+    fault-is = ap (λ (j : Judged). j.fault) found-is
 
-    pub weighing-faulty : {r : Weighed} → (one.fault ≡ 0 → ⊥) → r ≡ fault_alone (found_by one) → Weighs c rs r
-    weighing-faulty n e =
-        let k = ap (λ (x : Weighed). x.fault) e in
+    pub weighing-faulty : (f : Flaw) → one ≡ fault_alone (flawed f) → Weighs c rs (fault_alone (flawed f))
+    weighing-faulty f e =
+        let n : one.fault ≡ 0 → ⊥ = λ z. fault-some f.fault (ap (λ (x : Weighed). x.fault) (sym e) ∙ z) in
         let t = weighing_step in
-        let f = first_faulty c at t.first t.rest (λ q. n (fault-is ∙ q)) in
         record {
-          first = ap found_by e ∙ first-is ∙ sym f ∙ ap (first_fault c at) (sym t.are) ∙ sym w.faults;
-          large_is = λ q. absurd (n (sym k ∙ q));
-          size_is = λ q. absurd (n (sym k ∙ q));
+          first =
+              ap found_by (sym e)
+              ∙ found-is
+              ∙ sym (first_faulty c at t.first t.rest (λ q. n (fault-is ∙ q)))
+              ∙ ap (first_fault c at) (sym t.are)
+              ∙ sym w.faults;
+          large_is = λ q. absurd (fault-some f.fault q);
+          size_is = λ q. absurd (fault-some f.fault q);
         }
 
-    pub weighing-next : {l : Bool} → one.fault ≡ 0 → l ≡ (big || one.large) → Weighing c s rs p.next l (size + one.size)
+    pub weighing-next : {l : Bool} → one.fault ≡ 0 → l ≡ (big || one.large) → Weighing c s rs x.next l (size + one.size)
     weighing-next {l} z k =
         let t = weighing_step in
         let r : Fields = t.first in
         let f = first-passed c at r t.rest (sym fault-is ∙ z) in
-        let lr : one.large ≡ large c r = o.large_is z ∙ ap (large c) (stands-is t.stands) in
-        let sr : one.size ≡ length (share_of c r) = o.size_is z ∙ ap (λ (x : Fields). length (share_of c x)) (stands-is t.stands) in
+        let lr : one.large ≡ large c r = o.large_is z ∙ ap (large c) first-is in
+        let sr : one.size ≡ length (share_of c r) = o.size_is z ∙ ap (λ (x : Fields). length (share_of c x)) first-is in
         let n : length w.rest ≡ suc (length t.rest) = ap length t.are in
         record {
           rest = t.rest;
-          standing = t.standing;
+          standing = shown-standing c s at h w.standing;
           fits = rest-fits.1;
           faults = w.faults ∙ ap (first_fault c at) t.are ∙ f ∙ ap (λ (n : ℕ). first_fault c n t.rest) (sym next-at);
           larges =
@@ -307,18 +283,17 @@ module _ {c : Carrier} {s : List ℕ} {rs : List Fields} {at size : ℕ} {big : 
           small = omega (arith, w.small, o.small);
         }
 
--- at the sheet's end
-pub weighing-end : {c : Carrier} {s : List ℕ} {rs : List Fields} {at size : ℕ} {big : Bool} {r : Weighed} → Weighing c s rs at big size → length s ≤ at
-    → found_by r ≡ judged 0 0 → r.large ≡ big → r.size ≡ size → Weighs c rs r
-weighing-end {c} {s} {rs} {at} {size} {big} w h e l k =
-    let z : w.rest ≡ [] = standing-none w.standing h in
+-- where none is left
+pub weighing-end : {c : Carrier} {s : List ℕ} {rs : List Fields} {at size : ℕ} {big : Bool} → Weighing c s rs at big size → (spot_of c s at).good ≡ false
+    → Weighs c rs (record { fault = 0; place = 0; large = big; size = size })
+weighing-end {c} {s} {rs} {at} {size} {big} w h =
+    let z : w.rest ≡ [] = standing-done w.standing h in
     record {
-      first = e ∙ sym (first-none c at) ∙ ap (first_fault c at) (sym z) ∙ sym w.faults;
+      first = sym (first-none c at) ∙ ap (first_fault c at) (sym z) ∙ sym w.faults;
       large_is = λ _.
-          l
-          ∙ sym (or-false big)
+          sym (or-false big)
           ∙ ap (λ (x : Bool). big || x) (sym (large-none c))
           ∙ ap (λ (x : List Fields). big || any_large c x) (sym z)
           ∙ sym w.larges;
-      size_is = λ _. omega (arith, k, w.sizes, ap (λ (x : List Fields). length (stream_of c x)) z, ap length (stream-none c));
+      size_is = λ _. omega (arith, w.sizes, ap (λ (x : List Fields). length (stream_of c x)) z, ap length (stream-none c));
     }

@@ -1,13 +1,13 @@
 -- Vetting a sheet (RULES T5: 2, 40, 41, 42, 4, 43, then 21 to 28 record by record, then 44, then 5): the one place where a sheet's records are
 -- tested, up to 28; of 22 the place in the sheet (RULES T8); and what else the call returns of a sheet that passes, for 44 and 5. Assumes nothing:
 -- these are definitions.
-use Rattle.std.specs.Prelude.{Bool, false, cond, ◌||◌, List, [], ◌∷◌, ℕ, ◌+◌, ltb, eqb, length}
+use Rattle.std.specs.Prelude.{Bool, false, cond, ◌||◌, List, [], ◌∷◌, ℕ, ◌+◌, ltb, eqb, length, Result, Ok, Err}
 use Rattle.numbers.specs.Limit as limit
 use Rattle.carriers.specs.declared.Carrier.{Carrier}
 use Rattle.carriers.specs.Carriers.{in_eights}
 use Rattle.blocks.specs.Block.{Fields, option_size}
 use Rattle.judge.specs.declared.Side.TheVariants.{Writing}
-use Rattle.judge.specs.declared.Judged.{Judged}
+use Rattle.judge.specs.Place.{Judged}
 use Rattle.judge.specs.Place.{judged, from}
 use Rattle.judge.specs.Judge.{judged_by, fault_of}
 use Rattle.records.specs.Records.{head_size, record_of}
@@ -15,8 +15,11 @@ use Rattle.sheets.specs.Sheets.{front_size}
 use Rattle.layouts.specs.Layouts.{stream_of}
 use Rattle.taking.specs.Taking.{Taken, take_of}
 use Rattle.taking.specs.Taking as taking
+use Rattle.numbers.specs.Fault as fault
+use Rattle.numbers.specs.Refusal as refusal
 use Rattle.vetting.specs.declared.Vetted as returned
-use Rattle.vetting.specs.declared.Vetted.TheVariants.{Refused, Sheet}
+use Rattle.vetting.specs.declared.Unfit.{Unfit}
+use Rattle.vetting.specs.declared.Unfit.TheVariants as unfit
 
 -- ---- the test
 
@@ -61,8 +64,25 @@ unfoldable pub any_large : Carrier → List Fields → Bool
 any_large c [] = false
 any_large c (r ∷ rs) = large c r || any_large c rs
 
--- what the call returns: the refusal's number and place; or the carrier, how many records there are, whether one is large, and how many octets
--- they take one after another
-abbrev pub told : Vetted → returned.Vetted
+-- what the call says: the refusal's number and place; or the carrier, how many records there are, whether one is large, and how many octets they take
+-- one after another
+pub data Told : Type 0 where
+  Refused : (number place : ℕ) → Told
+  Sheet : (carrier : Carrier) (count : ℕ) (large : Bool) (size : ℕ) → Told
+
+abbrev pub told : Vetted → Told
 told (refuse k p) = Refused k p
 told (sheet c rs) = Sheet c (length rs) (any_large c rs) (length (stream_of c rs))
+
+-- the same of the code's answer: no refusal has the number of a fault, and no two of either have one
+abbrev pub number_of : Unfit → ℕ
+number_of (unfit.Refused r) = refusal.number_of r
+number_of (unfit.Faulty w) = fault.number_of w.fault
+
+abbrev pub place_of : Unfit → ℕ
+place_of (unfit.Refused r) = 0
+place_of (unfit.Faulty w) = w.place
+
+abbrev pub told_in : Result returned.Vetted Unfit → Told
+told_in (Ok v) = Sheet v.carrier v.count v.large v.size
+told_in (Err u) = Refused (number_of u) (place_of u)

@@ -1,23 +1,22 @@
 -- The octets that a sheet's records take, and what the pass over them finds: the first fault, 21 to 28, whether a record is large (44), and how
 -- many octets they are one after another. Assumes nothing: these are definitions.
-use Rattle.std.specs.Prelude.{◌≡◌, Bool, false, cond, ◌||◌, List, [], ℕ, ◌+◌, ◌-◌, ◌*◌, ◌≤◌, length, take, drop}
+use Rattle.std.specs.Prelude.{◌≡◌, Bool, false, cond, ◌||◌, List, [], ℕ, ◌+◌, ◌*◌, ◌≤◌, length, Result, Ok, Err}
 use Rattle.octets.specs.Lists.{All}
 use Rattle.numbers.specs.Limit as limit
 use Rattle.carriers.specs.declared.Carrier.{Carrier}
 use Rattle.carriers.specs.Carriers.{is_joined}
-use Rattle.blocks.specs.Block.{Fields, head_with, fields_of}
+use Rattle.blocks.specs.Block.{Fields}
 use Rattle.judge.specs.declared.Side.TheVariants.{Writing}
-use Rattle.judge.specs.declared.Judged.{Judged}
-use Rattle.judge.specs.Place.{judged, from}
+use Rattle.judge.specs.declared.Flaw.{Flaw}
+use Rattle.judge.specs.Place.{Judged, judged, from, flawed}
 use Rattle.judge.specs.Judge.{judged_by}
 use Rattle.layouts.specs.Layouts.{own_option, instance_of, stream_of}
 use Rattle.layouts.specs.Writable.{option_octets, instance_octets, most_addresses, most_body}
-use Rattle.taking.specs.declared.Spot.{Spot}
 use Rattle.taking.specs.Taking.{Taken, refuse, sheet, take_of}
 use Rattle.taking.specs.Sheet.{FitsRecord}
 use Rattle.taking.specs.Standing.{Standing}
 use Rattle.sheets.specs.Sheets.{front_size}
-use Rattle.vetting.specs.declared.Weighed.{Weighed}
+use Rattle.vetting.specs.declared.Weighed as found
 use Rattle.vetting.specs.Vetting.{first_fault, large, any_large}
 
 -- ---- the records of a sheet
@@ -35,14 +34,6 @@ abbrev pub TakenAs : Carrier → List ℕ → Type 0
 TakenAs c s = take_of s ≡ sheet c (records_of s)
 
 -- ---- one record
-
--- the fields that stand at a spot, each from where it begins to where it ends, with a lifetime that may be another
-abbrev pub cut_at : ℕ → List ℕ → Spot → Fields
-cut_at lifetime s p =
-    fields_of (head_with p.priority lifetime p.full)
-    (take (p.name + p.nlen - p.name) (drop p.name s))
-    (take (p.addresses + p.alen - p.addresses) (drop p.addresses s))
-    (take (p.parameters + p.plen - p.parameters) (drop p.parameters s))
 
 -- a record's share of the octets: in carrier 1 its instance, else its option or attribute
 abbrev pub share_of : Carrier → Fields → List ℕ
@@ -68,9 +59,21 @@ pub record Light (n a p : ℕ) : Type 0 where
 abbrev pub most : ℕ
 most = 4 + most_body
 
+-- the first fault and its place; or 0 and 0, whether a record is large, and the octets of the records
+pub record Weighed : Type 0 where
+  pub fault : ℕ
+  pub place : ℕ
+  pub large : Bool
+  pub size : ℕ
+
 -- with a fault nothing but its place is found
 abbrev pub fault_alone : Judged → Weighed
 fault_alone j = record { fault = j.fault; place = j.place; large = false; size = 0 }
+
+-- what the code finds: a flaw, or what it finds of records without one
+abbrev pub weighed_in : Result found.Weighed Flaw → Weighed
+weighed_in (Ok w) = record { fault = 0; place = 0; large = w.large; size = w.size }
+weighed_in (Err w) = fault_alone (flawed w)
 
 -- the fault that is found, and its place
 abbrev pub found_by : Weighed → Judged

@@ -3,174 +3,150 @@
 // up. Of a sheet that passes, `vet` also says what 44 and 5 are tested by. Nothing is written here, and nothing is dropped or mended.
 #![tactic(auto)]
 
-ghost use Rattle.std.specs.Prelude.{◌≡◌, ◌||◌, ◌+◌, ◌≤◌, ◌<◌, length};
-ghost use Rattle.judge.specs.Place.{judged};
+ghost use Rattle.std.specs.Prelude.{◌≡◌, ◌+◌, ◌<◌, ◌^◌, length};
+ghost use Rattle.blocks.specs.Parts.{fields_in};
 ghost use Rattle.taking.specs.Sheet.{FitsRecord};
-ghost use Rattle.taking.specs.Spot.{fields_at, Inside};
-ghost use Rattle.vetting.specs.Vetting.{vet_records, vet_of, told, large_by};
-ghost use Rattle.vetting.specs.Weighing.{records_of, TakenAs, share_octets, fault_alone, WeighsOne, Weighs};
+ghost use Rattle.vetting.specs.declared.Unfit.TheVariants.{Refused, Faulty};
+ghost use Rattle.vetting.specs.Vetting.{vet_of, told, told_in, number_of, place_of, large_by};
+ghost use Rattle.vetting.specs.Weighing.{records_of, TakenAs, share_octets, weighed_in, WeighsOne, Weighs};
 
 use carriers::Carrier;
-use judge::Side;
-use numbers::Limit;
-use taking::{Spot, Took};
+use judge::{Flaw, Side};
+use layouts::Sizes;
+use numbers::{Limit, Refusal};
+use taking::{Record, Records};
 
-// What vetting a sheet answers.
+// A sheet that passes: its carrier, how many records it has, and how many octets these take one after another; `large`: one of them is too
+// large for its carrier (44).
 #[derive(Clone, Copy)]
-pub enum Vetted {
-    // The number of the first test that fails; of 22 the place in the sheet at which the name is wrong, else 0.
-    Refused {
-        number: usize,
-        place: usize,
-    },
-    // A sheet of `count` records, which take `size` octets one after another; `large`: one of them is too large for its carrier (44).
-    Sheet {
-        carrier: Carrier,
-        count: usize,
-        large: bool,
-        size: usize,
-    },
+pub struct Vetted {
+    pub carrier: Carrier,
+    pub count: usize,
+    pub large: bool,
+    pub size: usize,
 }
 
-// What weighing finds: the first fault and, of 22, its place in the sheet; or 0, whether a record is large, and the octets of the records.
+// Why a sheet does not pass: it is refused as it is taken, or a record has a fault, whose place is counted from the sheet's first octet.
+#[derive(Clone, Copy)]
+pub enum Unfit {
+    Refused(Refusal),
+    Faulty(Flaw),
+}
+
+impl From<Refusal> for Unfit {
+    ghost from_gives = { λ r u. u ≡ Refused r };
+
+    fn from(r: Refusal) -> Unfit {
+        Unfit::Refused(r)
+    }
+}
+
+impl From<Flaw> for Unfit {
+    ghost from_gives = { λ w u. u ≡ Faulty w };
+
+    fn from(w: Flaw) -> Unfit {
+        Unfit::Faulty(w)
+    }
+}
+
+impl Unfit {
+    // The number of the first test that fails.
+    pub fn number(self) -> usize
+        ensures { result ≡ number_of self }
+    {
+        match self {
+            Unfit::Refused(r) => r.number(),
+            Unfit::Faulty(w) => w.fault.number(),
+        }
+    }
+
+    // Of 22 the place in the sheet at which the name is wrong, else 0.
+    pub fn place(self) -> usize
+        ensures { result ≡ place_of self }
+    {
+        match self {
+            Unfit::Refused(_) => 0,
+            Unfit::Faulty(w) => w.place,
+        }
+    }
+}
+
+// What weighing finds of records without a fault: whether one is large, and their octets.
 #[derive(Clone, Copy)]
 struct Weighed {
-    fault: usize,
-    place: usize,
     large: bool,
     size: usize,
 }
 
-fn faulty(fault: usize, place: usize) -> Weighed
-    ensures { result ≡ fault_alone (judged fault place) }
-{
-    Weighed {
-        fault,
-        place,
-        large: false,
-        size: 0,
-    }
-}
-
 // Octets of a record: in carrier 1 of its instance, else of its option or attribute.
-fn share_size(c: Carrier, full: bool, nlen: usize, alen: usize, plen: usize) -> usize
-    requires { (2 ≤ nlen) × (nlen + alen + plen < 65536) }
-    ensures { result ≡ share_octets c full nlen alen plen }
+fn share_size(c: Carrier, sizes: Sizes) -> usize
+    ensures { result ≡ share_octets c sizes.full sizes.name sizes.addresses sizes.parameters }
 {
-    let f = c.facts();
-    if f.joined {
-        return layouts::instance_size(full, nlen, alen, plen);
+    if c.facts().joined {
+        sizes.instance()
+    } else {
+        sizes.option(c)
     }
-    layouts::option_size(c, full, nlen, alen, plen)
 }
 
 // Whether an option of `size` octets is too large for its carrier: only one whose length is in units of eight has such a limit.
 fn is_large(c: Carrier, size: usize) -> bool
     ensures { result ≡ large_by c size }
 {
-    let f = c.facts();
-    if f.eights {
-        return Limit::OPTION < size;
-    }
-    false
+    c.facts().eights && Limit::OPTION < size
 }
 
-// Whether one of two is so.
-fn either(a: bool, b: bool) -> bool
-    ensures { result ≡ (a || b) }
+// Judges a record, and finds how many octets it takes. (No `map_err`: of a closure that borrows the record the proof learns nothing to use.)
+fn weigh_record(c: Carrier, r: &Record) -> Result<Weighed, Flaw>
+    requires within { r.now.name + length r.now.parts.name.now < 2 ^ 63 }
+    requires fits_record { FitsRecord c (fields_in r.now.parts) }
+    ensures { WeighsOne c r.now.name (fields_in r.now.parts) (weighed_in result) }
 {
-    if a { true } else { b }
-}
-
-// Judges the record whose fields stand at `p`, and finds how many octets it takes.
-fn weigh_record(c: Carrier, s: &[u8], p: Spot) -> Weighed
-    requires inside { Inside (length s.now) 0 p }
-    requires fits_record { FitsRecord c (fields_at s.now p) }
-    ensures { WeighsOne c p.name (fields_at s.now p) result }
-{
-    let name_from = p.name;
-    let name_end = name_from + p.nlen;
-    let addresses_from = p.addresses;
-    let addresses_end = addresses_from + p.alen;
-    let parameters_from = p.parameters;
-    let parameters_end = parameters_from + p.plen;
+    let p = r.parts;
     let judged = judge::judge_fields(
         Side::Writing,
         c,
-        p.priority,
-        &s[name_from..name_end],
-        p.full,
-        &s[addresses_from..addresses_end],
-        &s[parameters_from..parameters_end],
+        p.head.priority,
+        p.name,
+        p.head.full,
+        p.addresses,
+        p.parameters,
     );
-    let fault = judged.fault;
-    if fault != 0 {
-        return faulty(fault, judge::place_from(name_from, fault, judged.place));
+    if let Err(w) = judged {
+        return Err(w.back(r.name));
     }
-    let size = share_size(c, p.full, p.nlen, p.alen, p.plen);
-    Weighed {
-        fault: 0,
-        place: 0,
+    let size = share_size(c, Sizes::of(&p));
+    Ok(Weighed {
         large: is_large(c, size),
         size,
-    }
+    })
 }
 
-// Weighs the records of a sheet, from its head's end on.
-fn weigh(c: Carrier, s: &[u8]) -> Weighed
+// Weighs the records of a sheet, up to the first that has a fault.
+fn weigh(c: Carrier, s: &[u8]) -> Result<Weighed, Flaw>
     requires { TakenAs c s.now }
-    ensures { Weighs c (records_of s.now) result }
+    ensures { Weighs c (records_of s.now) (weighed_in result) }
 {
-    let mut at = sheets::FRONT;
     let mut large = false;
-    let mut size: usize = 0;
-    while at < s.len() {
-        let p = taking::record_at(c, s, at);
-        let one = weigh_record(c, s, p);
-        let fault = one.fault;
-        if fault != 0 {
-            return faulty(fault, one.place);
-        }
-        large = either(large, one.large);
+    let mut size = 0;
+    for record in Records::of(c, s) {
+        let one = weigh_record(c, &record)?;
+        large |= one.large;
         size += one.size;
-        at = p.next;
     }
-    Weighed {
-        fault: 0,
-        place: 0,
-        large,
-        size,
-    }
-}
-
-// 21 to 28, or what is found of the `count` records of a sheet of carrier `c`.
-fn vet_records(c: Carrier, s: &[u8], count: usize) -> Vetted
-    requires taken_as { TakenAs c s.now }
-    requires count_value { count ≡ length (records_of s.now) }
-    ensures { result ≡ told (vet_records c (records_of s.now)) }
-{
-    let w = weigh(c, s);
-    let fault = w.fault;
-    if fault != 0 {
-        return Vetted::Refused {
-            number: fault,
-            place: w.place,
-        };
-    }
-    Vetted::Sheet {
-        carrier: c,
-        count,
-        large: w.large,
-        size: w.size,
-    }
+    Ok(Weighed { large, size })
 }
 
 // Vets the sheet `s`.
-pub fn vet(s: &[u8]) -> Vetted
-    ensures { result ≡ told (vet_of s.now) }
+pub fn vet(s: &[u8]) -> Result<Vetted, Unfit>
+    ensures { told_in result ≡ told (vet_of s.now) }
 {
-    match taking::take(s) {
-        Took::Refused(number) => Vetted::Refused { number, place: 0 },
-        Took::Sheet { carrier, count } => vet_records(carrier, s, count),
-    }
+    let sheet = taking::take(s)?;
+    let found = weigh(sheet.carrier, s)?;
+    Ok(Vetted {
+        carrier: sheet.carrier,
+        count: sheet.count,
+        large: found.large,
+        size: found.size,
+    })
 }

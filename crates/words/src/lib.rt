@@ -4,86 +4,89 @@
 ghost use Rattle.std.specs.Prelude.{◌≡◌, ◌+◌, ◌≤◌, length, drop};
 ghost use Rattle.chars.specs.Puts.{Puts};
 ghost use Rattle.words.specs.Words.{words_in, words_of, reasons};
-ghost use Rattle.words.specs.Encoded.{words_at, number_at, break_at};
+ghost use Rattle.words.specs.Encoded.{number_at, break_at};
+ghost use Rattle.reasons.specs.Reason.{number_of};
 
 use chars::put_all;
-use octets::{same, wide};
+use reasons::Reason;
 
 // With so many octets of room for them and a closing octet 0, the words of every number of RULES R0 to R44 are whole (`words/StringsLaws`:
 // `words-whole`).
 pub const MAX_WORDS: usize = 160;
 
-// Writes the words of a number. The table has an entry to a line: the number as an octet (in hexadecimal; `words/Words` has it by name, and the
-// two tables are proved to be the same), its words and a line break.
+// The words of a number. (`words/Words` has the numbers by name.)
+#[tactic(none)]
+fn words(number: usize) -> &'static [u8]
+    ensures { result.now ≡ words_of number }
+{
+    match number {
+        0 => b"done",
+        1 => b"carrier number not 1 to 5",
+        2 => b"input longer than 40,960 octets",
+        3 =>
+            b"the area is not whole options: a header or body runs past the end, or a length of 0 in a router advertisement",
+        4 => b"more than 16 records",
+        5 => b"output shorter than the result",
+        20 =>
+            b"the block ends too early: a length says more octets than are left, or a field is missing",
+        21 => b"priority 0 (AliasMode)",
+        22 =>
+            b"the name is no host name: labels of 1 to 63 letters, digits and inner hyphens, 255 octets in all",
+        23 =>
+            b"no addresses, their length is no multiple of 4 (IPv4) or 16 (IPv6), or name only in IKEv2",
+        24 => b"more than 63 addresses, or over 1,024 octets of parameters",
+        25 => b"no usable address, or an unusable one in a sheet",
+        26 => b"service parameters are cut short, or their keys do not rise, or one is 65535",
+        27 =>
+            b"address hint among the service parameters (key 4 or 6), where addresses have a field of their own",
+        28 =>
+            b"a service parameter is not as its key asks: mandatory (0), alpn (1), no-default-alpn (2, only beside alpn) or port (3)",
+        29 => b"what follows the last field is not 0 to 7 zeros",
+        40 => b"not a record sheet: shorter than 7 octets, or not beginning with RSV",
+        41 => b"record sheet version not 1",
+        42 => b"record sheet carrier not 1 to 5",
+        43 =>
+            b"the record sheet is damaged: lengths do not add up, a mode is not 0 or 1, priorities fall, or a lifetime stands where none belongs",
+        44 => b"router advertisement record above 2,040 octets",
+        _ => b"unknown number",
+    }
+}
+
+// The words of a reason for which a name is no host name.
+fn words_for(reason: Reason) -> &'static [u8]
+    ensures { result.now ≡ words_in reasons (number_of reason) }
+{
+    match reason {
+        Reason::Cut => b"it has no end: the name stops before its last octet 0",
+        Reason::Empty => b"it is empty",
+        Reason::Pointer => b"a compression pointer",
+        Reason::Label => b"a label of more than 63 octets",
+        Reason::Long => b"it is longer than a name may be",
+        Reason::After => b"octets follow its end",
+        Reason::Underscore => b"an underscore",
+        Reason::Hyphen => b"a hyphen at the beginning or end of a label",
+        Reason::Dot => b"a dot at the beginning or end, or two side by side",
+        Reason::Octet => b"an octet that is no letter, digit or hyphen",
+    }
+}
+
+// Writes the words of a number.
 pub fn put_words(out: &mut [u8], at: usize, number: usize) -> usize
     ensures { Puts at (words_of number) out.old result out.new }
 {
-    put_found(
-        out,
-        at,
-        number,
-        b"\x00done\n\
-          \x01carrier number not 1 to 5\n\
-          \x02input longer than 40,960 octets\n\
-          \x03the area is not whole options: a header or body runs past the end, or a length of 0 in a router advertisement\n\
-          \x04more than 16 records\n\
-          \x05output shorter than the result\n\
-          \x14the block ends too early: a length says more octets than are left, or a field is missing\n\
-          \x15priority 0 (AliasMode)\n\
-          \x16the name is no host name: labels of 1 to 63 letters, digits and inner hyphens, 255 octets in all\n\
-          \x17no addresses, their length is no multiple of 4 (IPv4) or 16 (IPv6), or name only in IKEv2\n\
-          \x18more than 63 addresses, or over 1,024 octets of parameters\n\
-          \x19no usable address, or an unusable one in a sheet\n\
-          \x1aservice parameters are cut short, or their keys do not rise, or one is 65535\n\
-          \x1baddress hint among the service parameters (key 4 or 6), where addresses have a field of their own\n\
-          \x1ca service parameter is not as its key asks: mandatory (0), alpn (1), no-default-alpn (2, only beside alpn) or port (3)\n\
-          \x1dwhat follows the last field is not 0 to 7 zeros\n\
-          \x28not a record sheet: shorter than 7 octets, or not beginning with RSV\n\
-          \x29record sheet version not 1\n\
-          \x2arecord sheet carrier not 1 to 5\n\
-          \x2bthe record sheet is damaged: lengths do not add up, a mode is not 0 or 1, priorities fall, or a lifetime stands where none belongs\n\
-          \x2crouter advertisement record above 2,040 octets\n",
-    )
+    put_all(out, at, words(number))
 }
 
-// Writes the words of a reason for which a name is no host name, from a table of the same form.
-pub fn put_reason(out: &mut [u8], at: usize, reason: usize) -> usize
-    ensures { Puts at (words_in reasons reason) out.old result out.new }
+// Writes the words of a reason.
+pub fn put_reason(out: &mut [u8], at: usize, reason: Reason) -> usize
+    ensures { Puts at (words_in reasons (number_of reason)) out.old result out.new }
 {
-    put_found(
-        out,
-        at,
-        reason,
-        b"\x01it has no end: the name stops before its last octet 0\n\
-          \x02it is empty\n\
-          \x03a compression pointer\n\
-          \x04a label of more than 63 octets\n\
-          \x05it is longer than a name may be\n\
-          \x06octets follow its end\n\
-          \x07an underscore\n\
-          \x08a hyphen at the beginning or end of a label\n\
-          \x09a dot at the beginning or end, or two side by side\n\
-          \x0aan octet that is no letter, digit or hyphen\n",
-    )
+    put_all(out, at, words_for(reason))
 }
 
-// Writes the words of a number in a table, or that it is unknown.
-pub fn put_found(out: &mut [u8], at: usize, number: usize, table: &[u8]) -> usize
-    ensures { Puts at (words_at number table.now) out.old result out.new }
-{
-    let mut i = 0;
-    while i < table.len() {
-        let from = i + 1;
-        let end = line_end(table, from);
-        if wide(table[i]) == number {
-            return put_all(out, at, &table[from..end]);
-        }
-        i = end + 1;
-    }
-    put_all(out, at, b"unknown number")
-}
-
-// The number of the first entry of a table that has these words, or 0.
+// The number of the first entry of a table that has these words, or 0. A table has an entry to a line: a number as an octet, the words and a line
+// break. (No `match` of the words: of an arm for a byte string a proof knows no more than its length. And no Option: 0 is no number of a table,
+// and what a number stands for is its enum's to say, which has none for 0.)
 pub fn number_of(table: &[u8], word: &[u8]) -> usize
     ensures { result ≡ number_at word.now table.now }
 {
@@ -91,8 +94,8 @@ pub fn number_of(table: &[u8], word: &[u8]) -> usize
     while entry < table.len() {
         let from = entry + 1;
         let end = line_end(table, from);
-        if same(&table[from..end], word) {
-            return wide(table[entry]);
+        if &table[from..end] == word {
+            return usize::from(table[entry]);
         }
         entry = end + 1;
     }
@@ -104,12 +107,10 @@ pub fn line_end(s: &[u8], from: usize) -> usize
     requires { from ≤ length s.now }
     ensures { (result ≡ from + break_at (drop from s.now)) × (result ≤ length s.now) }
 {
-    let mut i = from;
-    while i < s.len() {
+    for i in from..s.len() {
         if s[i] == b'\n' {
             return i;
         }
-        i += 1;
     }
-    i
+    s.len()
 }

@@ -1,6 +1,6 @@
 -- Each turn of the pass that lays a sheet's records one after another, and that instances joined at the end of the result's place and then
 -- cut are the octets defined. Assumes nothing.
-use Rattle.std.specs.Prelude.{◌≡◌, refl, Bool, true, false, cond, List, [], ◌∷◌, ◌++◌, ℕ, ◌+◌, ◌-◌, ◌≤◌, ◌<◌, length, take, drop}
+use Rattle.std.specs.Prelude.{◌≡◌, refl, Bool, true, false, cond, List, [], ◌∷◌, ◌++◌, ℕ, ◌+◌, ◌-◌, ◌≤◌, length, take, drop}
 use Rattle.std.proofs.Common.{sym, ap, ◌∙◌, subst, append_assoc, append-nil, arith, length-append, take_at, drop_at, length-take-le}
 use Rattle.std.proofs.Math.Path.{subst⁻¹}
 use Rattle.octets.specs.Lists.{All}
@@ -12,20 +12,22 @@ use Rattle.carriers.specs.declared.Facts.{Facts}
 use Rattle.carriers.specs.Carriers.{facts_of, is_joined, Plain}
 use Rattle.carriers.proofs.CarriersLaws.{other-joined}
 use Rattle.blocks.specs.Block.{Fields}
+use Rattle.blocks.specs.Parts.{fields_in}
 use Rattle.frames.specs.WalkLaws.{false-apart}
 use Rattle.pieces.specs.Pieces.{cut_of, cut_octets}
 use Rattle.pieces.specs.PiecesLaws.{cut-length}
 use Rattle.layouts.specs.Layouts.{own_option, instance_of, stream_of}
 use Rattle.layouts.specs.Writable.{Writable}
-use Rattle.records.specs.Records.{head_size}
 use Rattle.sheets.specs.Sheets.{front_size}
-use Rattle.taking.specs.declared.Spot.{Spot}
-use Rattle.taking.specs.Spot.{spot_of, fields_at, Inside}
+use Rattle.taking.specs.declared.Record.{Record}
+use Rattle.taking.specs.Spot.{spot_of}
+use Rattle.taking.specs.Shown.{Shown}
 use Rattle.taking.specs.Standing.{Step}
-use Rattle.taking.specs.StandingLaws.{stands-is, standing-none, standing-step, taken-standing}
+use Rattle.taking.specs.StandingLaws.{taken-standing}
+use Rattle.taking.specs.TurnsLaws.{standing-done, shown-step, shown-first, shown-standing}
 use Rattle.taking.specs.Exactly.{sheet-taken}
-use Rattle.vetting.specs.Weighing.{cut_at, share_of}
-use Rattle.vetting.proofs.WeighingLaws.{stream-none, stream-one, fields-cut}
+use Rattle.vetting.specs.Weighing.{share_of}
+use Rattle.vetting.proofs.WeighingLaws.{stream-none, stream-one}
 use Rattle.written.specs.Octets.{octets_of}
 use Rattle.written.specs.Accepted.{Sound}
 use Rattle.written.proofs.AcceptedLaws.{writable}
@@ -63,32 +65,22 @@ total-octets c rs = go (is_joined c) (stream_of c rs)
 
 -- ---- one record: what its writer asks, and what it lays
 
-module _ (c : Carrier) (s : List ℕ) (p : Spot) (w : Writable c (fields_at s p)) where
+module _ (c : Carrier) (r : Fields) where
   -- carrier 1
   module _ (e : c ≡ Dhcp4) where
-    pub instance-asked : (at : ℕ) {n : ℕ} → at + length (share_of c (fields_at s p)) ≤ n
-        → Writable Dhcp4 (cut_at p.lifetime s p) × (at + length (instance_of (cut_at p.lifetime s p)) ≤ n)
-    instance-asked at h = (subst⁻¹ (Writable Dhcp4) (fields-cut s p) (rw e at w), rw (fields-cut s p) (rw e at h))
+    pub instance-asked : Writable c r → (at : ℕ) {n : ℕ} → at + length (share_of c r) ≤ n → Writable Dhcp4 r × (at + length (instance_of r) ≤ n)
+    instance-asked w at h = (rw e at w, rw e at h)
 
-    pub instance-laid : {at : ℕ} {out out' : List ℕ} {r : ℕ} → Wrote at (instance_of (cut_at p.lifetime s p)) out r out'
-        → Wrote at (share_of c (fields_at s p)) out r out'
-    instance-laid v = rw e (rw (fields-cut s p) at v)
+    pub instance-laid : {at : ℕ} {out out' : List ℕ} {n : ℕ} → Wrote at (instance_of r) out n out' → Wrote at (share_of c r) out n out'
+    instance-laid v = rw e v
 
   -- carriers 2 to 5
   module _ (n : c ≡ Dhcp4 → ⊥) where
-    option-cut : own_option c (cut_at p.lifetime s p) ≡ share_of c (fields_at s p)
-    option-cut = ap (own_option c) (fields-cut s p) ∙ other-share c n (fields_at s p)
+    pub option-asked : (at : ℕ) {m : ℕ} → at + length (share_of c r) ≤ m → Plain c × (at + length (own_option c r) ≤ m)
+    option-asked at {m} h = (other-plain c n, subst⁻¹ (λ (l : List ℕ). at + length l ≤ m) (other-share c n r) h)
 
-    pub option-asked : (at : ℕ) {m : ℕ} → at + length (share_of c (fields_at s p)) ≤ m
-        → Plain c × (Writable c (cut_at p.lifetime s p) × (at + length (own_option c (cut_at p.lifetime s p)) ≤ m))
-    option-asked at {m} h = (
-      other-plain c n,
-      (subst⁻¹ (Writable c) (fields-cut s p) w, subst⁻¹ (λ (l : List ℕ). at + length l ≤ m) option-cut h),
-    )
-
-    pub option-laid : {at : ℕ} {out out' : List ℕ} {r : ℕ} → Wrote at (own_option c (cut_at p.lifetime s p)) out r out'
-        → Wrote at (share_of c (fields_at s p)) out r out'
-    option-laid {at} {out} {out'} {r} v = subst (λ (l : List ℕ). Wrote at l out r out') option-cut v
+    pub option-laid : {at : ℕ} {out out' : List ℕ} {m : ℕ} → Wrote at (own_option c r) out m out' → Wrote at (share_of c r) out m out'
+    option-laid {at} {out} {out'} {m} v = subst (λ (l : List ℕ). Wrote at l out m out') (other-share c n r) v
 
 -- ---- the pass
 
@@ -108,10 +100,10 @@ module _ {c : Carrier} {s : List ℕ} {rs : List Fields} {from at o : ℕ} {out 
   pub laying-length : length out' ≡ length out
   laying-length = ap length w.wrote.laid ∙ over-length from w.done out w.wrote.room
 
-  -- at the sheet's end
-  pub laying-end : length s ≤ at → Wrote from (stream_of c rs) out o out'
+  -- where none is left
+  pub laying-end : (spot_of c s at).good ≡ false → Wrote from (stream_of c rs) out o out'
   laying-end h =
-      let z : w.rest ≡ [] = standing-none w.standing h in
+      let z : w.rest ≡ [] = standing-done w.standing h in
       let e : stream_of c rs ≡ w.done =
       w.are
       ∙ ap (λ (x : List Fields). w.done ++ stream_of c x) z
@@ -119,44 +111,41 @@ module _ {c : Carrier} {s : List ℕ} {rs : List Fields} {from at o : ℕ} {out 
       ∙ append-nil w.done in
       subst⁻¹ (λ (x : List ℕ). Wrote from x out o out') e w.wrote
 
-  module _ {p : Spot} (e : p ≡ spot_of c s at) (h : at < length s) where
-    abbrev laying_step : Step c s at w.rest p
-    laying_step = standing-step e w.standing h
+  module _ {x : Record} (h : Shown s at (spot_of c s at) x) where
+    abbrev laying_step : Step c s at w.rest (spot_of c s at)
+    laying_step = shown-step c s at h w.standing
 
-    pub laying-inside : Inside (length s) at p
-    laying-inside = laying_step.stands.inside
-
-    pub laying-further : at + head_size ≤ p.next
-    laying-further = laying-inside.further laying_step.stands.good
+    first-is : fields_in x.parts ≡ laying_step.first
+    first-is = shown-first c s at h w.standing
 
     rest-sound : All (Sound c) (laying_step.first ∷ laying_step.rest)
     rest-sound = subst (All (Sound c)) laying_step.are w.sound
 
-    pub laying-writable : Writable c (fields_at s p)
-    laying-writable = subst⁻¹ (Writable c) (stands-is laying_step.stands) (writable c laying_step.first rest-sound.0)
+    pub laying-writable : Writable c (fields_in x.parts)
+    laying-writable = subst⁻¹ (Writable c) first-is (writable c laying_step.first rest-sound.0)
 
     -- what is laid, this record and what follows
-    laying-parts : stream_of c rs ≡ (w.done ++ share_of c (fields_at s p)) ++ stream_of c laying_step.rest
+    laying-parts : stream_of c rs ≡ (w.done ++ share_of c (fields_in x.parts)) ++ stream_of c laying_step.rest
     laying-parts =
         let t = laying_step in
         w.are
         ∙ ap (λ (x : List Fields). w.done ++ stream_of c x) t.are
         ∙ ap (λ (x : List ℕ). w.done ++ x) (stream-one c t.first t.rest)
-        ∙ ap (λ (x : Fields). w.done ++ (share_of c x ++ stream_of c t.rest)) (sym (stands-is t.stands))
-        ∙ sym (append_assoc w.done (share_of c (fields_at s p)) (stream_of c t.rest))
+        ∙ ap (λ (x : Fields). w.done ++ (share_of c x ++ stream_of c t.rest)) (sym first-is)
+        ∙ sym (append_assoc w.done (share_of c (fields_in x.parts)) (stream_of c t.rest))
 
-    pub laying-room : o + length (share_of c (fields_at s p)) ≤ length out'
+    pub laying-room : o + length (share_of c (fields_in x.parts)) ≤ length out'
     laying-room =
-        let d : List ℕ = w.done ++ share_of c (fields_at s p) in
+        let d : List ℕ = w.done ++ share_of c (fields_in x.parts) in
         let l = ap length laying-parts ∙ length-append d (stream_of c laying_step.rest) in
-        omega (arith, l, length-append w.done (share_of c (fields_at s p)), w.room, w.wrote.next, laying-length)
+        omega (arith, l, length-append w.done (share_of c (fields_in x.parts)), w.room, w.wrote.next, laying-length)
 
-    pub laying-next : {o' : ℕ} {out'' : List ℕ} → Wrote o (share_of c (fields_at s p)) out' o' out'' → Laying c s rs from out p.next o' out''
+    pub laying-next : {o' : ℕ} {out'' : List ℕ} → Wrote o (share_of c (fields_in x.parts)) out' o' out'' → Laying c s rs from out x.next o' out''
     laying-next v = record {
-      done = w.done ++ share_of c (fields_at s p);
+      done = w.done ++ share_of c (fields_in x.parts);
       rest = laying_step.rest;
       are = laying-parts;
-      standing = laying_step.standing;
+      standing = shown-standing c s at h w.standing;
       sound = rest-sound.1;
       room = w.room;
       wrote = then w.wrote v;

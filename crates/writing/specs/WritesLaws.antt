@@ -6,8 +6,7 @@ use Rattle.octets.specs.Numbers.{Bytes}
 use Rattle.numbers.specs.Refusal as refusal
 use Rattle.numbers.specs.Limit as limit
 use Rattle.carriers.specs.declared.Carrier.{Carrier}
-use Rattle.vetting.specs.declared.Vetted.TheVariants.{Refused, Sheet}
-use Rattle.vetting.specs.Vetting.{Vetted, vet_of, any_large}
+use Rattle.vetting.specs.Vetting.{Vetted, vet_of, any_large, Refused, Sheet}
 use Rattle.vetting.specs.Vetting as vetting
 use Rattle.vetting.specs.Weighing.{most}
 use Rattle.vetting.proofs.VettingLaws.{told-refused, told-sheet, vetted-small}

@@ -7,8 +7,8 @@ ghost use Rattle.std.specs.Prelude.{◌≡◌, true, ◌+◌, ◌*◌, ◌≤◌
 ghost use Rattle.octets.specs.Over.{Wrote};
 ghost use Rattle.numbers.specs.Limit as limit;
 ghost use Rattle.carriers.specs.Carriers.{is_joined};
+ghost use Rattle.blocks.specs.Parts.{fields_in};
 ghost use Rattle.layouts.specs.Writable.{Writable};
-ghost use Rattle.taking.specs.Spot.{fields_at, Inside};
 ghost use Rattle.layouts.specs.Layouts.{stream_of};
 ghost use Rattle.vetting.specs.Weighing.{share_of, most};
 ghost use Rattle.written.specs.Writing.{write_records, write_of};
@@ -17,39 +17,24 @@ ghost use Rattle.written.specs.Octets.{octets_of};
 ghost use Rattle.writing.specs.Laying.{records_of, Found, Ready, total_of, Measured};
 
 use answers::{Result, refused};
-use blocks::Head;
+use blocks::Parts;
 use carriers::Carrier;
 use numbers::Refusal;
-use taking::Spot;
+use taking::Records;
 use vetting::Vetted;
 
 // ---- octets
 
-// Writes the record whose fields stand at `p`: in carrier 1 its instance, else its option or attribute.
-fn put_record(out: &mut [u8], at: usize, c: Carrier, s: &[u8], p: Spot) -> usize
-    requires inside { Inside (length s.now) 0 p }
-    requires writable { Writable c (fields_at s.now p) }
-    requires p_in_bounds { at + length (share_of c (fields_at s.now p)) ≤ length out.old }
-    ensures { Wrote at (share_of c (fields_at s.now p)) out.old result out.new }
+// Writes a record: in carrier 1 its instance, else its option or attribute.
+fn put_record(out: &mut [u8], at: usize, c: Carrier, p: &Parts) -> usize
+    requires writable { Writable c (fields_in p.now) }
+    requires in_bounds { at + length (share_of c (fields_in p.now)) ≤ length out.old }
+    ensures { Wrote at (share_of c (fields_in p.now)) out.old result out.new }
 {
-    let name_from = p.name;
-    let name_end = name_from + p.nlen;
-    let addresses_from = p.addresses;
-    let addresses_end = addresses_from + p.alen;
-    let parameters_from = p.parameters;
-    let parameters_end = parameters_from + p.plen;
-    let name = &s[name_from..name_end];
-    let addresses = &s[addresses_from..addresses_end];
-    let parameters = &s[parameters_from..parameters_end];
-    let head = Head {
-        priority: p.priority,
-        lifetime: p.lifetime,
-        full: p.full,
-    };
     match c {
-        Carrier::Dhcp4 => layouts::put_instance(out, at, head, name, addresses, parameters),
+        Carrier::Dhcp4 => layouts::put_instance(out, at, p),
         Carrier::Dhcp6 | Carrier::Router | Carrier::Ike4 | Carrier::Ike6 => {
-            layouts::put_option(out, at, c, head, name, addresses, parameters)
+            layouts::put_option(out, at, c, p)
         }
     }
 }
@@ -61,12 +46,9 @@ fn put_stream(out: &mut [u8], from: usize, c: Carrier, s: &[u8]) -> usize
     requires s_in_bounds { from + length (stream_of c (records_of s.now)) ≤ length out.old }
     ensures { Wrote from (stream_of c (records_of s.now)) out.old result out.new }
 {
-    let mut next = sheets::FRONT;
     let mut at = from;
-    while next < s.len() {
-        let p = taking::record_at(c, &s[..], next);
-        at = put_record(out, at, c, &s[..], p);
-        next = p.next;
+    for record in Records::of(c, &s[..]) {
+        at = put_record(out, at, c, &record.parts);
     }
     at
 }
@@ -76,11 +58,11 @@ fn total_size(c: Carrier, size: usize) -> usize
     requires { size ≤ most * limit.records }
     ensures { result ≡ total_of c size }
 {
-    let f = c.facts();
-    if f.joined {
-        return pieces::cut_size(size);
+    if c.facts().joined {
+        pieces::cut_size(size)
+    } else {
+        size
     }
-    size
 }
 
 // Carrier 1: the instances of `size` octets are joined where the result of `total` octets ends, and then cut into options from its
@@ -102,28 +84,28 @@ fn put_octets(out: &mut [u8], c: Carrier, s: &[u8], size: usize, total: usize) -
     requires measured { Measured c s.now size total (length out.old) }
     ensures { Wrote 0 (octets_of c (records_of s.now)) out.old result out.new }
 {
-    let f = c.facts();
-    if f.joined {
-        return put_joined(out, c, s, size, total);
+    if c.facts().joined {
+        put_joined(out, c, s, size, total)
+    } else {
+        put_stream(out, 0, c, s)
     }
-    put_stream(out, 0, c, s)
 }
 
 // ---- the call
 
-// 44, 5, or the octets of a vetted sheet of carrier `c`, whose records have `size` octets; `large`: one of them is large.
-fn write_sheet(c: Carrier, s: &[u8], large: bool, size: usize, out: &mut [u8]) -> Result
-    requires { Found c s.now large size }
-    ensures { Writes (write_records c (records_of s.now) (length out.old)) out.old result out.new }
+// 44, 5, or the octets of a vetted sheet.
+fn write_sheet(v: Vetted, s: &[u8], out: &mut [u8]) -> Result
+    requires { Found v.carrier s.now v.large v.size }
+    ensures { Writes (write_records v.carrier (records_of s.now) (length out.old)) out.old result out.new }
 {
-    let total = total_size(c, size);
-    if large {
-        return refused(Refusal::LARGE, 0);
+    let total = total_size(v.carrier, v.size);
+    if v.large {
+        return refused(Refusal::Large.number(), 0);
     }
     if out.len() < total {
-        return refused(Refusal::ROOM, 0);
+        return refused(Refusal::Room.number(), 0);
     }
-    let length = put_octets(out, c, s, size, total);
+    let length = put_octets(out, v.carrier, s, v.size, total);
     answers::wrote(length)
 }
 
@@ -132,12 +114,7 @@ pub fn write(s: &[u8], out: &mut [u8]) -> Result
     ensures { Writes (write_of s.now (length out.old)) out.old result out.new }
 {
     match vetting::vet(s) {
-        Vetted::Refused { number, place } => refused(number, place),
-        Vetted::Sheet {
-            carrier,
-            large,
-            size,
-            ..
-        } => write_sheet(carrier, s, large, size, out),
+        Ok(v) => write_sheet(v, s, out),
+        Err(e) => refused(e.number(), e.place()),
     }
 }

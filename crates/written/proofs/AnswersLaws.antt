@@ -1,5 +1,5 @@
 -- What writing answers is what `Answers` says and nothing else (RULES D2). Assumes nothing.
-use Rattle.std.specs.Prelude.{◌≡◌, ◌⊎◌, ◌↔◌, Bool, List, [], ◌∷◌, ℕ, ◌+◌, ◌≤◌, ◌<◌, ltb, eqb, length, take}
+use Rattle.std.specs.Prelude.{◌≡◌, ◌⊎◌, ◌↔◌, Bool, List, [], ◌∷◌, ℕ, ◌+◌, ◌≤◌, ◌<◌, ltb, eqb, length, take, Option, Some, None}
 use Rattle.std.proofs.Math.Path.{refl, subst⁻¹}
 use Rattle.std.proofs.Common.{sym, ap, ap₂, subst, ◌∙◌, inl, inr, true≢false, arith}
 use Rattle.std.proofs.Math.Bool.{true, false}
@@ -9,8 +9,6 @@ use Rattle.octets.specs.Lists.{All, same}
 use Rattle.numbers.specs.Refusal as refusal
 use Rattle.numbers.specs.Limit as limit
 use Rattle.carriers.specs.declared.Carrier.{Carrier}
-use Rattle.carriers.specs.declared.Chosen.{Chosen}
-use Rattle.carriers.specs.declared.Chosen.TheVariants.{Known, Unknown}
 use Rattle.carriers.specs.Carriers.{chosen_of, number_of}
 use Rattle.carriers.proofs.CarriersLaws.{chosen-number, number-chosen}
 use Rattle.blocks.specs.Block.{Fields}
@@ -164,10 +162,10 @@ module _ (s : List ℕ) (room : ℕ) where
     headed-so : {k n : ℕ} → IsHead s k n → Answered
     headed-so {k} {n} i = go (chosen_of k) refl
       where
-        go : (o : Chosen) → chosen_of k ≡ o → Answered
-        go Unknown e =
-            so (no_carrier i (λ c j. let q : Known c ≡ Unknown = sym (chosen-number c) ∙ ap chosen_of j ∙ e in let z : ◌≡◌ {A = ℕ} 0 1 = cc in omega arith))
-        go (Known c) e = counted-so c (subst (λ (k : ℕ). IsHead s k n) (number-chosen k c e) i)
+        go : (o : Option Carrier) → chosen_of k ≡ o → Answered
+        go None e =
+            so (no_carrier i (λ c j. let q : Some c ≡ None = sym (chosen-number c) ∙ ap chosen_of j ∙ e in let z : ◌≡◌ {A = ℕ} 0 1 = cc in omega arith))
+        go (Some c) e = counted-so c (subst (λ (k : ℕ). IsHead s k n) (number-chosen k c e) i)
 
     -- 40, 41
     short-so : length s ≤ limit.input → Answered

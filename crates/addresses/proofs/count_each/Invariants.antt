@@ -1,9 +1,6 @@
-use Rattle.std.proofs.Common.{◌-◌, length}
-use Rattle.addresses.specs.CountLaws.{Counting}
+use Rattle.std.proofs.Common.{◌≡◌, ◌+◌, ◌≤◌, length, drop}
+use Rattle.addresses.specs.Addresses.{kept_of}
 use Rattle.addresses.proofs.count_each.Given as goal
 
-abbrev pub invariant-loop-at : goal.invariant-loop-at
-invariant-loop-at l = Counting l.w l.s l.n l.at
-
-abbrev pub decreases-loop-at : goal.decreases-loop-at
-decreases-loop-at l = length l.s - l.at
+abbrev pub invariant-loop-a : goal.invariant-loop-a
+invariant-loop-a g l = (l.n ≤ l.a-index) × (l.n + length (kept_of g.row.W (drop l.a-index l.list)) ≡ length (kept_of g.row.W l.list))

@@ -1,9 +1,6 @@
-use Rattle.std.proofs.Common.{◌-◌, length}
-use Rattle.addresses.specs.AddressesLaws.{Looking}
+use Rattle.std.proofs.Common.{◌≡◌}
+use Rattle.addresses.specs.Addresses.{list_of, has_of}
 use Rattle.addresses.proofs.has.Given as goal
 
-abbrev pub invariant-loop-at : goal.invariant-loop-at
-invariant-loop-at l = Looking l.w l.s l.wanted l.at
-
-abbrev pub decreases-loop-at : goal.decreases-loop-at
-decreases-loop-at l = length l.s - l.at
+abbrev pub invariant-loop-a : goal.invariant-loop-a
+invariant-loop-a l = (l.a-iterator.size ≡ l.w) × (has_of l.w l.wanted (list_of l.w l.s) ≡ has_of l.w l.wanted (list_of l.w l.a-iterator.rest.now))

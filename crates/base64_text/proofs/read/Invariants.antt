@@ -1,9 +1,7 @@
-use Rattle.std.proofs.Common.{◌≡◌, ◌-◌, length}
+use Rattle.std.proofs.Common.{◌≡◌, length}
 use Rattle.base64_text.specs.Turns.{Laying}
+use Rattle.base64_text.specs.Held.{quantum_in}
 use Rattle.base64_text.proofs.read.Given as goal
 
 abbrev pub invariant-loop-i : goal.invariant-loop-i
-invariant-loop-i l = (length l.out ≡ length l.initial.out) × Laying l.text l.initial.out l.out l.s l.n l.i
-
-abbrev pub decreases-loop-i : goal.decreases-loop-i
-decreases-loop-i l = length l.text - l.i
+invariant-loop-i l = (length l.out ≡ length l.initial.out) × Laying l.text l.initial.out l.out (quantum_in l.s) l.n l.i

@@ -1,26 +1,25 @@
--- `blocks::attribute` meets its contract: a law of `PlacesLaws` for each way out. Assumes nothing.
-use Rattle.std.proofs.Common.{le_of_lt, arith, rules}
-use Rattle.carriers.proofs.CarriersLaws.{addresses-octets}
-use Rattle.blocks.specs.PlacesLaws.{attribute-whole-ranged, attribute-fixed-cut, attribute-fields-cut, attribute-whole}
+-- `blocks::attribute` meets its contract: a law of `PartsLaws` for each way out. Assumes nothing.
+use Rattle.std.proofs.Common.{◌∙◌}
+use Rattle.blocks.specs.PartsLaws.{handed-on, attribute-cut, attribute-addresses-cut, attribute-name-cut, attribute-whole}
 use Rattle.blocks.proofs.attribute.Goals as goal
 
-pub returns-then-n-addresses : goal.returns-then-n-addresses
-returns-then-n-addresses c = search (rules, attribute-fixed-cut)
+pub returns-in_err-rest-clause-result_value : goal.returns-in_err-rest-clause-result_value
+returns-in_err-rest-clause-result_value c =
+    handed-on _ c.in_err-rest.ensures.0 c.from_residual.ensures.1 ∙ attribute-cut _ _ c.requires c.in_err-rest.ensures.1
 
-pub overflow_mul-alen : goal.overflow_mul-alen
-overflow_mul-alen c =
-    omega (arith, addresses-octets c.args.carrier (le_of_lt c.wide-count.ensures.upper_bound) c.address_width.ensures)
+pub returns-in_err-addresses-clause-result_value : goal.returns-in_err-addresses-clause-result_value
+returns-in_err-addresses-clause-result_value c =
+    handed-on _ c.in_err-addresses.ensures.0 c.from_residual-in_err-addresses.ensures.1
+    ∙ attribute-addresses-cut _ _ c.requires c.in_ok-rest.ensures c.get16-priority.ensures.value c.from-count.ensures c.address_width.ensures
+    c.in_err-addresses.ensures.1
 
-pub overflow_add-alen : goal.overflow_add-alen
-overflow_add-alen c =
-    omega (arith, addresses-octets c.args.carrier (le_of_lt c.wide-count.ensures.upper_bound) c.address_width.ensures)
+pub returns-in_err-name-clause-result_value : goal.returns-in_err-name-clause-result_value
+returns-in_err-name-clause-result_value c =
+    handed-on _ c.in_err-name.ensures.0 c.from_residual-in_err-name.ensures.1
+    ∙ attribute-name-cut _ _ c.requires c.in_ok-rest.ensures c.get16-priority.ensures.value c.from-count.ensures c.address_width.ensures
+    c.in_ok-addresses.ensures c.from.ensures c.in_err-name.ensures.1
 
-pub returns-then-n-addresses-2 : goal.returns-then-n-addresses-2
-returns-then-n-addresses-2 c = search (rules, attribute-fields-cut)
-
-pub returns : goal.returns
-returns c = record {
-  result_value = search (rules, attribute-whole);
-  inside = search rules;
-  ranged = attribute-whole-ranged _ _ c.requires c.address_width.ensures (omega arith);
-}
+pub returns-clause-result_value : goal.returns-clause-result_value
+returns-clause-result_value c =
+    attribute-whole _ _ c.requires c.in_ok-rest.ensures c.get16-priority.ensures.value c.from-count.ensures c.address_width.ensures
+    c.in_ok-addresses.ensures c.from.ensures c.in_ok-name.ensures

@@ -1,40 +1,33 @@
--- `blocks::named` meets its contract: a law of `PlacesLaws` for each way out. Assumes nothing.
-use Rattle.std.proofs.Common.{refl, sym, arith, rules}
-use Rattle.carriers.proofs.CarriersLaws.{length-width}
-use Rattle.blocks.specs.Parse.{after_name}
-use Rattle.blocks.specs.PlacesLaws.{fixed-cut, name-cut, named-opens, named-alone, named-followed, no-lifetime, alone-ranged}
+-- `blocks::named` meets its contract: a law of `PartsLaws` for each way out. Assumes nothing.
+use Rattle.std.proofs.Common.{◌∙◌, ap}
+use Rattle.blocks.specs.Parse.{fields}
+use Rattle.blocks.specs.PartsLaws.{handed-on, named-cut, named-name-cut, named-alone, named-addresses-cut, named-whole}
 use Rattle.blocks.proofs.named.Goals as goal
 
-pub overflow_add-name : goal.overflow_add-name
-overflow_add-name c = omega (arith, length-width c.args.carrier)
+pub returns-in_err-rest-clause-result_value : goal.returns-in_err-rest-clause-result_value
+returns-in_err-rest-clause-result_value c =
+    handed-on _ c.in_err-rest.ensures.0 c.from_residual.ensures.1
+    ∙ named-cut _ _ c.requires c.length_width-w.ensures c.in_err-rest.ensures.1
 
-pub returns-then-n-name : goal.returns-then-n-name
-returns-then-n-name c =
-    let opens = named-opens _ _ c.requires in
-    record {
-      result_value = fixed-cut _ _ (after_name c.args.carrier) opens (sym c.requires.0) c.length_width-w.ensures refl (omega arith);
-      inside = tt;
-      ranged = tt;
-    }
+pub returns-in_err-name-clause-result_value : goal.returns-in_err-name-clause-result_value
+returns-in_err-name-clause-result_value c =
+    handed-on _ c.in_err-name.ensures.0 c.from_residual-in_err-name.ensures.1
+    ∙ named-name-cut _ _ c.requires c.length_width-w.ensures c.in_ok-rest.ensures c.get16-priority.ensures.value c.get_number.ensures.value
+    c.in_err-name.ensures.1
 
-pub get_number-nlen-requires : goal.get_number-nlen-requires
-get_number-nlen-requires c = record { width_in_bounds = omega arith; width_nonzero = omega (arith, length-width c.args.carrier) }
+pub returns-then-is_empty-clause-result_value : goal.returns-then-is_empty-clause-result_value
+returns-then-is_empty-clause-result_value c =
+    ap fields c.alone.ensures
+    ∙ named-alone _ _ c.requires c.length_width-w.ensures c.in_ok-rest.ensures c.get16-priority.ensures.value c.get_number.ensures.value
+    c.in_ok-name.ensures c.if-is_empty.ensures
 
-pub returns-then-n-name-2 : goal.returns-then-n-name-2
-returns-then-n-name-2 c = record {
-  result_value =
-      name-cut _ _ (after_name c.args.carrier) (named-opens _ _ c.requires) (sym c.requires.0) c.length_width-w.ensures refl (omega arith)
-      c.get_number-nlen.ensures.value (omega arith);
-  inside = tt;
-  ranged = tt;
-}
+pub returns-in_err-addresses-clause-result_value : goal.returns-in_err-addresses-clause-result_value
+returns-in_err-addresses-clause-result_value c =
+    handed-on _ c.in_err-addresses.ensures.0 c.from_residual-in_err-addresses.ensures.1
+    ∙ named-addresses-cut _ _ c.requires c.length_width-w.ensures c.in_ok-rest.ensures c.get16-priority.ensures.value c.get_number.ensures.value
+    c.in_ok-name.ensures c.if-is_empty.ensures c.in_err-addresses.ensures.1
 
-pub returns-then-left-eq0 : goal.returns-then-left-eq0
-returns-then-left-eq0 c = record {
-  result_value = search (rules, named-alone);
-  inside = omega arith;
-  ranged = alone-ranged _ c.requires.1 (no-lifetime _ (omega arith)) (sym c.requires.0) c.length_width-w.ensures;
-}
-
-pub returns : goal.returns
-returns c = search (rules, named-followed)
+pub returns-clause-result_value : goal.returns-clause-result_value
+returns-clause-result_value c =
+    named-whole _ _ c.requires c.length_width-w.ensures c.in_ok-rest.ensures c.get16-priority.ensures.value c.get_number.ensures.value
+    c.in_ok-name.ensures c.if-is_empty.ensures c.in_ok-addresses.ensures

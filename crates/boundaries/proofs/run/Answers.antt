@@ -5,5 +5,5 @@ use Rattle.boundaries.proofs.run.Goals as goal
 
 pub loop-at-smaller : goal.loop-at-smaller
 loop-at-smaller g c =
-    let e = subst (Past _ _) c.in-At.is c.run_case.ensures.past in
+    let e = subst (Past _ _) c.in-Some.is c.run_case.ensures.past in
     omega arith

@@ -9,4 +9,4 @@ returns-then-text-eq0 c = string-none _ _ c.if-text-eq0.true
 pub returns : goal.returns
 returns c =
     let p = c.put_words-written in
-    string-closed _ _ (omega arith) p.ensures c.lesser-end.ensures
+    string-closed _ _ (omega arith) p.ensures c.min-end.ensures

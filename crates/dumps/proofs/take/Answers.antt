@@ -1,19 +1,27 @@
 -- `dumps::take` meets its contract: the state moves, stars are filled in, and an octet that is complete is laid. Assumes nothing.
-use Rattle.dumps.specs.DumpsLaws.{take-bad, take-laid, take_no, take_long}
+use Rattle.std.proofs.Common.{refl, ap, ◌∙◌}
+use Rattle.dumps.specs.State.{State}
+use Rattle.dumps.specs.Held.{state_in}
+use Rattle.dumps.specs.HeldLaws.{take-refused, take-stopped, take-on}
+use Rattle.dumps.specs.StatesLaws.{moved-laid}
 use Rattle.dumps.proofs.take.Goals as goal
 
-pub returns-then-t-ne0 : goal.returns-then-t-ne0
-returns-then-t-ne0 c =
-    take-bad _ _ _ _ _ c.moved-t.ensures c.octet-b.ensures c.if-t-ne0.true
+pub returns-in_err-t : goal.returns-in_err-t
+returns-in_err-t c =
+    let a = c.args in
+    let e = moved-laid a.style a.x a.n (state_in a.s) a.out.now _ refl c.requires in
+    take-refused a.style (state_in a.s) a.x a.n a.out.now _ c.in_err-t.field-0.0 (c.in_err-t.ensures ∙ ap (λ (s : State). s.why) e)
+    c.from_residual.ensures.1
 
-pub returns-in-To : goal.returns-in-To
-returns-in-To c =
-    take-laid _ _ _ _ _ c.moved-t.ensures c.octet-b.ensures c.if-t-ne0.false c.fill.ensures c.in-To.is c.lay.ensures
+pub returns-in_err-m : goal.returns-in_err-m
+returns-in_err-m c =
+    let a = c.args in
+    let e = moved-laid a.style a.x a.n (state_in a.s) a.out.now _ refl c.requires in
+    take-stopped a.style (state_in a.s) a.x a.n a.out.now _ c.in_ok-t.t (c.in_ok-t.ensures ∙ e) c.in_err-m.field-0.0 c.in_err-m.ensures
+    c.from_residual-in_err-m.ensures.1
 
-pub returns-in-No : goal.returns-in-No
-returns-in-No c =
-    take_no _ _ _ _ _ c.moved-t.ensures c.octet-b.ensures c.if-t-ne0.false c.fill.ensures c.in-No.is
-
-pub returns-in-Long : goal.returns-in-Long
-returns-in-Long c =
-    take_long _ _ _ _ _ c.moved-t.ensures c.octet-b.ensures c.if-t-ne0.false c.fill.ensures c.in-Long.is
+pub returns : goal.returns
+returns c =
+    let a = c.args in
+    let e = moved-laid a.style a.x a.n (state_in a.s) a.out.now _ refl c.requires in
+    take-on a.style (state_in a.s) a.x a.n a.out.now _ c.in_ok-t.t (c.in_ok-t.ensures ∙ e) c.in_ok-m.ensures c.lay.ensures

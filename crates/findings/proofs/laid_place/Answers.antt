@@ -3,8 +3,8 @@ use Rattle.std.proofs.Common.{rules}
 use Rattle.findings.specs.PlacesLaws.{laid-other, laid-past, laid-padding}
 use Rattle.findings.proofs.laid_place.Goals as goal
 
-pub returns-then-fault-ne-PADDING : goal.returns-then-fault-ne-PADDING
-returns-then-fault-ne-PADDING c = search (rules, laid-other)
+pub returns-then-ne : goal.returns-then-ne
+returns-then-ne c = search (rules, laid-other)
 
 pub returns-then-body-from : goal.returns-then-body-from
 returns-then-body-from c = search (rules, laid-past)

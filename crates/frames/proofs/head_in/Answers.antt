@@ -1,6 +1,6 @@
 -- `frames::head_in` meets its contract: each return is one of the laws of `head_in`, at what the calls before it ensure, and so has its number.
 -- Assumes nothing.
-use Rattle.std.proofs.Common.{◌≡◌, sym, ap, ap₂, ◌∙◌, Bool, List, ℕ, ◌+◌, ◌≤◌, arith, eqb-true, length, eqb}
+use Rattle.std.proofs.Common.{◌≡◌, sym, ap, ap₂, ◌∙◌, Bool, List, ℕ, ◌+◌, ◌≤◌, arith, eqb-true, length, eqb, Ok}
 use Rattle.std.proofs.lemmas.Bool.{eqb-false}
 use Rattle.octets.specs.Numbers.{number_at}
 use Rattle.carriers.specs.declared.Carrier.{Carrier}
@@ -53,7 +53,7 @@ returns c =
     c.bare_code.ensures ∙ ap (bare_code f.reserved) c.header_in-h.ensures.code_value
     ∙ ap (λ (f : Facts). bare_code f.reserved (number_at f.width 0 s)) c.facts-f.ensures in
     let option =
-    ap₂ (λ (own : Bool) (n : ℕ). Head.Option own (octets n)) (ap₂ eqb code (ap (λ (f : Facts). f.code) c.facts-f.ensures)) size
+    ap₂ (λ (own : Bool) (n : ℕ). Ok (Head.Option own (octets n))) (ap₂ eqb code (ap (λ (f : Facts). f.code) c.facts-f.ensures)) size
     ∙ sym (head-option a.c s room (λ z. eqb-false _ _ (sym c.none.ensures ∙ c.if-none.false) (size ∙ z))) in
     record { value = option; variant = head-exactly a.c s _ option }
 

@@ -7,7 +7,7 @@ pub returns-then-width-eq1 : goal.returns-then-width-eq1
 returns-then-width-eq1 c =
     let a = c.args in
     let h = narrow-header a.width a.s.now (omega arith) c.if-width-eq1.true in
-    record { code_value = c.wide.ensures.value ∙ h.0; lower_value = h.1 }
+    record { code_value = c.from.ensures ∙ h.0; lower_value = h.1 }
 
 pub returns : goal.returns
 returns c =

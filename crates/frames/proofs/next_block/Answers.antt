@@ -1,5 +1,6 @@
 -- `frames::next_block` meets its contract: each return is one of the laws of `step_at`, and so has its number and values. Assumes nothing.
-use Rattle.std.proofs.Common.{◌≡◌, refl, sym, ap, ◌∙◌, Bool, true, arith, ℕ, ◌+◌, ◌-◌, length, take, drop}
+use Rattle.std.proofs.Common.{◌≡◌, refl, sym, ap, ◌∙◌, Bool, true, arith, ℕ, ◌+◌, ◌-◌, length, take, drop, Ok, Err}
+use Rattle.std.proofs.lemmas.Result.{err_from_is_err_and}
 use Rattle.carriers.specs.Carriers.{octets}
 use Rattle.frames.specs.declared.Head.{Head}
 use Rattle.frames.specs.declared.Step.{Step}
@@ -18,20 +19,21 @@ pub overflow_add-start : goal.overflow_add-start
 overflow_add-start c =
     let a = c.args in
     let n = c.in-Option.size.0 in
-    let own : Head.Option true (octets n) ≡ first_of a.c (take (length a.area.now - a.at) (drop a.at a.area.now)) =
-    ap (λ (own : Bool). Head.Option own (octets n)) (sym c.if-own.true) ∙ c.in-Option.ensures.value in
+    let own : Ok (Head.Option true (octets n)) ≡ first_of a.c (take (length a.area.now - a.at) (drop a.at a.area.now)) =
+    ap (λ (own : Bool). Ok (Head.Option own (octets n))) (sym c.if-own.true) ∙ ap Ok (sym c.in-Option.is) ∙ c.in_ok-first.ensures.value in
     omega (arith, c.header_size.ensures, own_room a.c a.area.now a.at (omega arith) own)
 
-pub returns-in-Bad : goal.returns-in-Bad
-returns-in-Bad c =
+pub returns-in_err-first : goal.returns-in_err-first
+returns-in_err-first c =
     let a = c.args in
-    let e = step_is a.c a.area.now a.at (omega arith) c.in-Bad.ensures.value refl in
+    let p = err_from_is_err_and c.from_residual.result c.from_residual.ensures.1 in
+    let e = step_is a.c a.area.now a.at (omega arith) (sym c.in_err-first.was ∙ c.first.ensures.value) (sym (p.1 ∙ ap Err p.2)) in
     record { value = e; step_says = step-says _ _ _ _ c.requires e }
 
 pub returns-in-End : goal.returns-in-End
 returns-in-End c =
     let a = c.args in
-    let e = step_is a.c a.area.now a.at (omega arith) c.in-End.ensures.value refl in
+    let e = step_is a.c a.area.now a.at (omega arith) (ap Ok (sym c.in-End.is) ∙ c.in_ok-first.ensures.value) refl in
     record { value = e; step_says = step-says _ _ _ _ c.requires e }
 
 pub returns-then-own : goal.returns-then-own
@@ -39,10 +41,10 @@ returns-then-own c =
     let a = c.args in
     let n = c.in-Option.size.0 in
     let e =
-    step_is a.c a.area.now a.at (omega arith) c.in-Option.ensures.value
+    step_is a.c a.area.now a.at (omega arith) (ap Ok (sym c.in-Option.is) ∙ c.in_ok-first.ensures.value)
     (option-fits a.c (length a.area.now - a.at) a.at c.in-Option.own n (omega arith)
-    ∙ ap (λ (own : Bool). option_at a.c a.at own n) c.if-own.true
-    ∙ ap (λ (h : ℕ). Step.Block (a.at + h) (a.at + n)) (sym c.header_size.ensures)) in
+    ∙ ap (λ (own : Bool). Ok (option_at a.c a.at own n)) c.if-own.true
+    ∙ ap (λ (h : ℕ). Ok (Step.Block (a.at + h) (a.at + n))) (sym c.header_size.ensures)) in
     record { value = e; step_says = step-says _ _ _ _ c.requires e }
 
 pub returns-else-own : goal.returns-else-own
@@ -50,15 +52,15 @@ returns-else-own c =
     let a = c.args in
     let n = c.in-Option.size.0 in
     let e =
-    step_is a.c a.area.now a.at (omega arith) c.in-Option.ensures.value
+    step_is a.c a.area.now a.at (omega arith) (ap Ok (sym c.in-Option.is) ∙ c.in_ok-first.ensures.value)
     (option-fits a.c (length a.area.now - a.at) a.at c.in-Option.own n (omega arith)
-    ∙ ap (λ (own : Bool). option_at a.c a.at own n) c.if-own.false) in
+    ∙ ap (λ (own : Bool). Ok (option_at a.c a.at own n)) c.if-own.false) in
     record { value = e; step_says = step-says _ _ _ _ c.requires e }
 
-pub returns-else-n-area : goal.returns-else-n-area
-returns-else-n-area c =
+pub returns-then-area-at : goal.returns-then-area-at
+returns-then-area-at c =
     let a = c.args in
     let e =
-    step_is a.c a.area.now a.at (omega arith) c.in-Option.ensures.value
+    step_is a.c a.area.now a.at (omega arith) (ap Ok (sym c.in-Option.is) ∙ c.in_ok-first.ensures.value)
     (option-over a.c (length a.area.now - a.at) a.at c.in-Option.own c.in-Option.size.0 (omega arith)) in
     record { value = e; step_says = step-says _ _ _ _ c.requires e }

@@ -4,23 +4,17 @@ use Rattle.carriers.specs.declared.Facts.{Facts}
 use Rattle.frames.specs.Skip.{none}
 use Rattle.frames.proofs.skip_foreign.Goals as goal
 
-pub returns-then-f-eq-WIDE : goal.returns-then-f-eq-WIDE
-returns-then-f-eq-WIDE c =
+pub returns-then-f : goal.returns-then-f
+returns-then-f c = search (rules, none)
+
+pub returns : goal.returns
+returns c =
     let row = c.facts-f.ensures in
     c.skip_wide.ensures.skips
     (record {
       code_is = sym (ap (λ (f : Facts). f.code) row);
       reserved_is = sym (ap (λ (f : Facts). f.reserved) row);
-      width = sym (ap (λ (f : Facts). f.width) row) ∙ c.if-f-eq-WIDE.true;
+      width = sym (ap (λ (f : Facts). f.width) row) ∙ c.if-f-ne-WIDE.false;
       octets = sym (ap (λ (f : Facts). f.eights) row) ∙ c.if-f-2.false;
       apart = sym (ap (λ (f : Facts). f.joined) row) ∙ c.if-f.false;
     })
-
-pub returns-then-f : goal.returns-then-f
-returns-then-f c = search (rules, none)
-
-pub returns-then-f-2 : goal.returns-then-f-2
-returns-then-f-2 c = search (rules, none)
-
-pub returns : goal.returns
-returns c = search (rules, none)

@@ -13,7 +13,7 @@ loop-at-preserved-then-h-eq0 c =
     (record {
       header = c.if-area-at-lt-WIDE_HEADER.false;
       other = λ q. c.if-bare_code-code.false (c.bare_code.ensures ∙ rw c.header_in-h.ensures.code_value q);
-      says = omega (arith, c.if-h-eq0.true, c.wide-n.ensures.value, c.header_in-h.ensures.lower_value);
+      says = omega (arith, c.if-h-eq0.true, c.from-n.ensures, c.header_in-h.ensures.lower_value);
       whole = c.if-area-start.false;
     })
 

@@ -1,9 +1,11 @@
-use Rattle.std.proofs.Common.{◌≡◌, ◌+◌, ◌-◌, length}
+use Rattle.std.proofs.Common.{◌≡◌, length}
 use Rattle.groups.specs.GroupsLaws.{Reading}
+use Rattle.groups.specs.Held.{state_in}
 use Rattle.groups.proofs.read.Given as goal
 
 abbrev pub invariant-loop-i : goal.invariant-loop-i
-invariant-loop-i l = (length l.out ≡ length l.initial.out) × Reading l.kind l.text l.initial.out l.s l.n l.i l.out
-
-abbrev pub decreases-loop-i : goal.decreases-loop-i
-decreases-loop-i l = length l.text + 1 - l.i
+invariant-loop-i l = record {
+  size : length l.out ≡ length l.initial.out;
+  kind : l.s.kind ≡ l.fn.kind;
+  reading : Reading l.fn.kind l.text l.initial.out (state_in l.s) l.n l.i l.out;
+}

@@ -6,17 +6,17 @@ use Rattle.hexes.proofs.value.Goals as goal
 pub overflow_sub-result : goal.overflow_sub-result
 overflow_sub-result c = by-digit c.args.x c.requires (λ h k. omega arith) (λ h k. absurd (omega arith)) (λ h k. absurd (omega arith))
 
-pub returns-then-x-lt65 : goal.returns-then-x-lt65
-returns-then-x-lt65 c =
-    let e = value-decimal c.args.x c.if-x-lt65.true in
+pub returns-in-0-to-64 : goal.returns-in-0-to-64
+returns-in-0-to-64 c =
+    let e = value-decimal c.args.x (omega arith) in
     by-digit c.args.x c.requires (λ h k. record { value = omega arith; upper_bound = omega arith }) (λ h k. absurd (omega arith)) (λ h k. absurd (omega arith))
 
-pub returns-then-x-lt97 : goal.returns-then-x-lt97
-returns-then-x-lt97 c =
-    let e = value-upper c.args.x c.if-x-lt65.false c.if-x-lt97.true in
+pub returns-in-65-to-96 : goal.returns-in-65-to-96
+returns-in-65-to-96 c =
+    let e = value-upper c.args.x (omega arith) (omega arith) in
     by-digit c.args.x c.requires (λ h k. absurd (omega arith)) (λ h k. record { value = omega arith; upper_bound = omega arith }) (λ h k. absurd (omega arith))
 
-pub returns : goal.returns
-returns c =
-    let e = value-lower c.args.x c.if-x-lt97.false in
+pub returns-in_default : goal.returns-in_default
+returns-in_default c =
+    let e = value-lower c.args.x (omega arith) in
     by-digit c.args.x c.requires (λ h k. absurd (omega arith)) (λ h k. absurd (omega arith)) (λ h k. record { value = omega arith; upper_bound = omega arith })

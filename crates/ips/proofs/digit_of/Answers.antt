@@ -1,10 +1,10 @@
 -- `ips::digit_of` meets its contract. Assumes nothing.
-use Rattle.std.proofs.Common.{rules}
+use Rattle.std.proofs.Common.{arith}
 use Rattle.ips.specs.Writes.{digit_low, digit-high}
 use Rattle.ips.proofs.digit_of.Goals as goal
 
-pub returns-then-d-lt10 : goal.returns-then-d-lt10
-returns-then-d-lt10 c = search (rules, digit_low)
+pub returns-in-0-to-9 : goal.returns-in-0-to-9
+returns-in-0-to-9 c = digit_low _ (omega arith)
 
-pub returns-else-d-lt10 : goal.returns-else-d-lt10
-returns-else-d-lt10 c = search (rules, digit-high)
+pub returns-in_default : goal.returns-in_default
+returns-in_default c = digit-high _ (omega arith)

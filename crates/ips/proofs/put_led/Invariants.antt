@@ -1,11 +1,8 @@
-use Rattle.std.proofs.Common.{◌≡◌, map, ◌-◌, ◌/◌, ◌≤◌, length, take}
+use Rattle.std.proofs.Common.{map, take}
 use Rattle.octets.specs.Over.{Wrote}
 use Rattle.octets.specs.Numbers.{words}
 use Rattle.ips.specs.Ips.{hex, led}
 use Rattle.ips.proofs.put_led.Given as goal
 
 abbrev pub invariant-loop-k : goal.invariant-loop-k
-invariant-loop-k l = (l.k ≤ length l.s / 2) × (length l.out ≡ length l.initial.out) × Wrote l.at (led 58 (map hex (take l.k (words l.s)))) l.initial.out l.next l.out
-
-abbrev pub decreases-loop-k : goal.decreases-loop-k
-decreases-loop-k l = length l.s / 2 - l.k
+invariant-loop-k l = Wrote l.at (led 58 (map hex (take l.k (words l.s)))) l.initial.out l.next l.out

@@ -10,7 +10,7 @@ use Rattle.ips.proofs.run_in.Goals as goal
 
 pub loop-i-init : goal.loop-i-init
 unfolding zeros_ahead longest_from
-loop-i-init c = let e = no_fields c.args.a.now c.requires in (omega arith, rw e, rw e)
+loop-i-init c = let e = no_fields c.args.a.now c.requires in (rw e, rw e)
 
 pub zeros_from-n-requires : goal.zeros_from-n-requires
 zeros_from-n-requires c =
@@ -23,14 +23,14 @@ loop-i-preserved c =
     let i : ℕ = c.loop-i.i in
     let e : i - 1 + 1 ≡ i = omega arith in
     let turn : c.zeros_from-n.result ≡ zeros_ahead (drop (i - 1) (words a)) =
-    c.zeros_from-n.ensures ∙ zeros-turn a (i - 1) c.loop-i.n c.get16.result (omega arith) c.get16.ensures.value (rw e c.loop-i.invariant.1) in
+    c.zeros_from-n.ensures ∙ zeros-turn a (i - 1) c.loop-i.n c.get16.result (omega arith) c.get16.ensures.value (rw e c.loop-i.invariant.0) in
     let best : c.longer_of-best.result ≡ longest_from (i - 1) (drop (i - 1) (words a)) =
     c.longer_of-best.ensures ∙ longest-turn (words a) (i - 1) c.zeros_from-n.result c.loop-i.best (omega (arith, words-length a)) turn
-    (rw e c.loop-i.invariant.2) in
-    (omega arith, turn, best)
+    (rw e c.loop-i.invariant.1) in
+    (turn, best)
 
-pub returns : goal.returns
+pub returns-clause-value : goal.returns-clause-value
 unfolding run_of
-returns c =
+returns-clause-value c =
     let e : c.loop-i.i ≡ 0 = omega arith in
-    c.shortening_of.ensures ∙ ap shortening (rw e at c.loop-i.invariant.2)
+    c.shortening_of.ensures.value ∙ ap shortening (rw e at c.loop-i.invariant.1)

@@ -1,10 +1,7 @@
-use Rattle.std.proofs.Common.{◌≡◌, ◌-◌, ◌≤◌, length, take}
+use Rattle.std.proofs.Common.{◌≡◌, length, take}
 use Rattle.chars.specs.Puts.{Puts}
 use Rattle.lines.specs.HexLines.{lines_from}
 use Rattle.lines.proofs.put_hex.Given as goal
 
 abbrev pub invariant-loop-i : goal.invariant-loop-i
-invariant-loop-i l = (l.i ≤ length l.s) × (length l.out ≡ length l.initial.out) × Puts 0 (lines_from 0 (length l.s) (take l.i l.s)) l.initial.out l.o l.out
-
-abbrev pub decreases-loop-i : goal.decreases-loop-i
-decreases-loop-i l = length l.s - l.i
+invariant-loop-i l = (length l.out ≡ length l.initial.out) × Puts 0 (lines_from 0 (length l.s) (take l.i l.s)) l.initial.out l.o l.out

@@ -1,9 +1,7 @@
-use Rattle.std.proofs.Common.{◌≡◌, ◌+◌, ◌-◌, ◌≤◌, length, take}
+use Rattle.std.proofs.Common.{◌≡◌, ℕ, List, ◌++◌}
 use Rattle.octets.specs.Over.{Wrote}
 use Rattle.octets.proofs.copy_blocks.Given as goal
 
-abbrev pub invariant-loop-i : goal.invariant-loop-i
-invariant-loop-i l = (l.i ≤ length l.src) × (length l.out ≡ length l.initial.out) × Wrote l.at (take l.i l.src) l.initial.out (l.at + l.i) l.out
-
-abbrev pub decreases-loop-i : goal.decreases-loop-i
-decreases-loop-i l = length l.src - l.i
+abbrev pub invariant-loop-block : goal.invariant-loop-block
+invariant-loop-block l =
+    (l.block-iterator.size ≡ 16) × ((done : List ℕ) × (done ++ l.block-iterator.rest.now ≡ l.src) × Wrote l.at done l.initial.out l.o l.out)

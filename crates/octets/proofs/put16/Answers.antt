@@ -1,5 +1,5 @@
 -- `octets::put16` meets its contract: two stores. Assumes nothing.
-use Rattle.std.proofs.Common.{rules, arith, ◌≡◌, refl, ◌/◌, ◌%◌, length-set}
+use Rattle.std.proofs.Common.{rules, arith, refl, length-set}
 use Rattle.octets.specs.OverLaws.{over-two}
 use Rattle.octets.proofs.put16.Goals as goal
 
@@ -7,6 +7,4 @@ pub bounds-out-at-2 : goal.bounds-out-at-2
 bounds-out-at-2 c = simp length-set (omega arith)
 
 pub returns : goal.returns
-returns c =
-    let high : c.args.v / 256 % 256 ≡ c.args.v / 256 = omega arith in
-    record { room = omega arith; next = refl; laid = rw high (over-two c.args.at _ _ c.args.out.now (search rules)) }
+returns c = record { room = omega arith; next = refl; laid = rw c.to_be_bytes.ensures (over-two c.args.at _ _ c.args.out.now (search rules)) }

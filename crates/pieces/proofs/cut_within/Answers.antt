@@ -9,11 +9,11 @@ loop-i-init c = cutting-start c.requires.n_value
 
 pub put_piece-o-requires : goal.put_piece-o-requires
 put_piece-o-requires c =
-    (cutting-room c.lesser-size.result c.lesser-size.ensures c.loop-i.invariant c.loop-i-test.true, omega arith, omega arith)
+    (cutting-room c.min-size.result c.min-size.ensures c.loop-i.invariant c.loop-i-test.true, omega arith, omega arith)
 
 pub loop-i-preserved : goal.loop-i-preserved
 loop-i-preserved c =
-    cutting-turn c.lesser-size.result c.lesser-size.ensures c.loop-i.invariant c.loop-i-test.true (omega arith) c.put_piece-o.ensures (omega arith)
+    cutting-turn c.min-size.result c.min-size.ensures c.loop-i.invariant c.loop-i-test.true (omega arith) c.put_piece-o.ensures (omega arith)
 
 pub returns : goal.returns
 returns c = cutting-done c.loop-i.invariant c.loop-i-test.false

@@ -9,8 +9,8 @@ returns-in_default c =
 
 pub returns-then-area-gt-INPUT : goal.returns-then-area-gt-INPUT
 returns-then-area-gt-INPUT c =
-    reads-refused _ (read-long _ _ _ (sym c.of.ensures.value ∙ c.in-Known.is) c.if-area-gt-INPUT.true) c.refused-then-area-gt-INPUT.ensures
+    reads-refused _ (read-long _ _ _ (sym c.of.ensures.value ∙ c.in-Some.is) c.if-area-gt-INPUT.true) c.refused-then-area-gt-INPUT.ensures
 
 pub returns : goal.returns
 returns c =
-    reads_as (read_known _ _ _ (sym c.of.ensures.value ∙ c.in-Known.is) c.if-area-gt-INPUT.false) c.read_area.ensures
+    reads_as (read_known _ _ _ (sym c.of.ensures.value ∙ c.in-Some.is) c.if-area-gt-INPUT.false) c.read_area.ensures

@@ -1,156 +1,128 @@
 -- `reading::read_blocks` meets its contract. The invariant: what is counted tells of the blocks passed, and nothing is written. The measure
 -- is what is left of the area. Assumes nothing.
-use Rattle.std.proofs.Common.{List, ◌≤◌, ◌≡◌, refl, sym, ap, ◌∙◌, [], ◌∷◌, ◌++◌, arith, ℕ, length, length-set}
+use Rattle.std.proofs.Common.{List, ◌≤◌, ◌≡◌, refl, sym, ap, ◌∙◌, arith, ℕ, length, Ok, Err}
 use Rattle.frames.specs.declared.Step.{Step}
 use Rattle.frames.specs.Frame.{frame}
 use Rattle.frames.specs.Step.{step_at}
 use Rattle.frames.specs.Laws.{step_block, step-body, step-skipped}
 use Rattle.frames.specs.SkipLaws.{skips-forward, skips-step, skips-then}
-use Rattle.judge.specs.Place.{place_from}
-use Rattle.order.specs.declared.Slot.{Slot}
-use Rattle.order.specs.Listed.{listed}
-use Rattle.order.specs.ListedLaws.{listed_next}
 use Rattle.reading.specs.Reading.{read_framed}
-use Rattle.reading.specs.Tally.{Open, Tally}
-use Rattle.reading.specs.TallyLaws.{holds-none, holds-ready, tallying-start, tallying-open, tallying-discarded, tallying-kept, tallying-full, tallying-skips}
+use Rattle.carriers.specs.Carriers.{header_of}
+use Rattle.judge.specs.Place.{from, flawed}
+use Rattle.reading.specs.Tally.{first_in, Open, Tally}
+use Rattle.reading.specs.TallyLaws.{holds-new, holds-ready, tallying-start, tallying-open, tallying-discarded, tallying-keeps, tallying-skips}
 use Rattle.reading.specs.AnswerLaws.{reads_as, reads-from, reads-refused, answer-end, answer-fault}
 use Rattle.carriers.specs.declared.Carrier.{Carrier}
 use Rattle.numbers.specs.Limit as limit
 use Rattle.reading.specs.Walks.{Tallying}
-use Rattle.reading.proofs.Seeing.{seen_body}
+use Rattle.reading.proofs.Seeing.{fault-some, seen_body}
+use Rattle.reading.proofs.read_blocks.Goals.{then-discarded-eq0, else-discarded-eq0}
 use Rattle.reading.proofs.read_blocks.Goals as goal
 
 -- before a block there is room in the counts for one more
-opened : {c : Carrier} {area : List ℕ} {at start end : ℕ} {t : Tally} → Tallying c area at t → step_at c area at ≡ Step.Block start end
+opened : {c : Carrier} {area : List ℕ} {at start end : ℕ} {t : Tally} → Tallying c area at t → step_at c area at ≡ Ok (Step.Block start end)
     → length area ≤ limit.input → Open t
 opened g block few = let m = step_block _ _ _ block in tallying-open _ _ g (omega (arith, m.0, m.2, few))
 
 pub loop-start-init : goal.loop-start-init
-loop-start-init c = (tallying-start _ _ (holds-none _ _ c.empty-slots.ensures.0 c.empty-slots.ensures.1), refl, c.empty-slots.ensures.2)
+loop-start-init c = (tallying-start _ _ (holds-new _ _ c.new-held.ensures.none c.new-held.ensures.value), refl)
 
 pub next_block-requires : goal.next_block-requires
 next_block-requires c = c.loop-start.invariant.0.walked.within
 
 pub slice_bounds-examine-count : goal.slice_bounds-examine-count
-slice_bounds-examine-count c =
-    let m = step_block _ _ _ (sym c.in-Block.ensures.value) in omega arith
+slice_bounds-examine-count c = let m = step_block _ _ _ (sym c.next_block.ensures.value ∙ c.in-Ok-Block.is ∙ ap Ok c.in-Ok-Block.field-0-is) in omega arith
 
 pub slice_bounds-examine-start : goal.slice_bounds-examine-start
-slice_bounds-examine-start c =
-    let m = step_block _ _ _ (sym c.in-Block.ensures.value) in omega arith
+slice_bounds-examine-start c = let m = step_block _ _ _ (sym c.next_block.ensures.value ∙ c.in-Ok-Block.is ∙ ap Ok c.in-Ok-Block.field-0-is) in omega arith
 
 pub slice_bounds-examine-end : goal.slice_bounds-examine-end
-slice_bounds-examine-end c =
-    let m = step_block _ _ _ (sym c.in-Block.ensures.value) in omega arith
+slice_bounds-examine-end c = let m = step_block _ _ _ (sym c.next_block.ensures.value ∙ c.in-Ok-Block.is ∙ ap Ok c.in-Ok-Block.field-0-is) in omega arith
 
 pub overflow_add-found : goal.overflow_add-found
 overflow_add-found c =
-    let o = opened c.loop-start.invariant.0 (sym c.in-Block.ensures.value) c.requires.1 in
+    let o = opened c.loop-start.invariant.0 (sym c.next_block.ensures.value ∙ c.in-Ok-Block.is ∙ ap Ok c.in-Ok-Block.field-0-is) c.requires.1 in
     omega (arith, o.found)
 
--- a header and a place in a body are no more than an area
-pub place_from-there-requires : goal.place_from-there-requires
-place_from-there-requires c =
-    let m = step_block _ _ _ (sym c.in-Block.ensures.value) in
-    let e = c.examine-e.ensures in
-    let seen = seen_body c.args.c c.args.area.now _ _ c.examine-e.result m.1 m.2 e.value e.priority_bound.1 e.priority_bound.2 e.clean in
-    omega (arith, step-body _ _ _ (sym c.in-Block.ensures.value), seen.near, seen.low, seen.high, c.requires.1, c.header_size.ensures)
+pub back-requires : goal.back-requires
+back-requires c =
+    let m = step_block _ _ _ (sym c.next_block.ensures.value ∙ c.in-Ok-Block.is ∙ ap Ok c.in-Ok-Block.field-0-is) in
+    let seen = seen_body _ _ _ _ m.1 m.2 (Err c.in-Err-examine.flaw) c.in-Err-examine.ensures.value c.in-Err-examine.ensures.bounds in
+    omega (arith, step-body _ _ _ (sym c.next_block.ensures.value ∙ c.in-Ok-Block.is ∙ ap Ok c.in-Ok-Block.field-0-is), seen.near, seen.low, seen.high, c.requires.1, c.header_size.ensures)
 
-pub overflow_add-bad : goal.overflow_add-bad
-overflow_add-bad c =
-    let o = opened c.loop-start.invariant.0 (sym c.in-Block.ensures.value) c.requires.1 in
+pub overflow_add-discarded : goal.overflow_add-discarded
+overflow_add-discarded c =
+    let o = opened c.loop-start.invariant.0 (sym c.next_block.ensures.value ∙ c.in-Ok-Block.is ∙ ap Ok c.in-Ok-Block.field-0-is) c.requires.1 in
     omega (arith, o.found, o.discarded)
 
-pub loop-start-smaller-then-e-ne0 : goal.loop-start-smaller-then-e-ne0
-loop-start-smaller-then-e-ne0 c =
-    let m = step_block _ _ _ (sym c.in-Block.ensures.value) in omega arith
+pub loop-start-smaller-in-Err-examine : goal.loop-start-smaller-in-Err-examine
+loop-start-smaller-in-Err-examine c = let m = step_block _ _ _ (sym c.next_block.ensures.value ∙ c.in-Ok-Block.is ∙ ap Ok c.in-Ok-Block.field-0-is) in omega arith
 
-pub loop-start-preserved-then-e-ne0 : goal.loop-start-preserved-then-e-ne0
-loop-start-preserved-then-e-ne0 c =
-    let m = step_block _ _ _ (sym c.in-Block.ensures.value) in
-    let e = c.examine-e.ensures in
-    let seen = seen_body c.args.c c.args.area.now _ _ c.examine-e.result m.1 m.2 e.value e.priority_bound.1 e.priority_bound.2 e.clean in
+pub loop-start-preserved-in-Err-examine : goal.loop-start-preserved-in-Err-examine
+loop-start-preserved-in-Err-examine c =
+    let flaw = c.in-Err-examine.flaw in
+    let block = (sym c.next_block.ensures.value ∙ c.in-Ok-Block.is ∙ ap Ok c.in-Ok-Block.field-0-is) in
+    let m = step_block _ _ _ block in
+    let seen = seen_body _ _ _ _ m.1 m.2 (Err flaw) c.in-Err-examine.ensures.value c.in-Err-examine.ensures.bounds in
     let i = c.loop-start.invariant in
-    let there = c.place_from-there.ensures ∙ ap (λ (n : ℕ). place_from n c.examine-e.result.fault c.examine-e.result.place) c.header_size.ensures in
-    (tallying-discarded _ _ i.0 (sym c.in-Block.ensures.value) seen c.if-e-ne0.true there c.first_of-fault.ensures c.first_of-place.ensures, i.1, i.2)
+    let first : c.loop-start.discarded ≡ 0 → first_in c.if-discarded-eq0.first ≡ from (header_of c.args.c) (flawed flaw) =
+    elim c.if-discarded-eq0.branch [
+      | then-discarded-eq0 w ↦ λ z. ap first_in w.first-is ∙ w.back.ensures ∙ ap (λ (n : ℕ). from n (flawed flaw)) w.header_size.ensures
+      | else-discarded-eq0 w ↦ λ z. absurd (w.if-discarded-eq0.false z)
+    ] in
+    let later : (c.loop-start.discarded ≡ 0 → ⊥) → first_in c.if-discarded-eq0.first ≡ first_in c.loop-start.first =
+    elim c.if-discarded-eq0.branch [
+      | then-discarded-eq0 w ↦ λ n. absurd (n w.if-discarded-eq0.true)
+      | else-discarded-eq0 w ↦ λ n. ap first_in w.first-is
+    ] in
+    (tallying-discarded _ _ i.0 block seen (fault-some flaw.fault) first later, i.1)
 
-pub slot_of-requires : goal.slot_of-requires
-slot_of-requires c =
-    let m = step_block _ _ _ (sym c.in-Block.ensures.value) in
-    (m.1, omega (arith, m.2, c.requires.1), c.examine-e.ensures.priority_bound.0)
+pub keep-requires : goal.keep-requires
+keep-requires c =
+    let m = step_block _ _ _ (sym c.next_block.ensures.value ∙ c.in-Ok-Block.is ∙ ap Ok c.in-Ok-Block.field-0-is) in
+    let o = opened c.loop-start.invariant.0 (sym c.next_block.ensures.value ∙ c.in-Ok-Block.is ∙ ap Ok c.in-Ok-Block.field-0-is) c.requires.1 in
+    record { place = (m.1, omega (arith, m.2, c.requires.1)); bounds = (c.in-Ok.ensures.bounds.0, c.in-Ok.ensures.bounds.1, o.small) }
 
-pub bounds-slots-n : goal.bounds-slots-n
-bounds-slots-n c = c.if-slots-lt-RECORDS.true
+pub loop-start-smaller-in-Ok : goal.loop-start-smaller-in-Ok
+loop-start-smaller-in-Ok c = let m = step_block _ _ _ (sym c.next_block.ensures.value ∙ c.in-Ok-Block.is ∙ ap Ok c.in-Ok-Block.field-0-is) in omega arith
 
-pub overflow_add-size : goal.overflow_add-size
-overflow_add-size c =
-    let o = opened c.loop-start.invariant.0 (sym c.in-Block.ensures.value) c.requires.1 in
-    omega (arith, o.few, o.small, c.examine-e.ensures.priority_bound.1)
-
-pub loop-start-smaller-then-slots-lt-RECORDS : goal.loop-start-smaller-then-slots-lt-RECORDS
-loop-start-smaller-then-slots-lt-RECORDS c =
-    let m = step_block _ _ _ (sym c.in-Block.ensures.value) in omega arith
-
-pub loop-start-preserved-then-slots-lt-RECORDS : goal.loop-start-preserved-then-slots-lt-RECORDS
-loop-start-preserved-then-slots-lt-RECORDS c =
-    let m = step_block _ _ _ (sym c.in-Block.ensures.value) in
-    let e = c.examine-e.ensures in
-    let seen = seen_body c.args.c c.args.area.now _ _ c.examine-e.result m.1 m.2 e.value e.priority_bound.1 e.priority_bound.2 e.clean in
-    let l = c.loop-start in (
-      tallying-kept _ _ l.invariant.0 (sym c.in-Block.ensures.value) seen c.if-e-ne0.false
-          (record {
-            room = c.if-slots-lt-RECORDS.true;
-            count = refl;
-            list = listed_next l.slots c.slot_of.result l.invariant.2 c.if-slots-lt-RECORDS.true
-                ∙ ap (λ (s : Slot). listed l.slots ++ (s ∷ [])) c.slot_of.ensures;
-            claims = c.both-clean.ensures;
-          }),
-      l.invariant.1,
-      length-set l.slots.items l.slots.count c.slot_of.result ∙ l.invariant.2,
-    )
-
-pub loop-start-smaller-else-slots-lt-RECORDS : goal.loop-start-smaller-else-slots-lt-RECORDS
-loop-start-smaller-else-slots-lt-RECORDS c =
-    let m = step_block _ _ _ (sym c.in-Block.ensures.value) in omega arith
-
-pub loop-start-preserved-else-slots-lt-RECORDS : goal.loop-start-preserved-else-slots-lt-RECORDS
-loop-start-preserved-else-slots-lt-RECORDS c =
-    let m = step_block _ _ _ (sym c.in-Block.ensures.value) in
-    let e = c.examine-e.ensures in
-    let seen = seen_body c.args.c c.args.area.now _ _ c.examine-e.result m.1 m.2 e.value e.priority_bound.1 e.priority_bound.2 e.clean in
+pub loop-start-preserved-in-Ok : goal.loop-start-preserved-in-Ok
+loop-start-preserved-in-Ok c =
+    let block = (sym c.next_block.ensures.value ∙ c.in-Ok-Block.is ∙ ap Ok c.in-Ok-Block.field-0-is) in
+    let m = step_block _ _ _ block in
+    let seen = seen_body _ _ _ _ m.1 m.2 (Ok c.in-Ok.e) c.in-Ok.ensures.value c.in-Ok.ensures.bounds in
     let i = c.loop-start.invariant in
-    (tallying-full _ _ i.0 (sym c.in-Block.ensures.value) seen c.if-e-ne0.false c.if-slots-lt-RECORDS.false, i.1, i.2)
+    (tallying-keeps _ _ i.0 block seen refl c.keep.ensures, i.1)
 
 pub skip_foreign-at-requires : goal.skip_foreign-at-requires
-skip_foreign-at-requires c =
-    (step-skipped _ _ _ (sym c.in-Skipped.ensures.value)).1
+skip_foreign-at-requires c = (step-skipped _ _ _ (sym c.next_block.ensures.value ∙ c.in-Ok-Skipped.is ∙ ap Ok c.in-Ok-Skipped.field-0-is)).1
 
 pub loop-start-smaller : goal.loop-start-smaller
-loop-start-smaller c =
-    let m = step-skipped _ _ _ (sym c.in-Skipped.ensures.value) in omega (arith, skips-forward c.skip_foreign-at.ensures)
+loop-start-smaller c = let m = step-skipped _ _ _ (sym c.next_block.ensures.value ∙ c.in-Ok-Skipped.is ∙ ap Ok c.in-Ok-Skipped.field-0-is) in omega (arith, skips-forward c.skip_foreign-at.ensures)
 
 pub loop-start-preserved : goal.loop-start-preserved
 loop-start-preserved c =
     let i = c.loop-start.invariant in
-    (tallying-skips _ _ i.0 (skips-then (skips-step _ _ _ (sym c.in-Skipped.ensures.value)) c.skip_foreign-at.ensures), i.1, i.2)
+    (tallying-skips _ _ i.0 (skips-then (skips-step _ _ _ (sym c.next_block.ensures.value ∙ c.in-Ok-Skipped.is ∙ ap Ok c.in-Ok-Skipped.field-0-is)) c.skip_foreign-at.ensures), i.1)
 
 pub settle-requires : goal.settle-requires
 settle-requires c = holds-ready c.loop-start.invariant.0.shows.holds
 
-pub shape_of-out-in-End : goal.shape_of-out-in-End
-shape_of-out-in-End c = omega (arith, ap length c.loop-start.invariant.1)
+pub shape_of-out-in-Ok-End : goal.shape_of-out-in-Ok-End
+shape_of-out-in-Ok-End c = omega (arith, ap length c.loop-start.invariant.1)
 
-pub returns-in-End : goal.returns-in-End
-returns-in-End c =
+pub returns-in-Ok-End : goal.returns-in-Ok-End
+returns-in-Ok-End c =
+    let a = c.args in
+    let end = sym c.next_block.ensures.value ∙ c.in-Ok-End.is ∙ ap Ok c.in-Ok-End.field-0-is in
+    reads-from (read_framed a.c (frame a.c a.area.now)) c.loop-start.invariant.1
+    (reads_as (answer-end _ _ _ c.loop-start.invariant.0 c.requires.0 end) c.settle.ensures)
+
+pub shape_of-out-in-Err : goal.shape_of-out-in-Err
+shape_of-out-in-Err c = ap length c.loop-start.invariant.1
+
+pub returns-in-Err : goal.returns-in-Err
+returns-in-Err c =
     let a = c.args in
     reads-from (read_framed a.c (frame a.c a.area.now)) c.loop-start.invariant.1
-    (reads_as (answer-end _ _ _ c.loop-start.invariant.0 c.requires.0 (sym c.in-End.ensures.value)) c.settle.ensures)
-
-pub shape_of-out-in-Fault : goal.shape_of-out-in-Fault
-shape_of-out-in-Fault c = ap length c.loop-start.invariant.1
-
-pub returns-in-Fault : goal.returns-in-Fault
-returns-in-Fault c =
-    let a = c.args in
-    reads-from (read_framed a.c (frame a.c a.area.now)) c.loop-start.invariant.1
-    (reads-refused _ (answer-fault _ _ _ c.loop-start.invariant.0 (sym c.in-Fault.ensures.value)) c.refused.ensures)
+    (reads-refused _ (answer-fault _ _ _ c.loop-start.invariant.0 (sym c.in-Err.ensures.value)) c.refused.ensures)

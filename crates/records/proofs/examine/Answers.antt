@@ -1,19 +1,17 @@
--- `records::examine` meets its contract, by the places of the fields. Assumes nothing.
-use Rattle.records.specs.PlacesLaws.{examine-bad, examine-name-only, examine-full}
+-- `records::examine` meets its contract, by the parts of the body. Assumes nothing.
+use Rattle.blocks.specs.Parts.{fields_in}
+use Rattle.records.specs.SplitLaws.{answer-bad, answer-fields}
 use Rattle.records.proofs.examine.Goals as goal
 
-pub returns-in-Bad-clause-value : goal.returns-in-Bad-clause-value
-returns-in-Bad-clause-value c = (examine-bad _ _ c.split.ensures.result_value c.in-Bad.is c.faulty.ensures).0
+pub returns-in_err-parts : goal.returns-in_err-parts
+returns-in_err-parts c =
+    let all = answer-bad c.args.c c.args.body.now _ _ c.in_err-parts.ensures.result_value c.from_residual.ensures.1 in
+    record { value = all.0; bounds = all.1 }
 
-pub returns-in-NameOnly : goal.returns-in-NameOnly
-returns-in-NameOnly c =
-    let s = c.split.ensures in
-    let all = examine-name-only c.args.c _ s.result_value s.ranged c.in-NameOnly.is s.inside c.examine_name_only.ensures in
-    record { value = all.0; priority_bound = all.1.0; clean = all.1.1 }
-
-pub returns-in-Full : goal.returns-in-Full
-returns-in-Full c =
-    let s = c.split.ensures in
-    let full = c.examine_full.ensures in
-    let all = examine-full c.args.c _ s.result_value s.ranged c.in-Full.is s.inside full.by_index full.addresses_value in
-    record { value = all.0; priority_bound = all.1.0; clean = all.1.1 }
+pub returns : goal.returns
+returns c =
+    let s = c.in_ok-parts.ensures in
+    let all =
+    answer-fields c.args.c c.args.body.now (fields_in c.in_ok-parts.parts) s.result_value s.ranged _ c.examine_parts.ensures.value
+    c.examine_parts.ensures.clean in
+    record { value = all.0; bounds = all.1 }

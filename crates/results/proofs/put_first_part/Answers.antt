@@ -4,7 +4,7 @@ use Rattle.chars.specs.PutsLaws.{puts_none, puts_then}
 use Rattle.results.proofs.put_first_part.Goals as goal
 
 pub returns-then-fault-eq0 : goal.returns-then-fault-eq0
-returns-then-fault-eq0 c = simp (eq-eqb _ _ c.if-fault-eq0.true) (puts_none _ _ c.lesser.ensures)
+returns-then-fault-eq0 c = simp (eq-eqb _ _ c.if-fault-eq0.true) (puts_none _ _ c.min.ensures)
 
 pub returns : goal.returns
 returns c =

@@ -7,6 +7,6 @@ use Rattle.showing.proofs.put_line.Goals as goal
 pub returns : goal.returns
 returns c =
     puts-as
-    (line-is _ (c.wide.ensures.value ∙ c.number.ensures) _)
+    (line-is _ (c.from.ensures ∙ c.number.ensures) _)
     (puts_then c.put_carrier-named.ensures
     (puts_then c.put_all-opened.ensures.puts (puts_then c.put_number-numbered.ensures.puts c.put_count.ensures)))

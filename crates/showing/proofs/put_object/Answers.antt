@@ -7,6 +7,6 @@ use Rattle.showing.proofs.put_object.Goals as goal
 pub returns : goal.returns
 returns c =
     puts-as
-    (object-is _ (c.wide.ensures.value ∙ c.number.ensures))
+    (object-is _ (c.from.ensures ∙ c.number.ensures))
     (puts_then c.put_all-from.ensures.puts
     (puts_then c.put_number-numbered.ensures.puts (puts_then c.put_all-name.ensures.puts (puts_then c.put_carrier-named.ensures c.put_all.ensures.puts))))

@@ -1,32 +1,31 @@
--- `showing::put_records` meets its contract. The loop's invariant: whatever records the sheet has, those before index i are written. It ends since a
--- record has an octet. Assumes nothing.
+-- `showing::put_records` meets its contract. The loop's invariant: whatever records the sheet has, those that are passed are written. Assumes nothing.
 use Rattle.std.proofs.Common.{refl, arith}
-use borrow.Author.Tests.{not-false}
-use Rattle.showing.specs.SheetLaws.{lined-start, lined-good, lined-next, lined-end}
+use Rattle.sheets.specs.Sheets.{front_size}
+use Rattle.taking.specs.TurnsLaws.{turn-shown, turn-done, turn-rest, shown-short}
+use Rattle.showing.specs.SheetLaws.{lined-start, lined-next, lined-end}
 use Rattle.showing.proofs.put_records.Goals as goal
 
-pub loop-i-init : goal.loop-i-init
-loop-i-init c = (omega arith, refl, lined-start _ _ _ c.lesser-o.ensures)
-
-pub returns-then-not-p : goal.returns-then-not-p
-returns-then-not-p c =
-    λ rs h. absurd (lined-good _ _ _ (c.loop-i.invariant.2 rs h) c.record_at-p.ensures.value c.loop-i-test.true c.if-not-p.true)
+pub loop-record-init : goal.loop-record-init
+loop-record-init c =
+    (front_size, rw c.into_iter-record-iterator.ensures.into_iter_gives c.of-record-items.ensures, refl, lined-start _ _ _ c.min-o.ensures)
 
 pub put_record-o-requires : goal.put_record-o-requires
-put_record-o-requires c = let r = c.record_at-p.ensures in record { nlen_in_bounds = (r.inside.name, omega (arith, r.sized.nlen)); alen_in_bounds = r.inside.addresses; plen_in_bounds = r.inside.parameters }
+put_record-o-requires c =
+    let i = c.loop-record.invariant in
+    let a = c.args in
+    shown-short a.c a.s.now i.0 (turn-shown i.1 c.in-Some.record c.in-Some.ensures.steps)
 
-pub loop-i-smaller : goal.loop-i-smaller
-loop-i-smaller c =
-    omega (arith, c.record_at-p.ensures.inside.further (not-false _ c.if-not-p.false), c.loop-i-test.true)
-
-pub loop-i-preserved : goal.loop-i-preserved
-loop-i-preserved c =
-    let further = c.record_at-p.ensures.inside.further (not-false _ c.if-not-p.false) in (
+pub loop-record-preserved : goal.loop-record-preserved
+loop-record-preserved c =
+    let i = c.loop-record.invariant in
+    let h = turn-shown i.1 c.in-Some.record c.in-Some.ensures.steps in (
+      c.in-Some.record.next,
+      turn-rest i.1 c.in-Some.record c.in-Some.ensures.steps,
       omega arith,
-      omega arith,
-      λ rs h. lined-next _ _ _ (c.loop-i.invariant.2 rs h) c.record_at-p.ensures.value c.loop-i-test.true (omega arith) c.put_record-o.ensures,
+      λ rs k. lined-next _ _ _ (i.3 rs k) h c.put_record-o.ensures,
     )
 
 pub returns : goal.returns
 returns c =
-    λ rs h. lined-end _ _ _ (c.loop-i.invariant.2 rs h) c.loop-i-test.false
+    let i = c.loop-record.invariant in
+    λ rs k. lined-end _ _ _ (i.3 rs k) (turn-done i.1 c.in-None.ensures.steps)

@@ -1,9 +1,9 @@
-use Rattle.std.proofs.Common.{◌-◌, length}
+use Rattle.std.proofs.Common.{length}
 use Rattle.svcparams.proofs.ValueLaws.{Strings}
 use Rattle.svcparams.proofs.alpn.Given as goal
 
-abbrev pub invariant-loop-at : goal.invariant-loop-at
-invariant-loop-at l = Strings l.v l.at
+abbrev pub invariant-loop-left : goal.invariant-loop-left
+invariant-loop-left l = Strings l.v l.left
 
-abbrev pub decreases-loop-at : goal.decreases-loop-at
-decreases-loop-at l = length l.v - l.at
+abbrev pub decreases-loop-left : goal.decreases-loop-left
+decreases-loop-left l = length l.left

@@ -1,32 +1,34 @@
 -- `svcparams::values` meets its contract. The loop's invariant: what is left of the field decides. Assumes nothing.
-use Rattle.std.proofs.Common.{rules, arith}
-use Rattle.svcparams.specs.TilingLaws.{size-head}
 use Rattle.svcparams.proofs.WalkLaws.{values-start, values-end, values-high, values-beside, values-bad, values-next}
 use Rattle.svcparams.proofs.values.Goals as goal
 
-pub loop-s-init : goal.loop-s-init
-loop-s-init c = search (rules, values-start)
-
-pub returns-then-n-eq0 : goal.returns-then-n-eq0
-returns-then-n-eq0 c = search (rules, values-end)
-
-pub get16-key-requires : goal.get16-key-requires
-get16-key-requires c = omega (arith, size-head _ c.size-n.ensures.value c.if-n-eq0.false)
-
-pub slice_bounds-v-count : goal.slice_bounds-v-count
-slice_bounds-v-count c = omega (arith, size-head _ c.size-n.ensures.value c.if-n-eq0.false)
-
-pub slice_bounds-v-start : goal.slice_bounds-v-start
-slice_bounds-v-start c = omega (arith, size-head _ c.size-n.ensures.value c.if-n-eq0.false)
+pub loop-n-init : goal.loop-n-init
+loop-n-init c = values-start _ c.requires
 
 pub returns-then-key-gt-PORT : goal.returns-then-key-gt-PORT
-returns-then-key-gt-PORT c = search (rules, values-high)
+returns-then-key-gt-PORT c =
+    let e = c.in-Some.ensures.value in
+    let h = c.in-Some.ensures.bounds.0 in
+    values-high _ _ _ c.loop-n.invariant e h c.get16-key.ensures.value c.if-key-gt-PORT.true
 
 pub allowed-requires : goal.allowed-requires
-allowed-requires c = search (rules, values-beside)
+allowed-requires c =
+    record {
+      p_value = c.requires;
+      beside_value = values-beside _ _ _ c.loop-n.invariant c.in-Some.ensures.value c.in-Some.ensures.bounds.0 c.get16-key.ensures.value;
+    }
 
 pub returns-then-not-allowed : goal.returns-then-not-allowed
-returns-then-not-allowed c = search (rules, values-bad)
+returns-then-not-allowed c =
+    let e = c.in-Some.ensures.value in
+    let h = c.in-Some.ensures.bounds.0 in
+    values-bad _ _ _ c.loop-n.invariant e h c.get16-key.ensures.value c.allowed.ensures c.if-not-allowed.true
 
-pub loop-s-preserved : goal.loop-s-preserved
-loop-s-preserved c = search (rules, values-next)
+pub loop-n-preserved : goal.loop-n-preserved
+loop-n-preserved c =
+    let e = c.in-Some.ensures.value in
+    let h = c.in-Some.ensures.bounds.0 in
+    values-next _ _ _ c.loop-n.invariant e h c.get16-key.ensures.value c.allowed.ensures c.if-not-allowed.false
+
+pub returns : goal.returns
+returns c = values-end _ _ _ c.loop-n.invariant c.in_default.ensures.value

@@ -4,6 +4,3 @@ use Rattle.texts.proofs.to_wire.Given as goal
 
 abbrev pub invariant-loop-i : goal.invariant-loop-i
 invariant-loop-i l = (length l.out ≡ length l.initial.out) × Wired l.at l.text l.initial.out l.out l.i l.label
-
-abbrev pub decreases-loop-i : goal.decreases-loop-i
-decreases-loop-i l = l.i

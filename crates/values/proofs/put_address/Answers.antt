@@ -23,7 +23,7 @@ returns-then-a-eq16 c =
     puts-as (wrote-front c.put6-n.ensures ∙ address-sixteen _ c.if-a-eq4.false c.if-a-eq16.true) c.put_all-then-a-eq16.ensures.puts
 
 pub returns : goal.returns
-returns c = puts-as (address-none _ c.if-a-eq4.false c.if-a-eq16.false) (puts_none _ _ c.lesser.ensures)
+returns c = puts-as (address-none _ c.if-a-eq4.false c.if-a-eq16.false) (puts_none _ _ c.min.ensures)
 
 pub slice_bounds-put_all-end : goal.slice_bounds-put_all-end
 slice_bounds-put_all-end c = simp length-take (omega arith)

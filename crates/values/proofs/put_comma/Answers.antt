@@ -3,7 +3,7 @@ use Rattle.chars.specs.PutsLaws.{puts_none}
 use Rattle.values.proofs.put_comma.Goals as goal
 
 pub returns-then-first : goal.returns-then-first
-returns-then-first c = rw c.if-first.true (puts_none _ _ c.lesser.ensures)
+returns-then-first c = rw c.if-first.true (puts_none _ _ c.min.ensures)
 
 pub returns : goal.returns
 returns c = rw c.if-first.false c.put_mark.ensures

@@ -5,7 +5,7 @@ use Rattle.values.specs.ValueLaws.{gap-none, gap-some}
 use Rattle.values.proofs.put_gap.Goals as goal
 
 pub returns-then-size-eq0 : goal.returns-then-size-eq0
-returns-then-size-eq0 c = puts-as (gap-none _ c.if-size-eq0.true) (puts_none _ _ c.lesser.ensures)
+returns-then-size-eq0 c = puts-as (gap-none _ c.if-size-eq0.true) (puts_none _ _ c.min.ensures)
 
 pub returns : goal.returns
 returns c =

@@ -1,31 +1,32 @@
 -- `values::put_key` meets its contract: a key by its name, or by its number. Assumes nothing.
+use Rattle.std.proofs.Common.{arith}
 use Rattle.chars.specs.PutsLaws.{puts_then, puts-as}
 use Rattle.values.specs.Values.{key_of}
 use Rattle.values.specs.ValueLaws.{key-number}
 use Rattle.values.proofs.put_key.Goals as goal
 
-pub returns-then-key-eq-MANDATORY : goal.returns-then-key-eq-MANDATORY
+pub returns-in-0 : goal.returns-in-0
 unfolding key_of
-returns-then-key-eq-MANDATORY c = rw c.if-key-eq-MANDATORY.true c.put_all.ensures.puts
+returns-in-0 c = rw c.in-0.is c.put_all.ensures.puts
 
-pub returns-then-key-eq-ALPN : goal.returns-then-key-eq-ALPN
+pub returns-in-1 : goal.returns-in-1
 unfolding key_of
-returns-then-key-eq-ALPN c = rw c.if-key-eq-ALPN.true c.put_all-then-key-eq-ALPN.ensures.puts
+returns-in-1 c = rw c.in-1.is c.put_all-in-1.ensures.puts
 
-pub returns-then-key-eq-NO_DEFAULT_ALPN : goal.returns-then-key-eq-NO_DEFAULT_ALPN
+pub returns-in-2 : goal.returns-in-2
 unfolding key_of
-returns-then-key-eq-NO_DEFAULT_ALPN c = rw c.if-key-eq-NO_DEFAULT_ALPN.true c.put_all-then-key-eq-NO_DEFAULT_ALPN.ensures.puts
+returns-in-2 c = rw c.in-2.is c.put_all-in-2.ensures.puts
 
-pub returns-then-key-eq-PORT : goal.returns-then-key-eq-PORT
+pub returns-in-3 : goal.returns-in-3
 unfolding key_of
-returns-then-key-eq-PORT c = rw c.if-key-eq-PORT.true c.put_all-then-key-eq-PORT.ensures.puts
+returns-in-3 c = rw c.in-3.is c.put_all-in-3.ensures.puts
 
-pub returns-then-key-eq-DOHPATH : goal.returns-then-key-eq-DOHPATH
+pub returns-in-7 : goal.returns-in-7
 unfolding key_of
-returns-then-key-eq-DOHPATH c = rw c.if-key-eq-DOHPATH.true c.put_all-then-key-eq-DOHPATH.ensures.puts
+returns-in-7 c = rw c.in-7.is c.put_all-in-7.ensures.puts
 
-pub returns : goal.returns
-returns c =
+pub returns-in_default : goal.returns-in_default
+returns-in_default c =
     puts-as
-    (key-number c.if-key-eq-MANDATORY.false c.if-key-eq-ALPN.false c.if-key-eq-NO_DEFAULT_ALPN.false c.if-key-eq-PORT.false c.if-key-eq-DOHPATH.false)
+    (key-number (λ e. omega arith) (λ e. omega arith) (λ e. omega arith) (λ e. omega arith) (λ e. omega arith))
     (puts_then c.put_all-next.ensures.puts c.put_number.ensures.puts)

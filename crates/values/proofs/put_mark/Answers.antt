@@ -6,4 +6,4 @@ pub returns-then-json : goal.returns-then-json
 returns-then-json c = rw c.if-json.true c.put.ensures.puts
 
 pub returns : goal.returns
-returns c = rw c.if-json.false (puts_none _ _ c.lesser.ensures)
+returns c = rw c.if-json.false (puts_none _ _ c.min.ensures)

@@ -6,7 +6,7 @@ use Rattle.values.specs.ValueLaws.{name-short, name-long}
 use Rattle.values.proofs.put_name.Goals as goal
 
 pub returns-then-wire-lt2 : goal.returns-then-wire-lt2
-returns-then-wire-lt2 c = puts-as (name-short _ c.if-wire-lt2.true) (puts_none _ _ c.lesser.ensures)
+returns-then-wire-lt2 c = puts-as (name-short _ c.if-wire-lt2.true) (puts_none _ _ c.min.ensures)
 
 pub returns : goal.returns
 returns c =

@@ -8,12 +8,12 @@ use Rattle.vectors.proofs.answer_text.Goals as goal
 
 pub put_wire-requires : goal.put_wire-requires
 put_wire-requires c =
-    (good _).0 (sym c.check_text.ensures.value ∙ c.in-Good.is)
+    (good _).0 (sym c.check_text.ensures.value ∙ c.in-Ok.is)
 
-pub returns-in-Good : goal.returns-in-Good
-returns-in-Good c =
-    puts-as (name-good (wire_of c.args.text.now) c.check_text.ensures.value c.in-Good.is) c.put_wire.ensures
+pub returns-in-Ok : goal.returns-in-Ok
+returns-in-Ok c =
+    puts-as (name-good (wire_of c.args.text.now) c.check_text.ensures.value c.in-Ok.is) c.put_wire.ensures
 
-pub returns-in-Bad : goal.returns-in-Bad
-returns-in-Bad c =
-    puts-as (name-bad (wire_of c.args.text.now) c.check_text.ensures.value c.in-Bad.is) c.put_bad.ensures
+pub returns-in-Err : goal.returns-in-Err
+returns-in-Err c =
+    puts-as (name-bad (wire_of c.args.text.now) c.check_text.ensures.value c.in-Err.is) c.put_bad.ensures

@@ -8,12 +8,12 @@ use Rattle.vectors.proofs.answer_wire.Goals as goal
 
 pub put_text-requires : goal.put_text-requires
 put_text-requires c =
-    (good _).0 (sym c.check_wire.ensures.value ∙ c.in-Good.is)
+    (good _).0 (sym c.check_wire.ensures.value ∙ c.in-Ok.is)
 
-pub returns-in-Good : goal.returns-in-Good
-returns-in-Good c =
-    puts-as (name-good (text_of c.args.wire.now) c.check_wire.ensures.value c.in-Good.is) c.put_text.ensures
+pub returns-in-Ok : goal.returns-in-Ok
+returns-in-Ok c =
+    puts-as (name-good (text_of c.args.wire.now) c.check_wire.ensures.value c.in-Ok.is) c.put_text.ensures
 
-pub returns-in-Bad : goal.returns-in-Bad
-returns-in-Bad c =
-    puts-as (name-bad (text_of c.args.wire.now) c.check_wire.ensures.value c.in-Bad.is) c.put_bad.ensures
+pub returns-in-Err : goal.returns-in-Err
+returns-in-Err c =
+    puts-as (name-bad (text_of c.args.wire.now) c.check_wire.ensures.value c.in-Err.is) c.put_bad.ensures

@@ -1,36 +1,30 @@
--- `writing::put_stream` meets its contract. The invariant: the records passed are laid. The measure is what is left of the sheet.
--- Assumes nothing.
-use Rattle.std.proofs.Common.{arith}
-use Rattle.taking.specs.StandingLaws.{standing-within}
-use Rattle.vetting.proofs.WeighingLaws.{inside-any}
-use Rattle.writing.specs.LayingLaws.{laying-start, laying-length, laying-end, laying-inside, laying-further, laying-writable, laying-room, laying-next}
+-- `writing::put_stream` meets its contract. The invariant: the records passed are laid. Assumes nothing.
+use Rattle.sheets.specs.Sheets.{front_size}
+use Rattle.taking.specs.TurnsLaws.{turn-shown, turn-done, turn-rest}
+use Rattle.writing.specs.LayingLaws.{laying-start, laying-length, laying-end, laying-writable, laying-room, laying-next}
 use Rattle.writing.proofs.put_stream.Goals as goal
 
-pub loop-next-init : goal.loop-next-init
-loop-next-init c =
+pub loop-record-init : goal.loop-record-init
+loop-record-init c =
     let p = c.requires in
-    laying-start p.ready p.s_in_bounds
-
-pub record_at-p-requires : goal.record_at-p-requires
-record_at-p-requires c = standing-within c.loop-next.invariant.standing
+    (front_size, rw c.into_iter-record-iterator.ensures.into_iter_gives c.of-record-items.ensures, laying-start p.ready p.s_in_bounds)
 
 pub put_record-at-requires : goal.put_record-at-requires
 put_record-at-requires c =
-    let i = c.loop-next.invariant in
-    let e = c.record_at-p.ensures.value in
-    let h = c.loop-next-test.true in
-    record { inside = inside-any (laying-inside i e h); writable = laying-writable i e h; p_in_bounds = laying-room i e h }
+    let i = c.loop-record.invariant in
+    let h = turn-shown i.1 c.in-Some.record c.in-Some.ensures.steps in
+    record { writable = laying-writable i.2 h; in_bounds = laying-room i.2 h }
 
-pub loop-next-smaller : goal.loop-next-smaller
-loop-next-smaller c =
-    omega (arith, c.loop-next-test.true, laying-further c.loop-next.invariant c.record_at-p.ensures.value c.loop-next-test.true)
-
-pub loop-next-preserved : goal.loop-next-preserved
-loop-next-preserved c =
-    laying-next c.loop-next.invariant c.record_at-p.ensures.value c.loop-next-test.true c.put_record-at.ensures
+pub loop-record-preserved : goal.loop-record-preserved
+loop-record-preserved c =
+    let i = c.loop-record.invariant in
+    let h = turn-shown i.1 c.in-Some.record c.in-Some.ensures.steps in
+    (c.in-Some.record.next, turn-rest i.1 c.in-Some.record c.in-Some.ensures.steps, laying-next i.2 h c.put_record-at.ensures)
 
 pub shape_of-out : goal.shape_of-out
-shape_of-out c = laying-length c.loop-next.invariant
+shape_of-out c = laying-length c.loop-record.invariant.2
 
 pub returns : goal.returns
-returns c = laying-end c.loop-next.invariant c.loop-next-test.false
+returns c =
+    let i = c.loop-record.invariant in
+    laying-end i.2 (turn-done i.1 c.in-None.ensures.steps)

@@ -1,14 +1,22 @@
 -- `arguments::tables::front_of` meets its contract: the tests in order. Assumes nothing.
 use Rattle.std.proofs.Common.{sym, ◌∙◌}
+use Rattle.chars.specs.Ascii.{ascii}
+use Rattle.arguments.specs.TablesLaws.{starts_begins}
 use Rattle.arguments.proofs.tables.front_of.Goals as goal
 
-pub returns-then-is_begun : goal.returns-then-is_begun
-returns-then-is_begun c = simp (sym c.is_begun.ensures ∙ c.if-is_begun.true)
+pub returns-then-starts_with : goal.returns-then-starts_with
+returns-then-starts_with c =
+    let short = c.starts_with.ensures.value ∙ starts_begins (ascii "-o") c.args.word.now in
+    simp (sym short ∙ c.if-starts_with.true)
 
-pub returns-then-is_begun-2 : goal.returns-then-is_begun-2
-returns-then-is_begun-2 c =
-    simp (sym c.is_begun.ensures ∙ c.if-is_begun.false, sym c.is_begun-2.ensures ∙ c.if-is_begun-2.true)
+pub returns-then-starts_with-2 : goal.returns-then-starts_with-2
+returns-then-starts_with-2 c =
+    let short = c.starts_with.ensures.value ∙ starts_begins (ascii "-o") c.args.word.now in
+    let long = c.starts_with-2.ensures.value ∙ starts_begins (ascii "--output=") c.args.word.now in
+    simp (sym short ∙ c.if-starts_with.false, sym long ∙ c.if-starts_with-2.true)
 
 pub returns : goal.returns
 returns c =
-    simp (sym c.is_begun.ensures ∙ c.if-is_begun.false, sym c.is_begun-2.ensures ∙ c.if-is_begun-2.false)
+    let short = c.starts_with.ensures.value ∙ starts_begins (ascii "-o") c.args.word.now in
+    let long = c.starts_with-2.ensures.value ∙ starts_begins (ascii "--output=") c.args.word.now in
+    simp (sym short ∙ c.if-starts_with.false, sym long ∙ c.if-starts_with-2.false)

@@ -1,34 +1,28 @@
--- `carriers::Carrier::of` meets its contract: the tests in order. Assumes nothing.
-use Rattle.std.proofs.Common.{eq-eqb, ne_eqb}
+-- `carriers::Carrier::of` meets its contract: the numbers in order. Assumes nothing.
+use Rattle.std.proofs.Common.{tests, rules}
 use Rattle.carriers.specs.Carriers.{chosen_of}
 use Rattle.carriers.proofs.Carrier.of.Goals as goal
 
-pub returns-then-number-eq1-clause-value : goal.returns-then-number-eq1-clause-value
+pub returns-in-1-clause-value : goal.returns-in-1-clause-value
 unfolding chosen_of
-returns-then-number-eq1-clause-value c =
-    simp (eq-eqb _ _ c.if-number-eq1.true)
+returns-in-1-clause-value c = simp c.in-1.is
 
-pub returns-then-number-eq2-clause-value : goal.returns-then-number-eq2-clause-value
+pub returns-in-2-clause-value : goal.returns-in-2-clause-value
 unfolding chosen_of
-returns-then-number-eq2-clause-value c =
-    simp (ne_eqb _ _ c.if-number-eq1.false, eq-eqb _ _ c.if-number-eq2.true)
+returns-in-2-clause-value c = simp c.in-2.is
 
-pub returns-then-number-eq3-clause-value : goal.returns-then-number-eq3-clause-value
+pub returns-in-3-clause-value : goal.returns-in-3-clause-value
 unfolding chosen_of
-returns-then-number-eq3-clause-value c =
-    simp (ne_eqb _ _ c.if-number-eq1.false, ne_eqb _ _ c.if-number-eq2.false, eq-eqb _ _ c.if-number-eq3.true)
+returns-in-3-clause-value c = simp c.in-3.is
 
-pub returns-then-number-eq4-clause-value : goal.returns-then-number-eq4-clause-value
+pub returns-in-4-clause-value : goal.returns-in-4-clause-value
 unfolding chosen_of
-returns-then-number-eq4-clause-value c =
-    simp (ne_eqb _ _ c.if-number-eq1.false, ne_eqb _ _ c.if-number-eq2.false, ne_eqb _ _ c.if-number-eq3.false, eq-eqb _ _ c.if-number-eq4.true)
+returns-in-4-clause-value c = simp c.in-4.is
 
-pub returns-then-number-eq5-clause-value : goal.returns-then-number-eq5-clause-value
+pub returns-in-5-clause-value : goal.returns-in-5-clause-value
 unfolding chosen_of
-returns-then-number-eq5-clause-value c =
-    simp (ne_eqb _ _ c.if-number-eq1.false, ne_eqb _ _ c.if-number-eq2.false, ne_eqb _ _ c.if-number-eq3.false, ne_eqb _ _ c.if-number-eq4.false, eq-eqb _ _ c.if-number-eq5.true)
+returns-in-5-clause-value c = simp c.in-5.is
 
-pub returns-clause-value : goal.returns-clause-value
+pub returns-in_default-clause-value : goal.returns-in_default-clause-value
 unfolding chosen_of
-returns-clause-value c =
-    simp (ne_eqb _ _ c.if-number-eq1.false, ne_eqb _ _ c.if-number-eq2.false, ne_eqb _ _ c.if-number-eq3.false, ne_eqb _ _ c.if-number-eq4.false, ne_eqb _ _ c.if-number-eq5.false)
+returns-in_default-clause-value c = search (tests, rules)

@@ -1,9 +1,6 @@
-use Rattle.std.proofs.Common.{length, ◌≡◌, ◌≤◌}
+use Rattle.std.proofs.Common.{length, ◌≡◌}
 use Rattle.files.specs.Paths.{slash_in}
 use Rattle.files.proofs.links.folder.Given as goal
 
 abbrev pub invariant-loop-i : goal.invariant-loop-i
-invariant-loop-i l = (l.i ≤ length l.path) × (slash_in l.i l.path ≡ slash_in (length l.path) l.path)
-
-abbrev pub decreases-loop-i : goal.decreases-loop-i
-decreases-loop-i l = l.i
+invariant-loop-i l = slash_in l.i l.path ≡ slash_in (length l.path) l.path

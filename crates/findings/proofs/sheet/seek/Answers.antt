@@ -1,43 +1,34 @@
--- `findings::sheet::seek` meets its contract. The invariant: the records that are left decide. The measure is what is left of the sheet. Assumes nothing.
-use Rattle.std.proofs.Common.{ap, ℕ, arith, take, drop}
-use native.Mathlib.Nat.{add-sub_cancel_left}
-use Rattle.taking.specs.StandingLaws.{standing-within}
-use Rattle.findings.specs.SheetLaws.{seeking-start, seeking-end, seeking-further, seeking-found, seeking-next}
+-- `findings::sheet::seek` meets its contract. The invariant: the records that are left decide. Assumes nothing.
+use Rattle.std.proofs.Common.{arith}
+use Rattle.sheets.specs.Sheets.{front_size}
+use Rattle.taking.specs.TurnsLaws.{turn-shown, turn-done, turn-rest, shown-within}
+use Rattle.findings.specs.SheetLaws.{seeking-start, seeking-end, seeking-found, seeking-next}
 use Rattle.findings.proofs.sheet.seek.Goals as goal
 
-pub loop-at-init : goal.loop-at-init
-loop-at-init c = let a = c.args in seeking-start a.c a.s.now a.place c.requires
+pub loop-record-init : goal.loop-record-init
+loop-record-init c =
+    let a = c.args in
+    (front_size, rw c.into_iter-record-iterator.ensures.into_iter_gives c.of-record-items.ensures, seeking-start a.c a.s.now a.place c.requires)
 
-pub record_at-p-requires : goal.record_at-p-requires
-record_at-p-requires c = standing-within c.loop-at.invariant.standing
+pub overflow_add-record : goal.overflow_add-record
+overflow_add-record c =
+    let i = c.loop-record.invariant in
+    let a = c.args in
+    omega (arith, shown-within a.c a.s.now i.0 (turn-shown i.1 c.in-Some.record c.in-Some.ensures.steps))
 
-pub overflow_add-end : goal.overflow_add-end
-overflow_add-end c = omega (arith, c.record_at-p.ensures.inside.name)
+pub returns-then-place-record : goal.returns-then-place-record
+returns-then-place-record c =
+    let i = c.loop-record.invariant in
+    let h = turn-shown i.1 c.in-Some.record c.in-Some.ensures.steps in
+    seeking-found i.2 h c.if-place-record.true c.saturating_sub.ensures c.name_reason.ensures
 
-pub slice_bounds-name_reason-count : goal.slice_bounds-name_reason-count
-slice_bounds-name_reason-count c = omega (arith, c.record_at-p.ensures.inside.name)
-
-pub slice_bounds-name_reason-end : goal.slice_bounds-name_reason-end
-slice_bounds-name_reason-end c = omega (arith, c.record_at-p.ensures.inside.name)
-
-pub returns-then-place-end : goal.returns-then-place-end
-returns-then-place-end c =
-    let s = c.args.s.now in
-    let p = c.record_at-p.result in
-    let cut = ap (λ (n : ℕ). take n (drop p.name s)) (add-sub_cancel_left p.name p.nlen) in
-    seeking-found c.loop-at.invariant c.record_at-p.ensures.value c.loop-at-test.true c.if-place-end.true cut (omega (arith, c.lesser.ensures))
-    c.name_reason.ensures
-
-pub loop-at-smaller : goal.loop-at-smaller
-loop-at-smaller c =
-    omega (arith, c.loop-at-test.true, seeking-further c.loop-at.invariant c.record_at-p.ensures.value c.loop-at-test.true)
-
-pub loop-at-preserved : goal.loop-at-preserved
-loop-at-preserved c =
-    seeking-next c.loop-at.invariant c.record_at-p.ensures.value c.loop-at-test.true c.if-place-end.false
+pub loop-record-preserved : goal.loop-record-preserved
+loop-record-preserved c =
+    let i = c.loop-record.invariant in
+    let h = turn-shown i.1 c.in-Some.record c.in-Some.ensures.steps in
+    (c.in-Some.record.next, turn-rest i.1 c.in-Some.record c.in-Some.ensures.steps, seeking-next i.2 h c.if-place-record.false)
 
 pub returns : goal.returns
-returns c = seeking-end c.loop-at.invariant c.loop-at-test.false
-
-pub overflow_sub-place : goal.overflow_sub-place
-overflow_sub-place c = omega (arith, c.lesser.ensures)
+returns c =
+    let i = c.loop-record.invariant in
+    seeking-end i.2 (turn-done i.1 c.in-None.ensures.steps)

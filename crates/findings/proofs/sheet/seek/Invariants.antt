@@ -1,9 +1,7 @@
-use Rattle.std.proofs.Common.{◌-◌, length}
+use Rattle.std.proofs.Common.{ℕ}
+use Rattle.taking.specs.Turns.{Begins}
 use Rattle.findings.specs.Sheet.{Seeking}
 use Rattle.findings.proofs.sheet.seek.Given as goal
 
-abbrev pub invariant-loop-at : goal.invariant-loop-at
-invariant-loop-at l = Seeking l.c l.s l.place l.at
-
-abbrev pub decreases-loop-at : goal.decreases-loop-at
-decreases-loop-at l = length l.s - l.at
+abbrev pub invariant-loop-record : goal.invariant-loop-record
+invariant-loop-record l = (at : ℕ) × Begins l.fn.c l.s at l.record-iterator × Seeking l.fn.c l.s l.place at

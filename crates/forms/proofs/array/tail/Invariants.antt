@@ -1,9 +1,6 @@
-use Rattle.std.proofs.Common.{◌≡◌, [], ◌∷◌, ◌++◌, ◌+◌, ◌-◌, length, drop}
-use Rattle.forms.specs.Arrays.{tail_from, tail_of}
+use Rattle.std.proofs.Common.{◌≡◌, [], ◌∷◌, ◌++◌, length, drop}
+use Rattle.forms.specs.Arrays.{after_in, tail_from, tail_of}
 use Rattle.forms.proofs.array.tail.Given as goal
 
 abbrev pub invariant-loop-i : goal.invariant-loop-i
-invariant-loop-i l = tail_from l.s l.n (length l.text) l.i (drop l.i (l.text ++ (10 ∷ []))) ≡ tail_of l.from l.n l.text
-
-abbrev pub decreases-loop-i : goal.decreases-loop-i
-decreases-loop-i l = length l.text + 1 - l.i
+invariant-loop-i l = tail_from (after_in l.s) l.n (length l.text) l.i (drop l.i (l.text ++ (10 ∷ []))) ≡ tail_of l.from l.n l.text

@@ -18,5 +18,5 @@ loop-i-preserved c =
 
 pub returns : goal.returns
 returns c =
-    let a = c.args in
-    (sym (place_none a.x a.text.now c.loop-i.i (omega arith)) ∙ c.loop-i.invariant.2, c.loop-i.invariant.0, c.loop-i.invariant.1)
+    let none = place_none c.args.x c.args.text.now c.loop-i.i (omega arith) in
+    (omega (arith, none, c.loop-i.invariant.2), c.requires, omega arith)

@@ -7,4 +7,4 @@ use Rattle.lines.proofs.objects.put_inner.Goals as goal
 
 pub returns : goal.returns
 returns c =
-    puts-as (ap string_of (inner-is _ c.last-end.ensures c.lesser-from.ensures)) c.put_string.ensures
+    puts-as (ap string_of (inner-is _ c.saturating_sub-end.ensures c.min-from.ensures)) c.put_string.ensures

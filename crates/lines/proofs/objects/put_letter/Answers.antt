@@ -1,20 +1,23 @@
--- `lines::objects::put_letter` meets its contract: an octet by its number, after a backslash, or as it is. Assumes nothing.
+-- `lines::objects::put_letter` meets its contract: an octet after a backslash, as it is, or by its number. Assumes nothing.
+use Rattle.std.proofs.Common.{arith}
 use Rattle.chars.specs.PutsLaws.{puts-as}
 use Rattle.lines.specs.ObjectsLaws.{letter-low, letter-high, letter-quotation, letter-backslash, letter-plain}
 use Rattle.lines.proofs.objects.put_letter.Goals as goal
+use Rattle.lines.proofs.objects.put_letter.Goals.{in_default-via-then-b-lt32, in_default-via-else-b-lt32+else-b-lt127}
 
-pub returns-then-b-lt32 : goal.returns-then-b-lt32
-returns-then-b-lt32 c = puts-as (letter-low c.if-b-lt32.true) c.put_unit.ensures
+pub returns-in-34 : goal.returns-in-34
+returns-in-34 c = rw c.in-34.is (puts-as letter-quotation c.put_all.ensures.puts)
 
-pub returns-then-b-gt126 : goal.returns-then-b-gt126
-returns-then-b-gt126 c = puts-as (letter-high c.if-b-gt126.true) c.put_unit-then-b-gt126.ensures
+pub returns-in-92 : goal.returns-in-92
+returns-in-92 c = rw c.in-92.is (puts-as letter-backslash c.put_all-in-92.ensures.puts)
 
-pub returns-then-b-eq34 : goal.returns-then-b-eq34
-returns-then-b-eq34 c = rw c.if-b-eq34.true (puts-as letter-quotation c.put_all.ensures.puts)
+pub returns-in-32-to-126 : goal.returns-in-32-to-126
+returns-in-32-to-126 c =
+    puts-as (letter-plain (omega arith) (omega arith) (λ e. omega arith) (λ e. omega arith)) c.put.ensures.puts
 
-pub returns-then-b-eq92 : goal.returns-then-b-eq92
-returns-then-b-eq92 c = rw c.if-b-eq92.true (puts-as letter-backslash c.put_all-then-b-eq92.ensures.puts)
-
-pub returns : goal.returns
-returns c =
-    puts-as (letter-plain c.if-b-lt32.false c.if-b-gt126.false c.if-b-eq34.false c.if-b-eq92.false) c.put.ensures.puts
+pub returns-in_default : goal.returns-in_default
+returns-in_default c =
+    elim c.in_default.branch [
+      | in_default-via-then-b-lt32 w ↦ puts-as (letter-low (omega arith)) c.put_unit.ensures
+      | in_default-via-else-b-lt32+else-b-lt127 w ↦ puts-as (letter-high (omega arith)) c.put_unit.ensures
+    ]

@@ -1,26 +1,19 @@
 -- `reasons::fields::wrong` meets its contract. The loop's invariant: what is left of the field decides. Assumes nothing.
-use Rattle.std.proofs.Common.{rules, arith}
-use Rattle.svcparams.specs.TilingLaws.{size-head}
 use Rattle.reasons.specs.ParamsLaws.{seeking-start, seeking-end, seeking-found, seeking-next}
 use Rattle.reasons.proofs.fields.wrong.Goals as goal
 
-pub loop-s-init : goal.loop-s-init
-loop-s-init c = seeking-start _ _ _
+pub loop-n-init : goal.loop-n-init
+loop-n-init c = seeking-start _ _ _
 
-pub returns-then-n-eq0 : goal.returns-then-n-eq0
-returns-then-n-eq0 c = search (rules, seeking-end)
+pub returns-then-is_wrong-clause-value : goal.returns-then-is_wrong-clause-value
+returns-then-is_wrong-clause-value c =
+    seeking-found _ _ _ _ c.loop-n.invariant c.in-Some.ensures.value c.in-Some.ensures.bounds.0 c.get16-key.ensures.value c.is_wrong.ensures
+    c.if-is_wrong.true
 
-pub get16-key-requires : goal.get16-key-requires
-get16-key-requires c = omega (arith, size-head _ c.size-n.ensures.value c.if-n-eq0.false)
+pub loop-n-preserved : goal.loop-n-preserved
+loop-n-preserved c =
+    seeking-next _ _ _ _ c.loop-n.invariant c.in-Some.ensures.value c.in-Some.ensures.bounds.0 c.get16-key.ensures.value c.is_wrong.ensures
+    c.if-is_wrong.false
 
-pub slice_bounds-v-count : goal.slice_bounds-v-count
-slice_bounds-v-count c = omega (arith, size-head _ c.size-n.ensures.value c.if-n-eq0.false)
-
-pub slice_bounds-v-start : goal.slice_bounds-v-start
-slice_bounds-v-start c = omega (arith, size-head _ c.size-n.ensures.value c.if-n-eq0.false)
-
-pub returns-then-is_wrong : goal.returns-then-is_wrong
-returns-then-is_wrong c = search (rules, seeking-found)
-
-pub loop-s-preserved : goal.loop-s-preserved
-loop-s-preserved c = search (rules, seeking-next)
+pub returns-clause-value : goal.returns-clause-value
+returns-clause-value c = seeking-end _ _ _ _ c.loop-n.invariant c.in_default.ensures.value

@@ -1,12 +1,12 @@
 -- `reasons::labels::text_reason` meets its contract. Assumes nothing.
-use Rattle.std.proofs.Common.{rules, eq-eqb}
+use Rattle.std.proofs.Common.{rules, sym, ◌∙◌}
 use Rattle.reasons.specs.NamesLaws.{text-dot, text-hyphen, text-within}
 use Rattle.reasons.specs.Names.{text_reason}
 use Rattle.reasons.proofs.labels.text_reason.Goals as goal
 
-pub returns-then-s-eq0 : goal.returns-then-s-eq0
+pub returns-then-is_empty : goal.returns-then-is_empty
 unfolding text_reason
-returns-then-s-eq0 c = simp (eq-eqb _ _ c.if-s-eq0.true)
+returns-then-is_empty c = simp (sym c.is_empty.ensures ∙ c.if-is_empty.true)
 
 pub returns-then-before-eq46 : goal.returns-then-before-eq46
 returns-then-before-eq46 c = search (rules, text-dot)

@@ -1,12 +1,12 @@
 -- `reasons::labels::wire_reason` meets its contract. Assumes nothing.
-use Rattle.std.proofs.Common.{rules, eq-eqb}
+use Rattle.std.proofs.Common.{rules, sym, ◌∙◌}
 use Rattle.reasons.specs.NamesLaws.{wire-cut, wire-length, wire-label, wire-after}
 use Rattle.reasons.specs.Names.{wire_reason}
 use Rattle.reasons.proofs.labels.wire_reason.Goals as goal
 
-pub returns-then-s-eq0 : goal.returns-then-s-eq0
+pub returns-then-is_empty : goal.returns-then-is_empty
 unfolding wire_reason
-returns-then-s-eq0 c = simp (eq-eqb _ _ c.if-s-eq0.true)
+returns-then-is_empty c = simp (sym c.is_empty.ensures ∙ c.if-is_empty.true)
 
 pub returns-then-s-at : goal.returns-then-s-at
 returns-then-s-at c = search (rules, wire-cut)

@@ -1,6 +1,6 @@
 -- `svcparams::walk::all_present` meets its contract: in both loops the machine stands, after as many steps, at the keys that the two places show.
 -- Assumes nothing.
-use Rattle.std.proofs.Common.{rules, arith, refl}
+use Rattle.std.proofs.Common.{rules, arith, refl, ◌∙◌}
 use Rattle.svcparams.proofs.MergeTurns.{merge-start, merge-all, merge-refused, merge-found, merge-passed}
 use Rattle.svcparams.proofs.walk.all_present.Goals as goal
 
@@ -8,10 +8,10 @@ pub listed-init : goal.listed-init
 listed-init c = (merge-start _ _, refl)
 
 pub params-preserved : goal.params-preserved
-params-preserved c = (search (rules, merge-passed), search rules)
+params-preserved c = (search (rules, merge-passed, c.unwrap_or.ensures ∙ c.size-n.ensures.value), search rules)
 
 pub listed-preserved : goal.listed-preserved
-listed-preserved c = (search (rules, merge-found), search rules)
+listed-preserved c = (search (rules, merge-found, c.unwrap_or.ensures ∙ c.size-n.ensures.value), search rules)
 
 pub params-smaller : goal.params-smaller
 params-smaller c = omega (arith, (params-preserved c).0.few)

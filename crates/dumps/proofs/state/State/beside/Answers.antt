@@ -1,19 +1,16 @@
--- `dumps::state::State::beside` meets its contract: the tests in order. Assumes nothing.
-use Rattle.std.proofs.Common.{sym, ◌∙◌, eq-eqb, le-leb, ne_eqb}
-use borrow.Author.Tests.{lt-leb}
-use Rattle.dumps.specs.States.{beside}
+-- `dumps::state::State::beside` meets its contract: a character that the column does not show. Assumes nothing.
+use Rattle.std.proofs.Common.{◌≡◌, sym, ◌∙◌, ap, ltb-true, get_or, length, rules}
+use Rattle.dumps.specs.State.{State}
+use Rattle.dumps.specs.Held.{state_in}
+use Rattle.dumps.specs.States.{shown_of}
+use Rattle.dumps.specs.StatesLaws.{beside-other}
 use Rattle.dumps.proofs.state.State.beside.Goals as goal
 
-pub returns-then-n-self : goal.returns-then-n-self
-unfolding beside
-returns-then-n-self c = c.past.ensures ∙ simp (le-leb _ _ c.if-n-self.true)
-
 pub returns-then-x-shown : goal.returns-then-x-shown
-unfolding beside
 returns-then-x-shown c =
-    c.but.ensures ∙ simp (lt-leb _ _ c.if-n-self.false, sym c.shown.ensures, ne_eqb _ _ c.if-x-shown.true)
-
-pub returns : goal.returns
-unfolding beside
-returns c =
-    c.to.ensures ∙ simp (lt-leb _ _ c.if-n-self.false, sym c.shown.ensures, eq-eqb _ _ c.if-x-shown.false)
+    let a = c.args in
+    let inside = ltb-true _ _ (sym c.in-Some.ensures.lookup.0) in
+    let here : c.in-Some.b.now ≡ get_or a.laid.now a.self.beside 0 = search rules in
+    let shown = c.shown.ensures ∙ ap (shown_of a.f.prefix) here in
+    ap (λ (s : State). s.why)
+    (beside-other a.f a.x (length a.laid.now) (get_or a.laid.now a.self.beside 0) (state_in a.self) inside (λ e. c.if-x-shown.true (e ∙ sym shown)))

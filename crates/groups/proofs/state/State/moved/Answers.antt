@@ -1,32 +1,17 @@
--- `groups::state::State::moved` meets its contract: the tests in order. Assumes nothing.
-use Rattle.std.proofs.Common.{◌≡◌, sym, ap, ◌∙◌}
-use Rattle.groups.specs.States.{fresh, line, mark, marking, moved}
-use Rattle.groups.specs.StatesLaws.{moved-line, moved-blank, moved-marking, marking-mark, marking-within}
+-- `groups::state::State::moved` meets its contract: at a mark the list is refused for what its group's end is refused for. Assumes nothing.
+use Rattle.std.proofs.Common.{sym, refl, ◌∙◌}
+use Rattle.groups.specs.States.{fresh}
+use Rattle.groups.specs.StatesLaws.{moved-marking, marking-mark}
+use Rattle.groups.specs.Held.{state_in}
+use Rattle.groups.specs.HeldLaws.{reason-known, mark-kept, refused}
 use Rattle.groups.proofs.state.State.moved.Goals as goal
-use Rattle.groups.proofs.state.State.moved.Goals.{then-f-ne0+else-x-f, else-f-ne0}
 
-pub returns-then-x-eq10 : goal.returns-then-x-eq10
-returns-then-x-eq10 c =
+pub returns-in_err-close-2 : goal.returns-in_err-close-2
+returns-in_err-close-2 c =
     let a = c.args in
-    c.line.ensures ∙ ap (line a.f) c.close.ensures ∙ moved-line a.f a.x a.self c.if-x-eq10.true
-
-pub returns-then-is_blank : goal.returns-then-is_blank
-returns-then-is_blank c =
-    let a = c.args in
-    c.close-then-is_blank.ensures ∙ moved-blank a.f a.x a.self c.if-x-eq10.false (sym c.is_blank.ensures ∙ c.if-is_blank.true)
-
-pub returns-then-x-f : goal.returns-then-x-f
-returns-then-x-f c =
-    let other : marking c.args.f c.args.x (fresh c.args.self) ≡ moved c.args.f c.args.x c.args.self = let a = c.args in
-    moved-marking a.f a.x a.self c.if-x-eq10.false (sym c.is_blank.ensures ∙ c.if-is_blank.false) in
-    let a = c.args in
-    c.mark.ensures ∙ ap mark c.close-then-x-f.ensures ∙ marking-mark a.f a.x (fresh a.self) c.if-f-ne0.true c.if-x-f.true ∙ other
-
-pub returns : goal.returns
-returns c =
-    let other : marking c.args.f c.args.x (fresh c.args.self) ≡ moved c.args.f c.args.x c.args.self = let a = c.args in
-    moved-marking a.f a.x a.self c.if-x-eq10.false (sym c.is_blank.ensures ∙ c.if-is_blank.false) in
-    let a = c.args in
-    c.within.ensures
-    ∙ marking-within a.f a.x (fresh a.self) (elim c.if-f-ne0.branch [ then-f-ne0+else-x-f w ↦ λ _. w.if-x-f.false | else-f-ne0 w ↦ λ n _. n w.if-f-ne0.false ])
-    ∙ other
+    let s = state_in a.self in
+    let w = c.in_err-close-2.field-0.0 in
+    let kept = mark-kept a.self.kind (fresh s) a.self.alone _ (reason-known w) refl c.in_err-close-2.ensures in
+    let led = marking-mark a.self.kind a.x (fresh s) c.if-self-ne0.true c.if-x-self.true
+    ∙ moved-marking a.self.kind a.x s c.if-x-eq10.false (sym c.is_blank.ensures ∙ c.if-is_blank.false) in
+    refused a.self.kind _ w _ c.from_residual-in_err-close-2.ensures.1 (rw (← led) kept)
