@@ -14,11 +14,18 @@ ghost use Rattle.names.specs.Answered.{answer_in, named};
 pub const GOOD: usize = 257;
 
 // Whether b is a letter or a digit. Small letters, the most frequent, are decided first.
+// (Hence the two comparisons: the three tests alone are compiled into one chain, which asks for a digit first.)
 #[tactic(auto, unfolding(crate::specs::Names::alnum))]
 pub fn is_alnum(b: u8) -> bool
     ensures { result ≡ alnum b }
 {
-    b.is_ascii_lowercase() || b.is_ascii_uppercase() || b.is_ascii_digit()
+    if b'a' <= b {
+        return b.is_ascii_lowercase();
+    }
+    if b'A' <= b {
+        return b.is_ascii_uppercase();
+    }
+    b.is_ascii_digit()
 }
 
 // Whether b is a hyphen that does not end its label, with `left` octets of the label to come, b among them.
