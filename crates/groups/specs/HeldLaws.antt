@@ -1,5 +1,5 @@
 -- A list's groups of more than two digits: what their state rules out. Assumes nothing.
-use Rattle.std.specs.Prelude.{◌≡◌, refl, Bool, true, false, cond, ◌||◌, ℕ, eqb, ltb, Result, Ok, Err}
+use Rattle.std.specs.Prelude.{◌≡◌, refl, Bool, true, false, cond, ◌||◌, ⊤, ℕ, eqb, ltb, Result, Ok, Err}
 use Rattle.std.specs.Result.{IsErrAnd}
 use Rattle.std.proofs.Common.{sym, ap, subst, ◌∙◌, arith, eqb-true}
 use Rattle.std.proofs.lemmas.Bool.{false≢true, eqb-false}
@@ -11,7 +11,7 @@ use Rattle.groups.specs.State.{State}
 use Rattle.groups.specs.declared.state.State as held
 use Rattle.groups.specs.States.{state, but, ended, completed, ended_one, allowed, close, mark}
 use Rattle.groups.specs.StatesLaws.{close-none, close-front, close-one, close-odd, close-even}
-use Rattle.groups.specs.Held.{Moved}
+use Rattle.groups.specs.Held.{Moved, led}
 
 -- a reason is never the number that stands for none
 pub reason-known : (w : Why) → why.number_of w ≡ 0 → ⊥
@@ -92,3 +92,7 @@ module _ (f : Kind) (s : State) (a : Alone f s) where
 pub refused : (f : Kind) (r : Result held.State Why) (w : Why) (s : State) → IsErrAnd r (λ e. e ≡ w) → why.number_of w ≡ s.why → Moved f r s
 refused f (Ok t) w s h p = elim h [ ]
 refused f (Err e) w s h p = ap why.number_of h ∙ p
+
+pub refused-led : (f : Kind) (t : held.State) (r : Result ⊤ Why) (w : Why) (s : State) → IsErrAnd r (λ e. e ≡ w) → why.number_of w ≡ s.why → Moved f (led t r) s
+refused-led f t (Ok u) w s h p = refused f (Ok t) w s h p
+refused-led f t (Err e) w s h p = refused f (Err e) w s h p

@@ -34,12 +34,9 @@ pub fn read(kind: Kind, text: &[u8], out: &mut [u8]) -> Result<usize, Unread>
 {
     let mut s = State::begun(kind);
     let mut n = 0;
-    for i in 0..=text.len() {
-        match s.moved(character(text, i)) {
-            Ok(t) => s = t,
-            Err(why) => {
-                return Err(Unread::Bad { at: i, why });
-            }
+    for i in 0..text.len() + 1 {
+        if let Err(why) = s.moved(character(text, i)) {
+            return Err(Unread::Bad { at: i, why });
         }
         if s.complete {
             if out.len() <= n {

@@ -2,7 +2,7 @@
 ghost use Rattle.std.specs.Prelude.{◌≡◌, true};
 ghost use Rattle.hexes.specs.Hexes as hexes;
 ghost use Rattle.groups.specs.States as states;
-ghost use Rattle.groups.specs.Held.{state_in, Moved};
+ghost use Rattle.groups.specs.Held.{state_in, Moved, led};
 
 use crate::Kind;
 use crate::state::State;
@@ -37,36 +37,35 @@ impl State {
     // ---- a group
 
     // A digit. Every second one completes an octet.
-    fn digit(mut self, x: u8) -> Self
+    fn digit(&mut self, x: u8)
         requires { hexes.digit x ≡ true }
-        ensures moved { state_in result ≡ states.digit_on x (state_in self) }
-        ensures kind { result.kind ≡ self.kind }
+        ensures moved { state_in self.new ≡ states.digit_on x (state_in self.old) }
+        ensures kind { self.new.kind ≡ self.old.kind }
     {
         self.digits = more(self.digits);
         if self.digits % 2 == 1 {
             self.octet = value(x);
-            return self;
+            return;
         }
         self.octet = self.octet % 16 * 16 + value(x);
         self.complete = true;
-        self
     }
 
     // A character of 0x.
-    fn prefix(mut self, x: u8) -> Result<Self, Why>
-        ensures { Moved self.kind result (states.prefix x (state_in self)) }
+    fn prefix(&mut self, x: u8) -> Result<(), Why>
+        ensures { Moved self.old.kind (led self.new result) (states.prefix x (state_in self.old)) }
     {
         self.front = match (self.front, x) {
             (0, b'0') => 1,
             (1.., b'x' | b'X') => 2,
             _ => return Err(Why::Form),
         };
-        Ok(self)
+        Ok(())
     }
 
     // A character of a group; a mark must stand before it where groups on a line want one.
-    fn within(self, x: u8) -> Result<Self, Why>
-        ensures { Moved self.kind result (states.within self.kind x (state_in self)) }
+    fn within(&mut self, x: u8) -> Result<(), Why>
+        ensures { Moved self.old.kind (led self.new result) (states.within self.old.kind x (state_in self.old)) }
     {
         if self.kind.marked && self.after {
             return Err(Why::Form);
@@ -75,7 +74,8 @@ impl State {
             return self.prefix(x);
         }
         if is_digit(x) {
-            return Ok(self.digit(x));
+            self.digit(x);
+            return Ok(());
         }
         Err(Why::Form)
     }
@@ -83,27 +83,29 @@ impl State {
     // ---- its end
 
     // A group has ended. One of more than two digits stands alone on its line, or in the list, if anywhere.
-    fn ended(mut self, wide: bool) -> Result<Self, Why>
-        ensures { Moved self.kind result (states.allowed self.kind (states.ended wide (state_in self))) }
+    fn ended(&mut self, wide: bool) -> Result<(), Why>
+        ensures { Moved self.old.kind (led self.new result) (states.allowed self.old.kind (states.ended wide (state_in self.old))) }
     {
-        self.several = self.several || self.some;
-        self.wide = self.wide || wide;
-        if self.wide && (self.several || !(self.kind.lines || self.kind.whole)) {
+        let several = self.several || self.some;
+        let wide = self.wide || wide;
+        if wide && (several || !(self.kind.lines || self.kind.whole)) {
             return Err(Why::Groups);
         }
+        self.several = several;
+        self.wide = wide;
         self.some = true;
         self.after = true;
         self.front = 0;
         self.digits = 0;
-        Ok(self)
+        Ok(())
     }
 
     // What stands between groups ends one, where one has begun. A group of one digit is an octet, or has a digit too few.
-    fn close(mut self) -> Result<Self, Why>
-        ensures { Moved self.kind result (states.close self.kind (state_in self)) }
+    fn close(&mut self) -> Result<(), Why>
+        ensures { Moved self.old.kind (led self.new result) (states.close self.old.kind (state_in self.old)) }
     {
         match self.digits {
-            0 if self.front == 0 => Ok(self),
+            0 if self.front == 0 => Ok(()),
             1 if self.kind.single => {
                 self.complete = true;
                 self.ended(false)
@@ -116,40 +118,42 @@ impl State {
     // ---- between groups
 
     // A line break: the next line begins.
-    fn line(mut self) -> Self
-        ensures moved { state_in result ≡ states.line self.kind (state_in self) }
-        ensures kind { result.kind ≡ self.kind }
+    fn line(&mut self)
+        ensures moved { state_in self.new ≡ states.line self.old.kind (state_in self.old) }
+        ensures kind { self.new.kind ≡ self.old.kind }
     {
         self.after = false;
         self.some = self.some && !self.kind.lines;
-        self
     }
 
     // A mark, one between two groups.
-    fn mark(mut self) -> Result<Self, Why>
-        ensures { Moved self.kind result (states.mark (state_in self)) }
+    fn mark(&mut self) -> Result<(), Why>
+        ensures { Moved self.old.kind (led self.new result) (states.mark (state_in self.old)) }
     {
         if !self.after {
             return Err(Why::Form);
         }
         self.after = false;
-        Ok(self)
+        Ok(())
     }
 
     // Moved by a character.
     #[tactic(auto, unfolding(crate::specs::States::moved))]
-    pub fn moved(mut self, x: u8) -> Result<Self, Why>
-        ensures { Moved self.kind result (states.moved self.kind x (state_in self)) }
+    pub fn moved(&mut self, x: u8) -> Result<(), Why>
+        ensures { Moved self.old.kind (led self.new result) (states.moved self.old.kind x (state_in self.old)) }
     {
         self.complete = false;
         if x == b'\n' {
-            return Ok(self.close()?.line());
+            self.close()?;
+            self.line();
+            return Ok(());
         }
         if is_blank(x) {
             return self.close();
         }
         if self.kind.mark != 0 && x == self.kind.mark {
-            return self.close()?.mark();
+            self.close()?;
+            return self.mark();
         }
         self.within(x)
     }

@@ -12,12 +12,13 @@ loop-i-init c = record { size = refl; kind = c.begun-s.ensures.kind; reading = r
 pub returns-in-Err : goal.returns-in-Err
 returns-in-Err c =
     let inv = c.loop-i.invariant in
-    turn-refused inv.kind inv.reading c.loop-i-test.true c.character.ensures (reason-known c.in-Err.why) c.in-Err.ensures
+    turn-refused inv.kind inv.reading (omega (arith, c.loop-i-test.true)) c.character.ensures (reason-known c.in-Err.why) c.in-Err.ensures
 
 pub returns-then-out-n : goal.returns-then-out-n
 returns-then-out-n c =
     let inv = c.loop-i.invariant in
-    turn-full inv.kind inv.reading c.loop-i-test.true c.character.ensures (state_in c.in-Ok.t) c.in-Ok.ensures.0 refl c.if-s.true c.if-out-n.true
+    turn-full inv.kind inv.reading (omega (arith, c.loop-i-test.true)) c.character.ensures (state_in c.moved.new.self) c.in_default.ensures.0 refl c.if-s.true
+    c.if-out-n.true
 
 pub loop-i-preserved : goal.loop-i-preserved
 loop-i-preserved c =
@@ -26,30 +27,21 @@ loop-i-preserved c =
       | then-s+else-out-n w ↦
           rw (w.out-is, w.n-is) (record {
             size = simp length-set inv.size;
-            kind = c.in-Ok.ensures.1 ∙ inv.kind;
+            kind = c.in_default.ensures.1 ∙ inv.kind;
             reading =
-                turn-laid inv.kind inv.reading c.loop-i-test.true c.character.ensures (state_in c.in-Ok.t) c.in-Ok.ensures.0 refl w.if-s.true w.if-out-n.false;
+                turn-laid inv.kind inv.reading (omega (arith, c.loop-i-test.true)) c.character.ensures (state_in c.moved.new.self) c.in_default.ensures.0 refl
+                w.if-s.true
+                w.if-out-n.false;
           })
       | else-s w ↦
           rw (w.out-is, w.n-is) (record {
             size = inv.size;
-            kind = c.in-Ok.ensures.1 ∙ inv.kind;
-            reading = turn-waiting inv.kind inv.reading c.loop-i-test.true c.character.ensures (state_in c.in-Ok.t) c.in-Ok.ensures.0 refl w.if-s.false;
+            kind = c.in_default.ensures.1 ∙ inv.kind;
+            reading =
+                turn-waiting inv.kind inv.reading (omega (arith, c.loop-i-test.true)) c.character.ensures (state_in c.moved.new.self) c.in_default.ensures.0 refl
+                w.if-s.false;
           })
     ]
 
-pub returns-after-s : goal.returns-after-s
-returns-after-s c =
-    let inv = c.loop-i.invariant in
-    elim c.if-s.branch [
-      | then-s+else-out-n w ↦
-          rw (w.out-is, w.n-is)
-          (read_done
-          (turn-laid inv.kind inv.reading c.loop-i-test.true c.character.ensures (state_in c.in-Ok.t) c.in-Ok.ensures.0 refl w.if-s.true w.if-out-n.false)
-          (omega arith))
-      | else-s w ↦
-          rw (w.out-is, w.n-is)
-          (read_done
-          (turn-waiting inv.kind inv.reading c.loop-i-test.true c.character.ensures (state_in c.in-Ok.t) c.in-Ok.ensures.0 refl w.if-s.false)
-          (omega arith))
-    ]
+pub returns : goal.returns
+returns c = read_done c.loop-i.invariant.reading (omega (arith, c.loop-i-test.false))
