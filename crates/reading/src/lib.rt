@@ -55,12 +55,13 @@ struct Held {
     more: bool,
 }
 
-// What is counted of the blocks met: how many were found, how many of them were discarded, and the first discarded block's fault with its place.
+// What is counted of the blocks met: how many were found, the first discarded block's fault with its place, and how many were discarded. (Fields that are
+// neighbours in `Reading` are kept apart here: LLVM would load two by one instruction, which waits for their separate stores.)
 #[derive(Clone, Copy)]
 struct Counts {
     found: usize,
-    discarded: usize,
     first: Option<Flaw>,
+    discarded: usize,
 }
 
 impl Held {
