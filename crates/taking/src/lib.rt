@@ -175,7 +175,7 @@ fn head(s: &[u8]) -> Result<Front, Refusal>
     if s.len() < sheets::FRONT {
         return Err(Refusal::Sheet);
     }
-    if &s[..sheets::VERSION_AT] != sheets::LETTERS.as_slice() {
+    if !octets::same(&s[..sheets::VERSION_AT], &sheets::LETTERS) {
         return Err(Refusal::Sheet);
     }
     if octets::get16(s, sheets::VERSION_AT) != sheets::EDITION {
