@@ -8,7 +8,9 @@ mod ends;
 mod output;
 mod tables;
 
+ghost use Rattle.std.specs.Prelude.{◌≡◌};
 ghost use Rattle.arguments.specs.Command as command;
+ghost use Rattle.arguments.specs.Form as forms;
 ghost use Rattle.arguments.specs.Line.{Begun, Given};
 
 pub use asked::Asked;
@@ -32,6 +34,32 @@ pub enum Form {
     Hex,
     Raw,
     Base64,
+}
+
+impl Form {
+    // The form of a number. Any other number is none: the input itself decides.
+    pub fn of(number: usize) -> Option<Self>
+        ensures { result ≡ forms.of number }
+    {
+        match number {
+            1 => Some(Self::Hex),
+            2 => Some(Self::Raw),
+            3 => Some(Self::Base64),
+            _ => None,
+        }
+    }
+
+    // The number of a form, or of none.
+    pub fn number_in(form: Option<Self>) -> usize
+        ensures { result ≡ forms.number_in form }
+    {
+        match form {
+            None => 0,
+            Some(Self::Hex) => 1,
+            Some(Self::Raw) => 2,
+            Some(Self::Base64) => 3,
+        }
+    }
 }
 
 // The file that is written, by the argument that holds its name.

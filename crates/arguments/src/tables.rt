@@ -146,7 +146,7 @@ pub fn is_option(word: &[u8]) -> bool
 pub fn is_dash(name: &[u8]) -> bool
     ensures { result ≡ is_dash name.now }
 {
-    name == b"-".as_slice()
+    octets::same(name, b"-")
 }
 
 // How many octets stand before the file's name in a word that holds both an option and the name; none in any other.

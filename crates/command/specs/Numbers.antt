@@ -17,7 +17,7 @@ use Rattle.decoding.specs.Decoding as decoding
 use Rattle.arguments.specs.declared.asked.Asked.{Asked}
 use Rattle.arguments.specs.declared.Command.{Command}
 use Rattle.arguments.specs.declared.Command.TheVariants as command
-use Rattle.arguments.specs.declared.Form.{Form}
+use Rattle.arguments.specs.Form as form
 use Rattle.files.specs.Status.{Delivered, Denied, Answers, refused, failed}
 
 -- ---- reading
@@ -70,12 +70,13 @@ Performs a s r = performing a.command a s r
 -- ---- the input
 
 -- the octets of an input, or the options of its values
-abbrev pub valued : Option Carrier → Option Form → List ℕ → List ℕ → Answer
+abbrev pub valued : Option Carrier → ℕ → List ℕ → List ℕ → Answer
 valued (Some c) form text out = decoding.values_of form c text out
 valued None form text out = decoding.read_of form text out
 
 unfoldable pub input_of : Asked → List ℕ → List ℕ → Answer
-input_of a text out = cond a.value (valued a.carrier a.form text out) (decoding.read_of a.form text out)
+input_of a text out =
+    cond a.value (valued a.carrier (form.number_in a.form) text out) (decoding.read_of (form.number_in a.form) text out)
 
 -- the status: more octets than are taken are refused (2)
 abbrev pub takes : Asked → Read → List ℕ → ℤ → Type 0

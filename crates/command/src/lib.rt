@@ -15,7 +15,7 @@ ghost use Rattle.decoding.specs.Decoding.{Answered, room};
 ghost use Rattle.files.specs.Status.{Delivered, Exited, status_of};
 ghost use Rattle.command.specs.Numbers.{Performs, input_of, Takes};
 
-use arguments::{Asked, Command};
+use arguments::{Asked, Command, Form};
 use files::{Stop, System, Voice, input, output};
 use forms::places;
 use inputs::Unread;
@@ -55,12 +55,13 @@ fn decode(a: Asked, text: &[u8], out: &mut [u8]) -> Result<usize, Unread>
     requires { length out.old < 65536 }
     ensures { Answered (input_of a text.now out.old) (read_in result) out.new }
 {
+    let form = Form::number_in(a.form);
     if !a.value {
-        return decoding::read(a.form, text, out);
+        return decoding::read(form, text, out);
     }
     match a.carrier {
-        Some(c) => decoding::read_values(a.form, c, text, out),
-        None => decoding::read(a.form, text, out),
+        Some(c) => decoding::read_values(form, c, text, out),
+        None => decoding::read(form, text, out),
     }
 }
 

@@ -4,6 +4,7 @@ use Rattle.std.specs.Prelude.{Bool, true, false, cond, List, [], ◌∷◌, ℕ,
 use Rattle.numbers.specs.Limit as limit
 use Rattle.octets.specs.Numbers.{zeros}
 use Rattle.octets.specs.Over.{over}
+use Rattle.arguments.specs.Form as form
 use Rattle.arguments.specs.declared.Form.{Form}
 use Rattle.arguments.specs.declared.Form.TheVariants.{Hex, Raw, Base64}
 use Rattle.carriers.specs.declared.Carrier.{Carrier}
@@ -36,11 +37,15 @@ base64_of text out =
     answer (base64.answer (length out) (base64.decode text)) (over 0 (take (length out) (base64.decode text).octets) out)
 
 -- in the form that is asked for; where none is, text in the form that it has, and anything else as it is
-unfoldable pub read_of : Option Form → List ℕ → List ℕ → Answer
-read_of (Some Raw) text out = raw_of text out
-read_of (Some Base64) text out = base64_of text out
-read_of (Some Hex) text out = forms.read_of text out
-read_of None text out = cond (textual_of text) (forms.read_of text out) (raw_of text out)
+unfoldable pub read_as : Option Form → List ℕ → List ℕ → Answer
+read_as (Some Raw) text out = raw_of text out
+read_as (Some Base64) text out = base64_of text out
+read_as (Some Hex) text out = forms.read_of text out
+read_as None text out = cond (textual_of text) (forms.read_of text out) (raw_of text out)
+
+-- the same by the number of the form
+abbrev pub read_of : ℕ → List ℕ → List ℕ → Answer
+read_of f text out = read_as (form.of f) text out
 
 -- ---- values
 
@@ -92,13 +97,10 @@ abbrev pub lines_of : Carrier → List ℕ → List ℕ → Answer
 lines_of c text out = lines_from c 0 0 out (lines_in text)
 
 -- lines are values where the input is text, but for base64
-abbrev pub is_lines : Option Form → List ℕ → Bool
-is_lines (Some Hex) text = true
-is_lines (Some Raw) text = false
-is_lines (Some Base64) text = false
-is_lines None text = textual_of text
+abbrev pub is_lines : ℕ → List ℕ → Bool
+is_lines f text = cond (eqb f form.hex) true (cond (eqb f form.none) (textual_of text) false)
 
 -- the options of the values: of each line, or of the whole input
-unfoldable pub values_of : Option Form → Carrier → List ℕ → List ℕ → Answer
+unfoldable pub values_of : ℕ → Carrier → List ℕ → List ℕ → Answer
 values_of f c text out =
     cond (is_lines f text) (lines_of c text out) (added_of c (read_of f text room).read (read_of f text room).out out 0)

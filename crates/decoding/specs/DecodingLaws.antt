@@ -1,10 +1,9 @@
 -- The laws of inputs: what each outcome answers and leaves, and the lines of a text one after another. Assumes nothing.
-use Rattle.std.specs.Prelude.{◌≡◌, refl, Bool, true, false, cond, List, [], ◌∷◌, ℕ, suc, ◌+◌, ◌-◌, ◌≤◌, ◌<◌, eqb, length, take, drop, Option}
+use Rattle.std.specs.Prelude.{◌≡◌, refl, Bool, true, false, cond, List, [], ◌∷◌, ℕ, suc, ◌+◌, ◌-◌, ◌≤◌, ◌<◌, eqb, length, take, drop}
 use Rattle.std.proofs.Common.{sym, ◌∙◌, subst, arith, length-take, length-drop, drop_of_length-le, drop-drop}
 use Rattle.std.proofs.Math.Path.{ap}
 use borrow.Author.Tests.{lt-ltb, le-ltb}
 use Rattle.octets.specs.Over.{Wrote}
-use Rattle.arguments.specs.declared.Form.{Form}
 use Rattle.carriers.specs.declared.Carrier.{Carrier}
 use Rattle.inputs.specs.Why as why
 use Rattle.inputs.specs.declared.Unread.{Unread}
@@ -213,7 +212,7 @@ module _ {c : Carrier} {text out₀ : List ℕ} {n i : ℕ} {out : List ℕ} (w 
 
 -- ---- values
 
-module _ (f : Option Form) (c : Carrier) (text out : List ℕ) where
+module _ (f : ℕ) (c : Carrier) (text out : List ℕ) where
   pub values-lines : is_lines f text ≡ true → values_of f c text out ≡ lines_of c text out
   unfolding values_of
   values-lines e = rw e

@@ -3,7 +3,7 @@
 
 ghost use Rattle.std.specs.Prelude.{◌≡◌, ◌≤◌, length};
 ghost use Rattle.inputs.specs.Read.{read_in};
-ghost use Rattle.decoding.specs.Decoding.{Answered, raw_of, read_of, added_of, at_value, line_of, lines_of, is_lines, values_of};
+ghost use Rattle.decoding.specs.Decoding.{Answered, raw_of, read_as, read_of, added_of, at_value, line_of, lines_of, is_lines, values_of};
 
 use arguments::Form;
 use carriers::Carrier;
@@ -24,9 +24,9 @@ fn read_raw(s: &[u8], out: &mut [u8]) -> Result<usize, Unread>
 }
 
 // Reads an input in the form that is asked for; where none is, text in the form that it has, and anything else as it is.
-#[tactic(auto, unfolding(crate::specs::Decoding::read_of))]
-pub fn read(form: Option<Form>, text: &[u8], out: &mut [u8]) -> Result<usize, Unread>
-    ensures { Answered (read_of form text.now out.old) (read_in result) out.new }
+#[tactic(auto, unfolding(crate::specs::Decoding::read_as))]
+fn read_as(form: Option<Form>, text: &[u8], out: &mut [u8]) -> Result<usize, Unread>
+    ensures { Answered (read_as form text.now out.old) (read_in result) out.new }
 {
     match form {
         Some(Form::Raw) => read_raw(text, out),
@@ -42,16 +42,23 @@ pub fn read(form: Option<Form>, text: &[u8], out: &mut [u8]) -> Result<usize, Un
     }
 }
 
+// The same by the number of the form (`Form::of`).
+pub fn read(form: usize, text: &[u8], out: &mut [u8]) -> Result<usize, Unread>
+    ensures { Answered (read_of form text.now out.old) (read_in result) out.new }
+{
+    read_as(Form::of(form), text, out)
+}
+
 // ---- values
 
-// Whether an input is lines of values: text, but for base64.
-fn is_lines(form: Option<Form>, text: &[u8]) -> bool
+// Whether an input is lines of values, by the number of the form: text, but for base64.
+fn is_lines(form: usize, text: &[u8]) -> bool
     ensures { result ≡ is_lines form text.now }
 {
     match form {
-        Some(Form::Hex) => true,
-        None => places::is_text(text),
-        Some(_) => false,
+        0 => places::is_text(text),
+        1 => true,
+        _ => false,
     }
 }
 
@@ -114,12 +121,7 @@ fn read_lines(c: Carrier, text: &[u8], out: &mut [u8]) -> Result<usize, Unread>
 }
 
 // Reads the options of the values of an input: one a line, or the whole input as one.
-pub fn read_values(
-    form: Option<Form>,
-    c: Carrier,
-    text: &[u8],
-    out: &mut [u8],
-) -> Result<usize, Unread>
+pub fn read_values(form: usize, c: Carrier, text: &[u8], out: &mut [u8]) -> Result<usize, Unread>
     ensures { Answered (values_of form c text.now out.old) (read_in result) out.new }
 {
     if is_lines(form, text) {

@@ -1,5 +1,5 @@
 // The octets that are given: a file, or standard input, read whole.
-ghost use Rattle.std.specs.Prelude.{◌≡◌, ◌≤◌, length, IfOk, IfSome, IfErr, IsNone};
+ghost use Rattle.std.specs.Prelude.{◌≡◌, ◌≤◌, length, IfOk, IfSome, IfErr, IsSome, IsNone};
 ghost use Rattle.chars.specs.Ascii.{ascii};
 ghost use Rattle.files.specs.declared.status.Stop.TheVariants.{Failed};
 
@@ -30,7 +30,9 @@ pub(crate) fn argument<'a, R: Env>(rt: &R, i: usize, out: &'a mut [u8]) -> &'a [
 }
 
 // The same of an argument that need not be told.
-pub(crate) fn argument_at<'a, R: Env>(rt: &R, at: Option<usize>, out: &'a mut [u8]) -> &'a [u8] {
+pub(crate) fn argument_at<'a, R: Env>(rt: &R, at: Option<usize>, out: &'a mut [u8]) -> &'a [u8]
+    ensures { length result.now ≤ length out.old }
+{
     match at {
         None => b"",
         Some(i) => argument(rt, i, out),
@@ -38,18 +40,21 @@ pub(crate) fn argument_at<'a, R: Env>(rt: &R, at: Option<usize>, out: &'a mut [u
 }
 
 // The name of a file that is written, as the system gives it.
-pub(crate) fn target<'a, R: Env>(rt: &R, target: Target, out: &'a mut [u8]) -> &'a [u8] {
+pub(crate) fn target<'a, R: Env>(rt: &R, target: Target, out: &'a mut [u8]) -> &'a [u8]
+    ensures { length result.now ≤ length out.old }
+{
     let word = argument(rt, target.at, out);
     &word[target.front.min(word.len())..]
 }
 
 // The name of the input in messages: that of its argument, as the system gives it.
 pub fn name<'a, R: Env>(rt: &R, input: Option<usize>, out: &'a mut [u8]) -> &'a [u8]
-    ensures { IsNone input → result.now ≡ ascii "standard input" }
+    ensures given { IsSome input → length result.now ≤ length out.old }
+    ensures none { IsNone input → result.now ≡ ascii "standard input" }
 {
     match input {
         None => b"standard input",
-        Some(i) => argument(rt, i, out),
+        Some(at) => argument(rt, at, out),
     }
 }
 
@@ -145,7 +150,7 @@ pub fn load<'a, R: System>(rt: &R, file: Target, buf: &'a mut [u8]) -> Option<&'
 {
     let mut room = [0u8; PATH_MAX];
     let name = target(rt, file, &mut room);
-    if name == b"-".as_slice() {
+    if octets::same(name, b"-") {
         return None;
     }
     load_file(rt, name, buf)

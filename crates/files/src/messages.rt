@@ -98,7 +98,10 @@ fn put_words(out: &mut [u8], at: usize, why: &Error) -> usize
 
 impl<R: System> Voice<'_, R> {
     // The same of another file.
-    pub fn about<'b>(&'b self, name: &'b [u8]) -> Voice<'b, R> {
+    pub fn about<'b>(&'b self, name: &'b [u8]) -> Voice<'b, R>
+        ensures json { result.json ≡ self.now.json }
+        ensures name { result.name.now ≡ name.now }
+    {
         Voice {
             rt: self.rt,
             json: self.json,

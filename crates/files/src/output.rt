@@ -77,7 +77,7 @@ fn open<R: System>(rt: &R, name: &[u8]) -> io::Result<File> {
 fn save_as<R: System>(voice: &Voice<R>, s: &[u8]) -> Result<(), Stop>
     ensures { Delivered (status_of result) }
 {
-    if voice.name == b"-".as_slice() {
+    if octets::same(voice.name, b"-") {
         return print(voice, s);
     }
     match open(voice.rt, voice.name) {

@@ -1,5 +1,5 @@
 -- Why a name of a sheet is bad at a place of the sheet (RULES R22, T8). Assumes nothing: these are definitions.
-use Rattle.std.specs.Prelude.{◌≡◌, false, cond, List, [], ◌∷◌, ℕ, ◌+◌, ◌-◌, leb, length, Option, Some, None}
+use Rattle.std.specs.Prelude.{◌≡◌, false, cond, List, [], ◌∷◌, ℕ, ◌+◌, ◌-◌, leb, length, Option}
 use Rattle.carriers.specs.declared.Carrier.{Carrier}
 use Rattle.blocks.specs.Block.{Fields}
 use Rattle.records.specs.Records.{head_size, record_of}
@@ -8,7 +8,7 @@ use Rattle.taking.specs.Taking.{Taken, refuse, sheet, take_of}
 use Rattle.taking.specs.Standing.{Standing}
 use Rattle.vetting.specs.Weighing.{records_of}
 use Rattle.reasons.specs.declared.Reason.{Reason}
-use Rattle.reasons.specs.Reason.{number_of}
+use Rattle.reasons.specs.Reason as reason
 use Rattle.reasons.specs.Names.{name_reason}
 
 -- of records that stand from index `at` of the sheet on: the reason of the first whose name ends at the place or after it, and 0 where there is none
@@ -28,8 +28,7 @@ sheet_reason s place = reason_in (take_of s) place
 
 -- the number of the code's reason, and 0 for none
 abbrev pub number_in : Option Reason → ℕ
-number_in None = 0
-number_in (Some r) = number_of r
+number_in r = reason.number_in r
 
 -- as a walk over the records goes on: those that stand from index `at` on decide
 pub record Seeking (c : Carrier) (s : List ℕ) (place at : ℕ) : Type 0 where

@@ -242,7 +242,7 @@ fn examine_parts(c: Carrier, parts: Parts<'_>) -> Result<(), Finding>
     let Err(flaw) = judged else {
         return Ok(());
     };
-    let param = reasons::param_for(flaw.fault, parameters);
+    let param = reasons::param_for(flaw.fault.number(), parameters);
     let lengths = Lengths::of(c, parts);
     Err(Finding {
         fault: flaw.fault,

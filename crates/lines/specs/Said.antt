@@ -1,11 +1,11 @@
 -- What the command says of an input (docs/COMMAND.md): that it spells no octets, is refused, that nothing or less than all is found in it, and that a file is
 -- kept; each message whole. Assumes nothing: these are definitions.
-use Rattle.std.specs.Prelude.{List, [], ◌∷◌, ◌++◌, ℕ, Option, None}
+use Rattle.std.specs.Prelude.{List, [], ◌∷◌, ◌++◌, ℕ}
 use Rattle.chars.specs.Ascii.{ascii, decimal_of}
 use Rattle.words.specs.Words.{Worded, worded, words_in}
 use Rattle.inputs.specs.Why as why
 use Rattle.numbers.specs.Fault as fault
-use Rattle.reasons.specs.declared.Reason.{Reason}
+use Rattle.reasons.specs.Params.{none}
 use Rattle.lines.specs.Messages.{count_of, worded_of, about_of}
 use Rattle.lines.specs.Listed.{cause_of}
 
@@ -48,9 +48,9 @@ unfoldable pub refused_of : List ℕ → ℕ → ℕ → List ℕ
 refused_of name number hint = about_of name ++ (ascii ": refused, " ++ (worded_of number ++ (words_in hints hint ++ ascii "\n")))
 
 -- a sheet, the input of this name, is refused for the name of a resolver: at which octet, and why that is bad (RULES T8)
-unfoldable pub refused_at_of : List ℕ → ℕ → Option Reason → List ℕ
+unfoldable pub refused_at_of : List ℕ → ℕ → ℕ → List ℕ
 refused_at_of name octet reason =
-    about_of name ++ (count_of (ascii ": octet ") octet ++ (ascii ": refused, " ++ cause_of fault.name reason None))
+    about_of name ++ (count_of (ascii ": octet ") octet ++ (ascii ": refused, " ++ cause_of fault.name reason none))
 
 -- what was looked for, by the carrier
 unfoldable pub missing : List Worded

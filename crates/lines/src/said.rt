@@ -5,6 +5,7 @@ ghost use Rattle.std.specs.Prelude.{◌≡◌};
 ghost use Rattle.carriers.specs.Carriers.{number_of};
 ghost use Rattle.carriers.specs.Told.{carrier_in};
 ghost use Rattle.inputs.specs.Why as causes;
+ghost use Rattle.reasons.specs.Reason as reasons;
 ghost use Rattle.words.specs.Words.{words_in};
 ghost use Rattle.lines.specs.Said.{whys, unread_of, long_of, hints, refused_of, refused_at_of, missing, nothing_of, less_of, kept_of};
 
@@ -14,7 +15,7 @@ use carriers::Carrier;
 use chars::{put_all, put_number};
 use inputs::Why;
 use numbers::Fault;
-use reasons::Reason;
+use reasons::{Param, Reason, number_in};
 
 // ---- no octets
 
@@ -88,12 +89,18 @@ pub fn put_refused(out: &mut [u8], name: &[u8], number: usize, hint: Option<Carr
 // Writes that a sheet, the input of this name, is refused for the name of a resolver: at which octet, and why that is bad, where it is known.
 pub fn put_refused_at(out: &mut [u8], name: &[u8], octet: usize, reason: Option<Reason>) -> usize
     ensures prefix_len { IsPrefixLen result out.new }
-    ensures puts { Puts 0 (refused_at_of name.now octet reason) out.old result out.new }
+    ensures puts { Puts 0 (refused_at_of name.now octet (reasons.number_in reason)) out.old result out.new }
 {
     let next = put_about(out, name);
     let placed = put_count(out, next, b": octet ", octet);
     let from = put_all(out, placed, b": refused, ");
-    put_cause(out, from, Fault::Name, reason, None)
+    put_cause(
+        out,
+        from,
+        Fault::Name.number(),
+        number_in(reason),
+        Param::NONE,
+    )
 }
 
 // What was looked for.

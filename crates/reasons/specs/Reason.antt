@@ -1,6 +1,6 @@
 -- Why a name is no host name (RULES N1, N2, N4), more closely than by the number of RULES R22: the same names as in src/.
 -- Assumes nothing: these are definitions.
-use Rattle.std.specs.Prelude.{ℕ}
+use Rattle.std.specs.Prelude.{ℕ, Option, Some, None}
 use Rattle.reasons.specs.declared.Reason.{Reason}
 use Rattle.reasons.specs.declared.Reason.TheVariants.{Cut, Empty, Pointer, Label, Long, After, Underscore, Hyphen, Dot, Octet}
 
@@ -55,3 +55,8 @@ number_of Underscore = underscore
 number_of Hyphen = hyphen
 number_of Dot = dot
 number_of Octet = octet
+
+-- and 0 for none
+abbrev pub number_in : Option Reason → ℕ
+number_in (Some r) = number_of r
+number_in None = 0

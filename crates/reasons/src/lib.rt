@@ -4,7 +4,6 @@
 #![tactic(auto)]
 
 ghost use Rattle.std.specs.Prelude.{◌≡◌, ◌<◌, IfSome};
-ghost use Rattle.numbers.specs.Fault.{number_of};
 ghost use Rattle.reasons.specs.Reason as reason;
 ghost use Rattle.reasons.specs.Names.{name_reason};
 ghost use Rattle.reasons.specs.Params.{param_of, param_for};
@@ -14,7 +13,6 @@ mod labels;
 
 use fields::{unordered, wrong};
 use labels::{text_reason, wire_reason};
-use numbers::Fault;
 
 // Why a name is no host name.
 #[derive(Clone, Copy, PartialEq, Eq)]
@@ -49,6 +47,16 @@ impl Reason {
     }
 }
 
+// The number of a reason, or 0 for none.
+pub fn number_in(known: Option<Reason>) -> usize
+    ensures { result ≡ reason.number_in known }
+{
+    match known {
+        Some(known) => known.number(),
+        None => 0,
+    }
+}
+
 // What stands at a place of a name in wire form.
 #[derive(Clone, Copy)]
 pub enum Mark {
@@ -68,6 +76,11 @@ pub struct Param {
     pub key: Option<usize>,
 }
 
+impl Param {
+    // Above every key of 16 bits: the number of no key.
+    pub const NONE: usize = 65536;
+}
+
 // Why a name that is bad at a place is no host name, as text (RULES N4) or in wire form (RULES N1).
 pub fn name_reason(text: bool, s: &[u8], at: usize) -> Reason
     ensures { reason.number_of result ≡ name_reason text s.now at }
@@ -78,15 +91,15 @@ pub fn name_reason(text: bool, s: &[u8], at: usize) -> Reason
     wire_reason(s, at)
 }
 
-// The parameter that the fault of a field is about: the first that breaks its rule.
-pub fn param_for(fault: Fault, p: &[u8]) -> Param
-    ensures value { param_of result ≡ param_for (number_of fault) p.now }
+// The parameter that the fault of a field is about (RULES R26 to R28): the first that breaks its rule. No other number is about a parameter.
+pub fn param_for(fault: usize, p: &[u8]) -> Param
+    ensures value { param_of result ≡ param_for fault p.now }
     ensures key { IfSome result.key (λ k. k < 65536) }
 {
     match fault {
-        Fault::Parameters => unordered(p),
-        Fault::Hint => wrong(true, p),
-        Fault::Value => wrong(false, p),
+        26 => unordered(p),
+        27 => wrong(true, p),
+        28 => wrong(false, p),
         _ => Param { at: 0, key: None },
     }
 }

@@ -4,11 +4,10 @@
 ghost use Rattle.std.specs.Prelude.{◌≡◌, ◌+◌, ◌≤◌, length, drop};
 ghost use Rattle.chars.specs.Puts.{Puts};
 ghost use Rattle.words.specs.Words.{words_in, words_of, reasons};
-ghost use Rattle.words.specs.Encoded.{number_at, break_at};
-ghost use Rattle.reasons.specs.Reason.{number_of};
+ghost use Rattle.words.specs.Encoded.{words_at, number_at, break_at};
 
 use chars::put_all;
-use reasons::Reason;
+use octets::same;
 
 // With so many octets of room for them and a closing octet 0, the words of every number of RULES R0 to R44 are whole (`words/StringsLaws`:
 // `words-whole`).
@@ -52,24 +51,6 @@ fn words(number: usize) -> &'static [u8]
     }
 }
 
-// The words of a reason for which a name is no host name.
-fn words_for(reason: Reason) -> &'static [u8]
-    ensures { result.now ≡ words_in reasons (number_of reason) }
-{
-    match reason {
-        Reason::Cut => b"it has no end: the name stops before its last octet 0",
-        Reason::Empty => b"it is empty",
-        Reason::Pointer => b"a compression pointer",
-        Reason::Label => b"a label of more than 63 octets",
-        Reason::Long => b"it is longer than a name may be",
-        Reason::After => b"octets follow its end",
-        Reason::Underscore => b"an underscore",
-        Reason::Hyphen => b"a hyphen at the beginning or end of a label",
-        Reason::Dot => b"a dot at the beginning or end, or two side by side",
-        Reason::Octet => b"an octet that is no letter, digit or hyphen",
-    }
-}
-
 // Writes the words of a number.
 pub fn put_words(out: &mut [u8], at: usize, number: usize) -> usize
     ensures { Puts at (words_of number) out.old result out.new }
@@ -77,11 +58,42 @@ pub fn put_words(out: &mut [u8], at: usize, number: usize) -> usize
     put_all(out, at, words(number))
 }
 
-// Writes the words of a reason.
-pub fn put_reason(out: &mut [u8], at: usize, reason: Reason) -> usize
-    ensures { Puts at (words_in reasons (number_of reason)) out.old result out.new }
+// Writes the words of a reason for which a name is no host name, or that it is unknown. The table has an entry to a line: the number as an octet (in
+// hexadecimal; `words/Words` has it by name, and the two tables are proved to be the same), its words and a line break.
+pub fn put_reason(out: &mut [u8], at: usize, reason: usize) -> usize
+    ensures { Puts at (words_in reasons reason) out.old result out.new }
 {
-    put_all(out, at, words_for(reason))
+    put_found(
+        out,
+        at,
+        reason,
+        b"\x01it has no end: the name stops before its last octet 0\n\
+          \x02it is empty\n\
+          \x03a compression pointer\n\
+          \x04a label of more than 63 octets\n\
+          \x05it is longer than a name may be\n\
+          \x06octets follow its end\n\
+          \x07an underscore\n\
+          \x08a hyphen at the beginning or end of a label\n\
+          \x09a dot at the beginning or end, or two side by side\n\
+          \x0aan octet that is no letter, digit or hyphen\n",
+    )
+}
+
+// Writes the words of a number in a table of that form, or that it is unknown.
+pub fn put_found(out: &mut [u8], at: usize, number: usize, table: &[u8]) -> usize
+    ensures { Puts at (words_at number table.now) out.old result out.new }
+{
+    let mut i = 0;
+    while i < table.len() {
+        let from = i + 1;
+        let end = line_end(table, from);
+        if usize::from(table[i]) == number {
+            return put_all(out, at, &table[from..end]);
+        }
+        i = end + 1;
+    }
+    put_all(out, at, b"unknown number")
 }
 
 // The number of the first entry of a table that has these words, or 0. A table has an entry to a line: a number as an octet, the words and a line
@@ -94,7 +106,7 @@ pub fn number_of(table: &[u8], word: &[u8]) -> usize
     while entry < table.len() {
         let from = entry + 1;
         let end = line_end(table, from);
-        if &table[from..end] == word {
+        if same(&table[from..end], word) {
             return usize::from(table[entry]);
         }
         entry = end + 1;

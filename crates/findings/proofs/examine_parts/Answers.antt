@@ -9,11 +9,11 @@ returns-in_default c = fields_fine c.args.c (fields_in c.args.parts) c.in_defaul
 
 pub place-requires : goal.place-requires
 place-requires c =
-    let w = fields_within c.args.c (fields_in c.args.parts) c.in-Err.flaw c.in-Err.ensures c.param_for-param.ensures.value in
+    let w = fields_within c.args.c (fields_in c.args.parts) c.in-Err.flaw c.in-Err.ensures (rw c.number.ensures at c.param_for-param.ensures.value) in
     (omega (arith, c.requires, w.0), omega (arith, c.requires, w.1))
 
 pub returns : goal.returns
 returns c =
     let e = c.of-lengths.ensures in
-    fields_told c.args.c (fields_in c.args.parts) c.in-Err.flaw c.in-Err.ensures c.param_for-param.ensures.value
+    fields_told c.args.c (fields_in c.args.parts) c.in-Err.flaw c.in-Err.ensures (rw c.number.ensures at c.param_for-param.ensures.value)
     (rw (e.0, e.1, e.2) at c.place.ensures) c.reason_of.ensures

@@ -6,6 +6,7 @@ use Rattle.lines.proofs.said.put_refused_at.Goals as goal
 pub returns : goal.returns
 unfolding refused_at_of
 returns c =
-    let back = puts_then c.put_all-from.ensures.puts c.put_cause.ensures.puts in
+    let cause = rw (c.number.ensures, c.number_in.ensures) at c.put_cause.ensures.puts in
+    let back = puts_then c.put_all-from.ensures.puts cause in
     let whole = puts_then c.put_about-next.ensures.puts (puts_then c.put_count-placed.ensures back) in
     record { prefix_len = c.put_cause.ensures.prefix_len; puts = whole }
