@@ -137,14 +137,15 @@ def names_in(text):
 
 
 def used(files, file, declared):
-    """(file, name) of each name that a declaration uses and that this repository declares."""
+    """(file, name) of each name that a declaration uses and that this repository declares; a clause of src/ names no function of the code."""
     own = files[file]
+    code = file.endswith("/src")
     for word in names_in(declared.text):
         head, _, rest = word.partition(".")
         if head in own.whole and rest:
             yield own.whole[head], rest.split(".")[0]
         for name in dict.fromkeys((word, head)):
-            if name in own.declared and own.declared[name] is not declared:
+            if not code and name in own.declared and own.declared[name] is not declared:
                 yield file, name
             elif name in own.imports:
                 yield own.imports[name]
