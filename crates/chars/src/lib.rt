@@ -19,14 +19,14 @@ pub fn put(out: &mut [u8], at: usize, b: u8) -> usize
     out.len()
 }
 
-// Writes the octets of s.
+// Writes the octets of s. (By an index, so that the loop's head has a number that a must-fail edit can change: docs/DESIGN-PASS.md, 3.)
 pub fn put_all(out: &mut [u8], at: usize, s: &[u8]) -> usize
     ensures prefix_len { IsPrefixLen result out.new }
     ensures puts { Puts at s.now out.old result out.new }
 {
     let mut o = at.min(out.len());
-    for &b in s {
-        o = put(out, o, b);
+    for i in 0..s.len() {
+        o = put(out, o, s[i]);
     }
     o
 }

@@ -155,14 +155,18 @@ fn copy_small(out: &mut [u8], at: usize, src: &[u8]) -> usize
     copy_ends::<8>(out, at, src)
 }
 
-// The same for 16 octets or more: blocks of 16, the last of which may reach back into the one before it.
+// The same for 16 octets or more: blocks of 16, the last of which may reach back into the one before it. (By what is left, so that the loop's head
+// has a number that a must-fail edit can change: docs/DESIGN-PASS.md, 3.)
 fn copy_blocks(out: &mut [u8], at: usize, src: &[u8]) -> usize
     requires { (at + length src.now ≤ length out.old) × (16 ≤ length src.now) }
     ensures { Wrote at src.now out.old result out.new }
 {
     let mut o = at;
-    for block in src.chunks_exact(BLOCK) {
+    let mut rest = src;
+    while BLOCK <= rest.len() {
+        let (block, more) = rest.split_at(BLOCK);
         o = copy_held::<BLOCK>(out, o, block);
+        rest = more;
     }
     let last = src.len() - BLOCK;
     copy_held::<BLOCK>(out, at + last, &src[last..])

@@ -40,14 +40,19 @@ fn put_record(out: &mut [u8], at: usize, c: Carrier, p: &Parts) -> usize
 }
 
 // Writes the records of a sheet one after another from `from` on, and returns the index after them. (`&s[..]`: docs/DESIGN.md,
-// Speed.)
+// Speed. Not by `Records::of`, so that the index of the first record is here for a must-fail edit to change: docs/DESIGN-PASS.md, 3.)
 fn put_stream(out: &mut [u8], from: usize, c: Carrier, s: &[u8]) -> usize
     requires ready { Ready c s.now }
     requires s_in_bounds { from + length (stream_of c (records_of s.now)) ≤ length out.old }
     ensures { Wrote from (stream_of c (records_of s.now)) out.old result out.new }
 {
+    let records = Records {
+        carrier: c,
+        sheet: &s[..],
+        at: sheets::FRONT,
+    };
     let mut at = from;
-    for record in Records::of(c, &s[..]) {
+    for record in records {
         at = put_record(out, at, c, &record.parts);
     }
     at

@@ -1,4 +1,5 @@
 -- `writing::put_stream` meets its contract. The invariant: the records passed are laid. Assumes nothing.
+use Rattle.std.proofs.Common.{refl, arith}
 use Rattle.sheets.specs.Sheets.{front_size}
 use Rattle.taking.specs.TurnsLaws.{turn-shown, turn-done, turn-rest}
 use Rattle.writing.specs.LayingLaws.{laying-start, laying-length, laying-end, laying-writable, laying-room, laying-next}
@@ -7,7 +8,7 @@ use Rattle.writing.proofs.put_stream.Goals as goal
 pub loop-record-init : goal.loop-record-init
 loop-record-init c =
     let p = c.requires in
-    (front_size, rw c.into_iter-record-iterator.ensures.into_iter_gives c.of-record-items.ensures, laying-start p.ready p.s_in_bounds)
+    (front_size, rw c.into_iter-record-iterator.ensures.into_iter_gives (record { carrier = refl; sheet = refl; begins = omega arith }), laying-start p.ready p.s_in_bounds)
 
 pub put_record-at-requires : goal.put_record-at-requires
 put_record-at-requires c =
