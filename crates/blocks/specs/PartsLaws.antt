@@ -98,8 +98,8 @@ module _ (c : Carrier) (b : List ℕ) (z : Named c) {w : ℕ} (e : w ≡ length_
         pub named-addresses-cut : Stops (counted short w rest) → short ≡ parse c b
         named-addresses-cut s = sym (named-more ∙ s _)
 
-        pub named-whole : {a q : List ℕ} → Counts w rest a q → fields (whole p 0 name a q) ≡ parse c b
-        named-whole s = sym (named-more ∙ s.1 _)
+        pub named-whole : {a q r : List ℕ} → Counts w rest a q → r ≡ q → fields (whole p 0 name a r) ≡ parse c b
+        named-whole {a} s e = ap (λ (r : List ℕ). fields (whole p 0 name a r)) e ∙ sym (named-more ∙ s.1 _)
 
 -- ---- carrier 3
 

@@ -11,6 +11,7 @@ use Rattle.carriers.specs.declared.Carrier.{Carrier}
 use Rattle.frames.specs.Step.{part}
 use Rattle.frames.proofs.GatherLaws.{part_length}
 use Rattle.judge.specs.declared.Flaw.{Flaw}
+use Rattle.judge.specs.Place.{Judged, judged, place_from, from, flawed}
 use Rattle.order.specs.declared.slots.Slot.{Slot}
 use Rattle.order.specs.declared.slots.Slots.{Slots}
 use Rattle.order.specs.Listed.{listed}
@@ -32,6 +33,14 @@ fault-some Parameters e = absurd (omega arith)
 fault-some Hint e = absurd (omega arith)
 fault-some Value e = absurd (omega arith)
 fault-some Padding e = absurd (omega arith)
+
+-- x is w with its place counted from m octets further back where it has w's fault and b's place, b is w counted from n, and n is m
+pub counted-back : (x b w : Flaw) {n m : ℕ} → flawed b ≡ from n (flawed w) → n ≡ m → fault.number_of x.fault ≡ fault.number_of w.fault → x.place ≡ b.place
+    → flawed x ≡ from m (flawed w)
+counted-back x b w e far same place =
+    ap (λ (k : ℕ). judged k x.place) same
+    ∙ ap (λ (q : ℕ). judged (fault.number_of w.fault) q)
+    (place ∙ ap (λ (j : Judged). j.place) e ∙ ap (λ (i : ℕ). place_from i (fault.number_of w.fault) w.place) far)
 
 module _ (c : Carrier) (source : List ℕ) (start end : ℕ) (low : start ≤ end) (high : end ≤ length source) where
   abbrev body : List ℕ

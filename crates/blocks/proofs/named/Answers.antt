@@ -1,5 +1,6 @@
--- `blocks::named` meets its contract: a law of `PartsLaws` for each way out. Assumes nothing.
-use Rattle.std.proofs.Common.{◌∙◌, ap}
+-- `blocks::named` meets its contract: a law of `PartsLaws` for each way out. That the parameters are all that follows is asked as an equation
+-- (`take_all`), so that a slice which leaves nothing out passes too. Assumes nothing.
+use Rattle.std.proofs.Common.{◌∙◌, ap, arith, take_all}
 use Rattle.blocks.specs.Parse.{fields}
 use Rattle.blocks.specs.PartsLaws.{handed-on, named-cut, named-name-cut, named-alone, named-addresses-cut, named-whole}
 use Rattle.blocks.proofs.named.Goals as goal
@@ -30,4 +31,4 @@ returns-in_err-addresses-clause-result_value c =
 pub returns-clause-result_value : goal.returns-clause-result_value
 returns-clause-result_value c =
     named-whole _ _ c.requires c.length_width-w.ensures c.in_ok-rest.ensures c.get16-priority.ensures.value c.get_number.ensures.value
-    c.in_ok-name.ensures c.if-is_empty.ensures c.in_ok-addresses.ensures
+    c.in_ok-name.ensures c.if-is_empty.ensures c.in_ok-addresses.ensures (search (arith, take_all))
