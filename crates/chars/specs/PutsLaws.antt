@@ -7,6 +7,10 @@ use Rattle.octets.specs.Over.{over}
 use Rattle.octets.specs.OverLaws.{over-nil, over-length, over-over, over-set}
 use Rattle.chars.specs.Puts.{Puts}
 
+-- where i is 0 nothing is taken
+pub take-none : (i : ℕ) (s : List ℕ) → i ≡ 0 → take i s ≡ []
+take-none i s z = ap (λ (n : ℕ). take n s) z
+
 -- what is taken of two lists one after another
 take-both : (n : ℕ) (a b : List ℕ) → take n (a ++ b) ≡ take n a ++ take (n - length a) b
 take-both n a b = go (leb n (length a)) refl
@@ -107,10 +111,6 @@ puts_then {at} {r} {r'} {a} {b} {l} {l'} {l''} p q =
 -- the same octets in another form
 pub puts-as : {at r : ℕ} {a b l l' : List ℕ} → a ≡ b → Puts at a l r l' → Puts at b l r l'
 puts-as {at} {r} {a} {b} {l} {l'} e p = subst (λ (x : List ℕ). Puts at x l r l') e p
-
--- where i is 0 nothing is taken
-pub take-none : (i : ℕ) (s : List ℕ) → i ≡ 0 → take i s ≡ []
-take-none i s z = ap (λ (n : ℕ). take n s) z
 
 -- one octet more of a list that is written from its front on
 pub puts-more : {at r r' : ℕ} (i : ℕ) (s : List ℕ) {l l' l'' : List ℕ} → i < length s → Puts at (take i s) l r l' → Puts r (get_or s i 0 ∷ []) l' r' l''

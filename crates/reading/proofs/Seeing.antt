@@ -34,7 +34,7 @@ fault-some Hint e = absurd (omega arith)
 fault-some Value e = absurd (omega arith)
 fault-some Padding e = absurd (omega arith)
 
--- x is w with its place counted from m octets further back where it has w's fault and b's place, b is w counted from n, and n is m
+-- b is w with its place counted from n octets further back; what has w's fault and b's place is so too, from m octets where n is m
 pub counted-back : (x b w : Flaw) {n m : ℕ} → flawed b ≡ from n (flawed w) → n ≡ m → fault.number_of x.fault ≡ fault.number_of w.fault → x.place ≡ b.place
     → flawed x ≡ from m (flawed w)
 counted-back x b w e far same place =

@@ -1,5 +1,5 @@
--- `reading::read_blocks` meets its contract. The invariant: what is counted tells of the blocks passed, and nothing is written. The measure
--- is what is left of the area. Assumes nothing.
+-- `reading::read_blocks` meets its contract. The invariant: what is counted tells of the blocks passed, no flaw is held while none is discarded,
+-- and nothing is written. The measure is what is left of the area. Assumes nothing.
 use Rattle.std.proofs.Common.{List, ◌≤◌, ◌≡◌, refl, sym, ap, ◌∙◌, arith, ℕ, length, Ok, Err}
 use Rattle.frames.specs.declared.Step.{Step}
 use Rattle.frames.specs.Frame.{frame}
