@@ -224,7 +224,7 @@ impl<R: System> Voice<'_, R> {
     // A block was discarded.
     pub fn discarded(&self, d: Discard) {
         let mut line = [0u8; LINE];
-        let n = listed::put_discarded(&mut line, self.name, d);
+        let n = listed::put_discard(&mut line, self.name, d);
         self.say(&line[..n], remark(d.fault.number(), d.block, d.octet));
     }
 

@@ -1,6 +1,8 @@
 pub mod Messages
 pub mod Said
 pub mod Listed
+pub mod Discards
+pub mod DiscardsLaws
 pub mod Objects
 pub mod ObjectsLaws
 pub mod HexLines

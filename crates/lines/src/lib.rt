@@ -5,6 +5,8 @@
 pub mod listed;
 pub mod objects;
 pub mod said;
+#[cfg(test)]
+mod tests;
 
 ghost use Rattle.std.specs.Prelude.{◌≡◌, ◌<◌};
 ghost use Rattle.io.specs.Counts.{IsPrefixLen};

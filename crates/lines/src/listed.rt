@@ -5,6 +5,7 @@ ghost use Rattle.chars.specs.Puts.{Puts};
 ghost use Rattle.numbers.specs.Fault as faults;
 ghost use Rattle.reasons.specs.Params.{none};
 ghost use Rattle.reasons.specs.Reason as reasons;
+ghost use Rattle.lines.specs.Discards as discards;
 ghost use Rattle.lines.specs.Listed.{reason_part, key_part, cause_of, discarded_of, dropped_of};
 
 use crate::{put_about, put_count, put_worded};
@@ -60,8 +61,8 @@ pub fn put_cause(out: &mut [u8], at: usize, fault: usize, reason: usize, key: us
     put_all(out, end, b"\n")
 }
 
-// Writes that a block is discarded: where, and why.
-pub fn put_discarded(out: &mut [u8], name: &[u8], d: Discard) -> usize
+// Writes that a block is discarded: where, and why. A key that is no key of 16 bits is as none (`Param::NONE`).
+pub fn put_discard(out: &mut [u8], name: &[u8], d: Discard) -> usize
     ensures prefix_len { IsPrefixLen result out.new }
     ensures puts { Puts 0 (discarded_of name.now d.block d.octet (faults.number_of d.fault) (reasons.number_in d.reason) (unwrap_or d.key none)) out.old result out.new }
 {
@@ -72,6 +73,27 @@ pub fn put_discarded(out: &mut [u8], name: &[u8], d: Discard) -> usize
     let reason = number_in(d.reason);
     let key = d.key.unwrap_or(Param::NONE);
     put_cause(out, from, d.fault.number(), reason, key)
+}
+
+// Writes that a block is discarded, and its key whatever the number; the same line as `put_discard` where that is a key of 16 bits.
+pub fn put_discarded(out: &mut [u8], name: &[u8], d: Discard) -> usize
+    ensures prefix_len { IsPrefixLen result out.new }
+    ensures puts { Puts 0 (discards.discarded_of name.now d.block d.octet (faults.number_of d.fault) d.reason d.key) out.old result out.new }
+{
+    let next = put_about(out, name);
+    let counted = put_count(out, next, b": block ", d.block);
+    let placed = put_count(out, counted, b", octet ", d.octet);
+    let from = put_all(out, placed, b": discarded, ");
+    let worded = put_worded(out, from, d.fault.number());
+    let reasoned = put_reason_part(out, worded, number_in(d.reason));
+    let end = match d.key {
+        None => reasoned,
+        Some(key) => {
+            let next = put_all(out, reasoned, b"; parameter ");
+            values::put_key(out, next, key)
+        }
+    };
+    put_all(out, end, b"\n")
 }
 
 // ---- an address
