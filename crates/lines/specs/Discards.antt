@@ -1,6 +1,6 @@
--- The line of a discarded block as src/ holds it (`listed::Discard`): its reason and its key are options, and a key is told whatever its number. In
--- `Listed` they are numbers, of which 0 is no reason, and one above every key of 16 bits no key (`DiscardsLaws`: the same line but for such keys).
--- Assumes nothing: these are definitions.
+-- The line of a discarded block (docs/COMMAND.md, "Less than all") as src/ holds it (`listed::Discard`): its reason and its key are options, and a key is
+-- told whatever its number. In `Listed` they are numbers, of which 0 is no reason, and one above every key of 16 bits no key (`DiscardsLaws`: the same
+-- line but for such keys). Assumes nothing: these are definitions.
 use Rattle.std.specs.Prelude.{List, [], ◌++◌, ℕ, Option, Some, None}
 use Rattle.chars.specs.Ascii.{ascii}
 use Rattle.reasons.specs.declared.Reason.{Reason}

@@ -61,7 +61,7 @@ pub fn put_cause(out: &mut [u8], at: usize, fault: usize, reason: usize, key: us
     put_all(out, end, b"\n")
 }
 
-// Writes that a block is discarded: where, and why. A key that is no key of 16 bits is as none (`Param::NONE`).
+// Writes that a block is discarded: where, and why. A number that is no key of 16 bits, `Param::NONE` or above, is left out.
 pub fn put_discard(out: &mut [u8], name: &[u8], d: Discard) -> usize
     ensures prefix_len { IsPrefixLen result out.new }
     ensures puts { Puts 0 (discarded_of name.now d.block d.octet (faults.number_of d.fault) (reasons.number_in d.reason) (unwrap_or d.key none)) out.old result out.new }
@@ -75,7 +75,7 @@ pub fn put_discard(out: &mut [u8], name: &[u8], d: Discard) -> usize
     put_cause(out, from, d.fault.number(), reason, key)
 }
 
-// Writes that a block is discarded, and its key whatever the number; the same line as `put_discard` where that is a key of 16 bits.
+// The same, but that the key's number is written whatever it is: the lines differ for such a number alone (`lines/DiscardsLaws`).
 pub fn put_discarded(out: &mut [u8], name: &[u8], d: Discard) -> usize
     ensures prefix_len { IsPrefixLen result out.new }
     ensures puts { Puts 0 (discards.discarded_of name.now d.block d.octet (faults.number_of d.fault) d.reason d.key) out.old result out.new }
@@ -89,8 +89,8 @@ pub fn put_discarded(out: &mut [u8], name: &[u8], d: Discard) -> usize
     let end = match d.key {
         None => reasoned,
         Some(key) => {
-            let next = put_all(out, reasoned, b"; parameter ");
-            values::put_key(out, next, key)
+            let label = put_all(out, reasoned, b"; parameter ");
+            values::put_key(out, label, key)
         }
     };
     put_all(out, end, b"\n")

@@ -18,7 +18,7 @@ returns-clause-puts c =
     elim c.match-d.branch [
       | in-None w ↦ rw (w.in-None.is, w.out-is, w.end-is) (puts_none _ _ (omega (arith, puts-within c.put_reason_part-reasoned.ensures)))
       | in-Some w ↦
-          let written = puts_then w.put_all-next.ensures.puts w.put_key-end.ensures in
+          let written = puts_then w.put_all-label.ensures.puts w.put_key-end.ensures in
           rw (w.in-Some.is, w.out-is, w.end-is) (puts-as (ap (λ (n : ℕ). ascii "; parameter " ++ key_of n) (omega arith)) written)
     ] in
     let cause = puts_then worded (puts_then reasoned (puts_then key c.put_all.ensures.puts)) in
